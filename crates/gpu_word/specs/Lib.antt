@@ -1,0 +1,3 @@
+pub mod Header
+pub mod Formats
+pub mod Bytes

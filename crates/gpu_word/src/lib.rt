@@ -1,0 +1,17 @@
+//! The words that a client and the service share: headers, texel formats and bytes of words.
+#![tactic(auto)]
+
+mod bytes;
+mod format;
+mod header;
+mod laws;
+mod memory;
+
+pub use bytes::bytes_of;
+pub use format::Format;
+pub use header::{Header, join, split};
+pub use laws::header_round_trip;
+pub use memory::Memory;
+
+#[cfg(test)]
+mod tests;

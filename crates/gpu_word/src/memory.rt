@@ -1,0 +1,19 @@
+use std::alloc::{AllocError, AllocFailed};
+
+/// Want of memory: an allocation was refused.
+///
+/// It is the one answer that no contract ties to a cause.
+#[derive(Clone, Copy, Debug, PartialEq, Eq)]
+pub struct Memory;
+
+impl From<AllocError> for Memory {
+    fn from(_error: AllocError) -> Memory {
+        Memory
+    }
+}
+
+impl<T: Drop> From<AllocFailed<T>> for Memory {
+    fn from(_error: AllocFailed<T>) -> Memory {
+        Memory
+    }
+}
