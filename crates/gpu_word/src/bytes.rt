@@ -22,12 +22,7 @@ fn all_bytes(alloc: Global, words: &[u32]) -> Result<Vec<u8>, Memory>
 }
 
 /// `count` bytes from byte `from` on of the little-endian bytes of some words.
-pub fn bytes_of(
-    alloc: Global,
-    words: &[u32],
-    from: usize,
-    count: usize,
-) -> Result<Vec<u8>, Memory>
+pub fn bytes_of(alloc: Global, words: &[u32], from: usize, count: usize) -> Result<Vec<u8>, Memory>
     requires { from + count ≤ 4 * length words.now }
     ensures { IfOk result (λ bytes. bytes.items ≡ take count (drop from (bytes_of words.now))) }
 {

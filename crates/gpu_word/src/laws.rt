@@ -4,5 +4,4 @@ ghost use Rattle.gpu_word.specs.Header.{SplitsJoined, JoinsSplit};
 pub fn header_round_trip()
     ensures splits { SplitsJoined }
     ensures joins { JoinsSplit }
-{
-}
+{}

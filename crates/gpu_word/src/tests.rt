@@ -6,8 +6,20 @@ fn headers_split_and_join(rt: HostRuntime) -> Result<(), Fail> {
     let header = split(0x2080_0007);
     assert_eq!(rt; header, Header { size: 7, id: 260 });
     assert_eq!(rt; join(header), Some(0x2080_0007));
-    assert_eq!(rt; join(Header { size: 1 << 21, id: 0 }), None);
-    assert_eq!(rt; join(Header { size: 0, id: 1 << 11 }), None);
+    assert_eq!(rt;
+        join(Header {
+            size: 1 << 21,
+            id: 0
+        }),
+        None
+    );
+    assert_eq!(rt;
+        join(Header {
+            size: 0,
+            id: 1 << 11
+        }),
+        None
+    );
     assert_eq!(rt; Format::of(3), Some(Format::Rgba4444));
     assert_eq!(rt; Format::of(5), None);
     Ok(())
