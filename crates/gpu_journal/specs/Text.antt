@@ -1,0 +1,52 @@
+-- The texts of events and of streams.
+use Rattle.std.specs.Prelude.{ℕ, List, ◌++◌, codes}
+use Rattle.std.specs.List.{flat_map}
+use Rattle.gpu_cmd.specs.Errors.{code_of}
+use Rattle.gpu_journal.specs.Digits.{hex8, number_text}
+use Rattle.gpu_journal.specs.declared.event.Event.{Event}
+use Rattle.gpu_journal.specs.declared.event.Event.TheVariants.{Order, Step, Finish, Lost, Close}
+use Rattle.gpu_journal.specs.declared.event.Why.{Why}
+use Rattle.gpu_journal.specs.declared.event.Why.TheVariants.{Error, Memory}
+use Rattle.gpu_journal.specs.declared.end.End as ends
+use Rattle.gpu_journal.specs.declared.end.End.TheVariants as end
+use Rattle.gpu_journal.specs.declared.tally.Tally.{Tally}
+
+-- a word that was fetched: its place and its value
+abbrev pub word_text : ℕ × ℕ → List ℕ
+word_text word = number_text word.0 ++ codes ":" ++ hex8 word.1
+
+-- the number of an error, or `memory`
+abbrev pub why_text : Why → List ℕ
+why_text (Error error) = number_text (code_of error)
+why_text Memory = codes " memory"
+
+-- the line of an event
+unfoldable pub event_text : Event → List ℕ
+event_text (Order stream order place) = codes "order" ++ number_text stream ++ number_text order ++ number_text place ++ codes "\n"
+event_text (Step stream words) = codes "step" ++ number_text stream ++ flat_map word_text words ++ codes "\n"
+event_text (Finish stream order) = codes "finish" ++ number_text stream ++ number_text order ++ codes "\n"
+event_text (Lost stream why words) = codes "lost" ++ number_text stream ++ why_text why ++ flat_map word_text words ++ codes "\n"
+event_text (Close stream) = codes "close" ++ number_text stream ++ codes "\n"
+
+-- the lines of some events, in their order
+unfoldable pub journal_text : List Event → List ℕ
+journal_text events = flat_map event_text events
+
+-- how a stream ended
+abbrev pub end_text : ends.End → List ℕ
+end_text end.Done = codes " done"
+end_text (end.Lost why) = codes " lost" ++ why_text why
+end_text end.Closed = codes " closed"
+
+-- what a stream counted
+abbrev pub tally_text : Tally → List ℕ
+tally_text tally =
+    codes " entries" ++ number_text tally.entries
+    ++ codes " release" ++ number_text tally.release
+    ++ codes " token" ++ number_text tally.token
+    ++ codes " words" ++ number_text tally.words
+    ++ codes " errors" ++ number_text tally.errors.0 ++ number_text tally.errors.1 ++ number_text tally.errors.2
+
+-- the line of a stream: how it ended, and what it counted
+unfoldable pub stream_text : ℕ → Tally → ends.End → List ℕ
+stream_text stream tally ended = codes "stream" ++ number_text stream ++ end_text ended ++ tally_text tally ++ codes "\n"

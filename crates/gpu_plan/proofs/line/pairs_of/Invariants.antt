@@ -1,0 +1,11 @@
+use Rattle.std.proofs.Common.{◌≡◌, length}
+use Rattle.gpu_plan.specs.Text.{words_of}
+use Rattle.gpu_plan.specs.Script.{pairs_of}
+use Rattle.gpu_plan.proofs.Pairs.{with_front}
+use Rattle.gpu_plan.proofs.line.pairs_of.Given as goal
+
+abbrev pub invariant-loop-pairs : goal.invariant-loop-pairs
+invariant-loop-pairs l = with_front l.pairs.items (pairs_of (words_of l.words.rest.now)) ≡ pairs_of (words_of l.fn.words.rest.now)
+
+abbrev pub decreases-loop-pairs : goal.decreases-loop-pairs
+decreases-loop-pairs l = length (words_of l.words.rest.now)

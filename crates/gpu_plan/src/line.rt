@@ -1,0 +1,193 @@
+ghost use Rattle.std.specs.Prelude.{◌≡◌, ◌+◌, ◌≤◌, ◌<◌, ◌^◌, length, map, Some, None, if◌then◌else◌, IfOk, IfSome};
+ghost use Rattle.std.specs.List.{list_all};
+ghost use Rattle.gpu_plan.specs.Text.{words_of};
+ghost use Rattle.gpu_plan.specs.Numbers.{decimal_of, long_decimal_of, is_value, value_of};
+ghost use Rattle.gpu_plan.specs.Outcome.{Gives, or_kind};
+ghost use Rattle.gpu_plan.specs.Script.{keyword_of, priority_of, are_pairs, pairs_of, stream_said, put_said, flush_said};
+ghost use Rattle.gpu_plan.specs.declared.fault.Kind.TheVariants.{Number};
+
+use crate::fault::{Kind, LineError};
+use crate::number::{decimal_u32, decimal_u64, hex_u32};
+use crate::plan::Priority;
+use crate::text::Words;
+use std::alloc::Global;
+
+/// What a line's first word names.
+#[derive(Clone, Copy, Debug, PartialEq, Eq)]
+pub(crate) enum Keyword {
+    StreamLine,
+    PutLine,
+    FlushLine,
+    Unknown,
+}
+
+pub(crate) fn keyword_of(word: &[u8]) -> Keyword
+    ensures { result ≡ keyword_of word.now }
+{
+    if word == b"stream".as_slice() {
+        Keyword::StreamLine
+    } else if word == b"put".as_slice() {
+        Keyword::PutLine
+    } else if word == b"flush".as_slice() {
+        Keyword::FlushLine
+    } else {
+        Keyword::Unknown
+    }
+}
+
+fn priority_of(word: &[u8]) -> Option<Priority>
+    ensures { result ≡ priority_of word.now }
+{
+    if word == b"high".as_slice() {
+        Some(Priority::High)
+    } else if word == b"normal".as_slice() {
+        Some(Priority::Normal)
+    } else if word == b"low".as_slice() {
+        Some(Priority::Low)
+    } else {
+        None
+    }
+}
+
+fn decimal_at(word: &[u8]) -> Result<u32, LineError>
+    ensures { Gives (λ n. n) result (or_kind Number (decimal_of word.now)) }
+{
+    match decimal_u32(word) {
+        Some(number) => Ok(number),
+        None => Err(LineError::Refused(Kind::Number)),
+    }
+}
+
+fn long_decimal_at(word: &[u8]) -> Result<u64, LineError>
+    ensures { Gives (λ n. n) result (or_kind Number (long_decimal_of word.now)) }
+{
+    match decimal_u64(word) {
+        Some(number) => Ok(number),
+        None => Err(LineError::Refused(Kind::Number)),
+    }
+}
+
+/// The words behind `stream`.
+#[tactic(auto, unfolding(crate::specs::Script::stream_said))]
+pub(crate) fn stream_said(mut words: Words<'_>) -> Result<(u32, Priority, u32), LineError>
+    ensures { Gives (λ said. said) result (stream_said (words_of words.entry.rest.now)) }
+{
+    let (Some(s), Some(p), Some(r), None) = (words.next(), words.next(), words.next(), words.next())
+    else {
+        return Err(LineError::Refused(Kind::Word));
+    };
+    let Some(priority) = priority_of(p) else {
+        return Err(LineError::Refused(Kind::Word));
+    };
+    let stream = decimal_at(s)?;
+    let ring = decimal_at(r)?;
+    Ok((stream, priority, ring))
+}
+
+// How many words there are, where each of them is a value.
+#[tactic(auto, using(crate::proofs::Few::few_words))]
+fn count_values(words: Words<'_>) -> Option<usize>
+    ensures counted { result ≡ (if list_all is_value (words_of words.entry.rest.now) then Some (length (words_of words.entry.rest.now)) else None) }
+    ensures few { IfSome result (λ count. count ≤ 2 ^ 63) }
+{
+    let mut count = 0;
+    for word in words {
+        hex_u32(word)?;
+        count += 1;
+    }
+    Some(count)
+}
+
+/// The value that a word says.
+pub(crate) fn value_of(word: &[u8]) -> u32
+    ensures { result ≡ value_of word.now }
+{
+    hex_u32(word).unwrap_or(0)
+}
+
+/// What a put line says: a place, and words that are values, so many.
+#[derive(Clone, Copy, Debug)]
+pub(crate) struct Putting<'a> {
+    pub place: u32,
+    pub values: Words<'a>,
+    pub count: usize,
+}
+
+/// The words behind `put`.
+#[tactic(auto, unfolding(crate::specs::Script::put_said))]
+pub(crate) fn put_said<'a>(mut words: Words<'a>) -> Result<Putting<'a>, LineError>
+    ensures said { Gives (λ said. (said.place, map value_of (words_of said.values.rest.now))) result (put_said (words_of words.entry.rest.now)) }
+    ensures counted { IfOk result (λ said. said.count ≡ length (words_of said.values.rest.now)) }
+    ensures few { IfOk result (λ said. said.count ≤ 2 ^ 63) }
+{
+    let Some(first) = words.next() else {
+        return Err(LineError::Refused(Kind::Word));
+    };
+    let values = words;
+    if words.next().is_none() {
+        return Err(LineError::Refused(Kind::Word));
+    }
+    let place = decimal_at(first)?;
+    match count_values(values) {
+        Some(count) => Ok(Putting {
+            place,
+            values,
+            count,
+        }),
+        None => Err(LineError::Refused(Kind::Number)),
+    }
+}
+
+fn are_pairs(words: Words<'_>) -> bool
+    ensures { result ≡ are_pairs (words_of words.entry.rest.now) }
+{
+    let mut words = words;
+    loop {
+        match words.next() {
+            None => return true,
+            Some(_) => match words.next() {
+                None => return false,
+                Some(_) => {}
+            },
+        }
+    }
+}
+
+fn pairs_of(alloc: Global, words: Words<'_>) -> Result<Vec<(u32, u64)>, LineError>
+    ensures { Gives (λ pairs. pairs.items) result (pairs_of (words_of words.entry.rest.now)) }
+{
+    let mut words = words;
+    let mut pairs = Vec::new(alloc);
+    loop {
+        match words.next() {
+            None => return Ok(pairs),
+            Some(t) => match words.next() {
+                None => return Err(LineError::Refused(Kind::Word)),
+                Some(r) => {
+                    let target = decimal_at(t)?;
+                    let release = long_decimal_at(r)?;
+                    pairs.push((target, release))?;
+                }
+            },
+        }
+    }
+}
+
+/// The words behind `flush`.
+#[tactic(auto, unfolding(crate::specs::Script::flush_said))]
+pub(crate) fn flush_said(
+    alloc: Global,
+    mut words: Words<'_>,
+) -> Result<(u32, Vec<(u32, u64)>), LineError>
+    ensures { Gives (λ said. (said.0, said.1.items)) result (flush_said (words_of words.entry.rest.now)) }
+{
+    let Some(first) = words.next() else {
+        return Err(LineError::Refused(Kind::Word));
+    };
+    if !are_pairs(words) {
+        return Err(LineError::Refused(Kind::Word));
+    }
+    let put = decimal_at(first)?;
+    let fences = pairs_of(alloc, words)?;
+    Ok((put, fences))
+}

@@ -1,0 +1,3 @@
+pub mod LastPut
+pub mod Reading
+pub mod Playing
