@@ -27,3 +27,6 @@ pub use sink::Sink;
 pub use source::Source;
 pub use steady_sink::SteadySink;
 pub use steady_source::SteadySource;
+
+#[cfg(test)]
+mod tests;
