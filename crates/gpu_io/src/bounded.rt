@@ -1,4 +1,5 @@
-ghost use Rattle.std.specs.Prelude.{◌≡◌, ◌-◌, ◌≤◌, ◌↔◌, ◌++◌, [], IsTrue, length, take, min, IfOk};
+ghost use Rattle.std.specs.Prelude.{◌≡◌, ◌≤◌, ◌↔◌, ◌++◌, [], IsTrue, length, take, min, IfOk};
+ghost use Rattle.gpu_io.specs.InMemory.{IsFull, free_room};
 
 use gpu_word::Memory;
 use std::alloc::Global;
@@ -40,7 +41,7 @@ impl Bounded {
 
     /// Whether no byte more fits.
     pub(crate) fn is_full(&self) -> bool
-        ensures full { IsTrue result ↔ (length self.now.bytes ≡ self.now.room) }
+        ensures full { IsTrue result ↔ IsFull self.now }
         ensures within { length self.now.bytes ≤ self.now.room }
     {
         self.bytes.len() == self.room
@@ -48,7 +49,7 @@ impl Bounded {
 
     /// Puts bytes from the front of these behind what lies there, as many as fit, and at most `most`.
     pub(crate) fn put(&mut self, bytes: &[u8], most: usize) -> usize
-        ensures count { result ≡ min (min (length bytes.now) (self.old.room - length self.old.bytes)) most }
+        ensures count { result ≡ min (min (length bytes.now) (free_room self.old)) most }
         ensures appended { self.new.bytes ≡ self.old.bytes ++ take result bytes.now }
         ensures room { self.new.room ≡ self.old.room }
     {

@@ -1,5 +1,5 @@
-ghost use Rattle.std.specs.Prelude.{◌≡◌, ◌↔◌, IsTrue, Contains};
-ghost use Rattle.gpu_io.specs.Faults.{one_more};
+ghost use Rattle.std.specs.Prelude.{◌≡◌, ◌↔◌, IsTrue};
+ghost use Rattle.gpu_io.specs.InMemory.{IsFailing, with_call};
 
 use std::marker::Model;
 
@@ -28,9 +28,8 @@ impl Calls {
 
     /// Counts the call that is being made, and says whether it is one of those that fail.
     pub(crate) fn is_next_failing(&mut self) -> bool
-        ensures made { self.new.made ≡ one_more self.old.made }
-        ensures fails { self.new.fails ≡ self.old.fails }
-        ensures answer { IsTrue result ↔ Contains self.old.fails self.new.made }
+        ensures counted { self.new ≡ with_call self.old }
+        ensures answer { IsTrue result ↔ IsFailing self.new }
     {
         self.made = self.made.saturating_add(1);
         let call = self.made;

@@ -26,8 +26,8 @@ impl Faults {
         Faults { count: 0 }
     }
 
-    /// Counts a fault, for the caller to answer.
-    pub(crate) fn count(&mut self) -> Failed
+    /// Counts a fault, and gives what to answer.
+    pub(crate) fn fail(&mut self) -> Failed
         ensures counted { self.new ≡ one_more self.old }
         ensures risen { HasRisen self.old self.new }
         ensures later { self.old ≤ self.new }

@@ -1,5 +1,6 @@
-ghost use Rattle.std.specs.Prelude.{◌≡◌, ◌≤◌, ◌<◌, ◌-◌, ◌↔◌, ◌⊎◌, ◌++◌, [], length, take, min, Contains, IsErr, IfOk, OnOk, OnErr};
+ghost use Rattle.std.specs.Prelude.{◌≡◌, ◌≤◌, ◌<◌, ◌↔◌, ◌⊎◌, ◌++◌, [], length, take, min, IsErr, IfOk, OnOk, OnErr};
 ghost use Rattle.gpu_io.specs.Faults.{one_more, HasRisen};
+ghost use Rattle.gpu_io.specs.InMemory.{IsFailing, with_call, IsFull, free_room};
 
 use crate::bounded::Bounded;
 use crate::calls::Calls;
@@ -33,7 +34,8 @@ impl Model for MemorySink {
 impl MemorySink {
     /// An empty sink with room for so many bytes, all of it taken at once.
     ///
-    /// A write moves at most `piece` bytes, and the writes whose numbers, from 1, stand in `fails` fail.
+    /// A write moves at most `piece` bytes. The writes whose numbers, from 1, stand in `fails` fail, and those that find
+    /// the room full, and no others.
     pub fn make(
         alloc: Global,
         room: usize,
@@ -41,7 +43,10 @@ impl MemorySink {
         fails: Vec<u32>,
     ) -> Result<MemorySink, Memory>
         requires { 0 < piece }
-        ensures { IfOk result (λ s. s ≡ record { written = record { bytes = []; room = room }; piece = piece; calls = record { made = 0; fails = fails.items }; faults = 0 }) }
+        ensures written { IfOk result (λ s. s.written ≡ record { bytes = []; room = room }) }
+        ensures piece { IfOk result (λ s. s.piece ≡ piece) }
+        ensures calls { IfOk result (λ s. s.calls ≡ record { made = 0; fails = fails.items }) }
+        ensures faults { IfOk result (λ s. s.faults ≡ 0) }
     {
         let bytes = Bounded::new(alloc, room)?;
         Ok(MemorySink {
@@ -71,14 +76,16 @@ impl Sink for MemorySink {
     fn write(&mut self, bytes: &[u8]) -> Result<usize, Failed>
         requires { 0 < length bytes.now }
         // A write fails exactly where its number is one of those that fail, or the room is full.
-        ensures fails { IsErr result ↔ (Contains self.old.calls.fails self.new.calls.made ⊎ (length self.old.written.bytes ≡ self.old.written.room)) }
-        ensures count { IfOk result (λ n. n ≡ min (min (length bytes.now) (self.old.written.room - length self.old.written.bytes)) self.old.piece) }
+        ensures fails { IsErr result ↔ (IsFailing self.new.calls ⊎ IsFull self.old.written) }
+        ensures count { IfOk result (λ n.
+            n ≡ min (min (length bytes.now) (free_room self.old.written)) self.old.piece) }
         ensures some { IfOk result (λ n. 0 < n) }
         ensures bound { IfOk result (λ n. n ≤ length bytes.now) }
-        ensures appended { IfOk result (λ n. self.new.written.bytes ≡ self.old.written.bytes ++ take n bytes.now) }
+        ensures appended { IfOk result (λ n.
+            self.new.written.bytes ≡ self.old.written.bytes ++ take n bytes.now) }
         ensures kept { OnErr result (self.new.written ≡ self.old.written) }
 
-        ensures made { self.new.calls ≡ record self.old.calls { made = one_more self.old.calls.made } }
+        ensures calls { self.new.calls ≡ with_call self.old.calls }
         ensures piece { self.new.piece ≡ self.old.piece }
         ensures room { self.new.written.room ≡ self.old.written.room }
         ensures faultless { OnOk result (self.new.faults ≡ self.old.faults) }
@@ -87,7 +94,7 @@ impl Sink for MemorySink {
         ensures later { self.old.faults ≤ self.new.faults }
     {
         if self.calls.is_next_failing() || self.bytes.is_full() {
-            return Err(self.faults.count());
+            return Err(self.faults.fail());
         }
         Ok(self.bytes.put(bytes, self.piece))
     }

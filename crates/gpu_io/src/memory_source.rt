@@ -1,5 +1,6 @@
-ghost use Rattle.std.specs.Prelude.{◌≡◌, ◌≤◌, ◌<◌, ◌↔◌, ◌++◌, [], length, take, min, Contains, IsErr, IfOk, OnOk, OnErr};
+ghost use Rattle.std.specs.Prelude.{◌≡◌, ◌≤◌, ◌<◌, ◌↔◌, ◌++◌, [], length, take, min, IsErr, IfOk, OnOk, OnErr};
 ghost use Rattle.gpu_io.specs.Faults.{one_more, HasRisen};
+ghost use Rattle.gpu_io.specs.InMemory.{IsFailing, with_call};
 
 use crate::calls::Calls;
 use crate::failed::Failed;
@@ -29,10 +30,15 @@ impl Model for MemorySource {
 }
 
 impl MemorySource {
-    /// A source of these bytes. A read moves at most `piece` of them, and the reads whose numbers, from 1, stand in `fails` fail.
+    /// A source of these bytes. A read moves at most `piece` of them.
+    ///
+    /// The reads whose numbers, from 1, stand in `fails` fail, and no others.
     pub fn make(bytes: Vec<u8>, piece: usize, fails: Vec<u32>) -> MemorySource
         requires { 0 < piece }
-        ensures { result ≡ record { left = bytes.items; piece = piece; calls = record { made = 0; fails = fails.items }; faults = 0 } }
+        ensures left { result.left ≡ bytes.items }
+        ensures piece { result.piece ≡ piece }
+        ensures calls { result.calls ≡ record { made = 0; fails = fails.items } }
+        ensures faults { result.faults ≡ 0 }
     {
         MemorySource {
             bytes: Unread::new(bytes),
@@ -54,14 +60,15 @@ impl Source for MemorySource {
     fn read(&mut self, buffer: &mut [u8]) -> Result<usize, Failed>
         requires { 0 < length buffer.old }
         // A read fails exactly where its number is one of those that fail.
-        ensures fails { IsErr result ↔ Contains self.old.calls.fails self.new.calls.made }
-        ensures count { IfOk result (λ n. n ≡ min (min (length self.old.left) (length buffer.old)) self.old.piece) }
+        ensures fails { IsErr result ↔ IsFailing self.new.calls }
+        ensures count { IfOk result (λ n.
+            n ≡ min (min (length self.old.left) (length buffer.old)) self.old.piece) }
         ensures bound { IfOk result (λ n. n ≤ length buffer.new) }
         ensures taken { IfOk result (λ n. self.old.left ≡ take n buffer.new ++ self.new.left) }
         ensures end { IfOk result (λ n. n ≡ 0 → self.new.left ≡ []) }
         ensures kept { OnErr result (self.new.left ≡ self.old.left) }
 
-        ensures made { self.new.calls ≡ record self.old.calls { made = one_more self.old.calls.made } }
+        ensures calls { self.new.calls ≡ with_call self.old.calls }
         ensures piece { self.new.piece ≡ self.old.piece }
         ensures faultless { OnOk result (self.new.faults ≡ self.old.faults) }
         ensures fault { OnErr result (self.new.faults ≡ one_more self.old.faults) }
@@ -69,7 +76,7 @@ impl Source for MemorySource {
         ensures later { self.old.faults ≤ self.new.faults }
     {
         if self.calls.is_next_failing() {
-            return Err(self.faults.count());
+            return Err(self.faults.fail());
         }
         Ok(self.bytes.take(buffer, self.piece))
     }

@@ -56,7 +56,7 @@ impl<W: Write> Sink for RealSink<W> {
     {
         match self.writer.write(bytes) {
             Ok(count) if count > 0 => Ok(count),
-            _ => Err(self.faults.count()),
+            _ => Err(self.faults.fail()),
         }
     }
 }

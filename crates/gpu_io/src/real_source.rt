@@ -52,7 +52,7 @@ impl<R: Read> Source for RealSource<R> {
     {
         match self.reader.read(buffer) {
             Ok(count) => Ok(count),
-            Err(_) => Err(self.faults.count()),
+            Err(_) => Err(self.faults.fail()),
         }
     }
 }

@@ -1,5 +1,6 @@
-ghost use Rattle.std.specs.Prelude.{◌≡◌, ◌≤◌, ◌<◌, ◌-◌, ◌↔◌, ◌++◌, [], length, take, min, IsErr, IfOk, OnOk, OnErr};
+ghost use Rattle.std.specs.Prelude.{◌≡◌, ◌≤◌, ◌<◌, ◌↔◌, ◌++◌, [], length, take, min, IsErr, IfOk, OnOk, OnErr};
 ghost use Rattle.gpu_io.specs.Faults.{one_more, HasRisen};
+ghost use Rattle.gpu_io.specs.InMemory.{IsFull, free_room};
 
 use crate::bounded::Bounded;
 use crate::failed::Failed;
@@ -27,7 +28,8 @@ impl Model for SteadySink {
 impl SteadySink {
     /// An empty sink with room for so many bytes, all of it taken at once.
     pub fn make(alloc: Global, room: usize) -> Result<SteadySink, Memory>
-        ensures { IfOk result (λ s. s ≡ record { written = record { bytes = []; room = room }; faults = 0 }) }
+        ensures written { IfOk result (λ s. s.written ≡ record { bytes = []; room = room }) }
+        ensures faults { IfOk result (λ s. s.faults ≡ 0) }
     {
         let bytes = Bounded::new(alloc, room)?;
         Ok(SteadySink {
@@ -55,11 +57,12 @@ impl Sink for SteadySink {
     fn write(&mut self, bytes: &[u8]) -> Result<usize, Failed>
         requires { 0 < length bytes.now }
         // A write fails exactly where the room is full.
-        ensures fails { IsErr result ↔ (length self.old.written.bytes ≡ self.old.written.room) }
-        ensures count { IfOk result (λ n. n ≡ min (length bytes.now) (self.old.written.room - length self.old.written.bytes)) }
+        ensures fails { IsErr result ↔ IsFull self.old.written }
+        ensures count { IfOk result (λ n. n ≡ min (length bytes.now) (free_room self.old.written)) }
         ensures some { IfOk result (λ n. 0 < n) }
         ensures bound { IfOk result (λ n. n ≤ length bytes.now) }
-        ensures appended { IfOk result (λ n. self.new.written.bytes ≡ self.old.written.bytes ++ take n bytes.now) }
+        ensures appended { IfOk result (λ n.
+            self.new.written.bytes ≡ self.old.written.bytes ++ take n bytes.now) }
         ensures kept { OnErr result (self.new.written ≡ self.old.written) }
 
         ensures room { self.new.written.room ≡ self.old.written.room }
@@ -69,7 +72,7 @@ impl Sink for SteadySink {
         ensures later { self.old.faults ≤ self.new.faults }
     {
         if self.bytes.is_full() {
-            return Err(self.faults.count());
+            return Err(self.faults.fail());
         }
         Ok(self.bytes.put(bytes, bytes.len()))
     }

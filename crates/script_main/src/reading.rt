@@ -59,19 +59,26 @@ pub fn read_within<S: Source>(
     requires some { 0 < length piece.old }
     requires limit { most < 2 ^ 63 }
 
-    ensures all { IfOk result (λ bytes. ReadsAll (S.left source.old) (S.left source.new) bytes.items) }
+    ensures all { IfOk result (λ bytes.
+        ReadsAll (S.left source.old) (S.left source.new) bytes.items) }
     ensures short { IfOk result (λ bytes. length bytes.items ≤ most) }
-    ensures told { IfOk result (λ bytes. IfSome (S.left source.old) (λ text. bytes.items ≡ text)) }
+    ensures told { IfOk result (λ bytes.
+        IfSome (S.left source.old) (λ text. bytes.items ≡ text)) }
 
-    ensures too_long { IsErrOf result ReadError.TooLong → ReadsMoreThan most (S.left source.old) (S.left source.new) }
-    ensures told_long { IsErrOf result ReadError.TooLong → IfSome (S.left source.old) (λ text. most < length text) }
+    ensures too_long { IsErrOf result ReadError.TooLong
+        → ReadsMoreThan most (S.left source.old) (S.left source.new) }
+    ensures told_long { IsErrOf result ReadError.TooLong
+        → IfSome (S.left source.old) (λ text. most < length text) }
 
-    ensures fault { IsErrOf result ReadError.Fault → HasRisen (S.faults source.old) (S.faults source.new) }
-    ensures early { IsErrOf result ReadError.Fault → ReadsAtMost most (S.left source.old) (S.left source.new) }
+    ensures fault { IsErrOf result ReadError.Fault
+        → HasRisen (S.faults source.old) (S.faults source.new) }
+    ensures early { IsErrOf result ReadError.Fault
+        → ReadsAtMost most (S.left source.old) (S.left source.new) }
     ensures later { S.faults source.old ≤ S.faults source.new }
 
     // Where the bytes are told and no fault rose, they are read exactly where they are within the limit.
-    ensures complete { (text : List ℕ) → S.left source.old ≡ Some text → ¬ HasRisen (S.faults source.old) (S.faults source.new)
+    ensures complete { (text : List ℕ) → S.left source.old ≡ Some text
+        → ¬ HasRisen (S.faults source.old) (S.faults source.new)
         → MatchResult result (λ _. length text ≤ most) (λ error. IsExcused error most (length text)) }
 {
     let mut bytes = Vec::new(alloc);
@@ -90,19 +97,26 @@ pub fn read_within<S: Source>(
 
 /// All bytes that a source has left, where they are at most 16,777,216.
 pub fn read_all<S: Source>(alloc: Global, source: &mut S) -> Result<Vec<u8>, ReadError>
-    ensures all { IfOk result (λ bytes. ReadsAll (S.left source.old) (S.left source.new) bytes.items) }
+    ensures all { IfOk result (λ bytes.
+        ReadsAll (S.left source.old) (S.left source.new) bytes.items) }
     ensures short { IfOk result (λ bytes. length bytes.items ≤ most_bytes) }
-    ensures told { IfOk result (λ bytes. IfSome (S.left source.old) (λ text. bytes.items ≡ text)) }
+    ensures told { IfOk result (λ bytes.
+        IfSome (S.left source.old) (λ text. bytes.items ≡ text)) }
 
-    ensures too_long { IsErrOf result ReadError.TooLong → ReadsMoreThan most_bytes (S.left source.old) (S.left source.new) }
-    ensures told_long { IsErrOf result ReadError.TooLong → IfSome (S.left source.old) (λ text. most_bytes < length text) }
+    ensures too_long { IsErrOf result ReadError.TooLong
+        → ReadsMoreThan most_bytes (S.left source.old) (S.left source.new) }
+    ensures told_long { IsErrOf result ReadError.TooLong
+        → IfSome (S.left source.old) (λ text. most_bytes < length text) }
 
-    ensures fault { IsErrOf result ReadError.Fault → HasRisen (S.faults source.old) (S.faults source.new) }
-    ensures early { IsErrOf result ReadError.Fault → ReadsAtMost most_bytes (S.left source.old) (S.left source.new) }
+    ensures fault { IsErrOf result ReadError.Fault
+        → HasRisen (S.faults source.old) (S.faults source.new) }
+    ensures early { IsErrOf result ReadError.Fault
+        → ReadsAtMost most_bytes (S.left source.old) (S.left source.new) }
     ensures later { S.faults source.old ≤ S.faults source.new }
 
     // Where the bytes are told and no fault rose, they are read exactly where they are within the limit.
-    ensures complete { (text : List ℕ) → S.left source.old ≡ Some text → ¬ HasRisen (S.faults source.old) (S.faults source.new)
+    ensures complete { (text : List ℕ) → S.left source.old ≡ Some text
+        → ¬ HasRisen (S.faults source.old) (S.faults source.new)
         → MatchResult result (λ _. length text ≤ most_bytes) (λ error. IsExcused error most_bytes (length text)) }
 {
     let mut piece = zeros(alloc, PIECE_BYTES)?;
