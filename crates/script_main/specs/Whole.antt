@@ -20,11 +20,11 @@ ReadsAtMost most old new = (bytes : List ℕ) × Consumes old new bytes × (leng
 abbrev pub ReadsMoreThan : ℕ → Option (List ℕ) → Option (List ℕ) → Type 0
 ReadsMoreThan most old new = (bytes : List ℕ) × Consumes old new bytes × (length bytes ≡ most + 1)
 
--- why an input of so many told bytes is not read where no fault rose: it is longer than is allowed, or memory is wanted
+-- what an input of so many told bytes may be answered where no fault rose: that it is too long, or want of memory
 abbrev pub IsExcused : ReadError → ℕ → ℕ → Type 0
-IsExcused errors.Fault most length = ⊥
-IsExcused errors.TooLong most length = most < length
-IsExcused errors.Memory most length = Unit {0}
+IsExcused errors.Fault most count = ⊥
+IsExcused errors.TooLong most count = most < count
+IsExcused errors.Memory most count = Unit {0}
 
 -- a front of the bytes was appended
 abbrev pub AppendsFront : Option (List ℕ) → Option (List ℕ) → List ℕ → Type 0
