@@ -1,0 +1,83 @@
+ghost use Rattle.std.specs.Prelude.{◌≡◌, ◌≤◌, ◌<◌, ◌↔◌, ◌++◌, [], length, take, min, IsErr, IfOk, OnOk, OnErr};
+ghost use Rattle.gpu_io.specs.Faults.{one_more, HasRisen};
+ghost use Rattle.gpu_io.specs.InMemory.{IsFailing, with_call};
+
+use crate::calls::Calls;
+use crate::failed::Failed;
+use crate::faults::Faults;
+use crate::source::Source;
+use crate::unread::Unread;
+use std::marker::Model;
+
+/// A source in memory that gives its bytes in pieces, and whose calls of given numbers fail.
+#[derive(Debug, Drop)]
+pub struct MemorySource {
+    bytes: Unread,
+    piece: usize,
+    calls: Calls,
+    faults: Faults,
+}
+
+impl Model for MemorySource {
+    ghost use Rattle.std.specs.Prelude.{◌<◌};
+    ghost use Rattle.gpu_io.specs.InMemory.{MemorySourceData};
+
+    ghost Value = { MemorySourceData };
+
+    ghost view = { λ s. record { left = s.bytes; piece = s.piece; calls = s.calls; faults = s.faults } };
+
+    ghost invariant = { λ s. 0 < s.piece };
+}
+
+impl MemorySource {
+    /// A source of these bytes. A read moves at most `piece` of them.
+    ///
+    /// The reads whose numbers, from 1, stand in `fails` fail, and no others.
+    pub fn make(bytes: Vec<u8>, piece: usize, fails: Vec<u32>) -> MemorySource
+        requires { 0 < piece }
+        ensures left { result.left ≡ bytes.items }
+        ensures piece { result.piece ≡ piece }
+        ensures calls { result.calls ≡ record { made = 0; fails = fails.items } }
+        ensures faults { result.faults ≡ 0 }
+    {
+        MemorySource {
+            bytes: Unread::new(bytes),
+            piece,
+            calls: Calls::new(fails),
+            faults: Faults::new(),
+        }
+    }
+}
+
+impl Source for MemorySource {
+    ghost use Rattle.std.specs.Prelude.{Some};
+
+    ghost left = { λ s. Some s.left };
+
+    ghost faults = { λ s. s.faults };
+
+    /// Reads as many bytes as are left, as fit into the buffer and as a piece has.
+    fn read(&mut self, buffer: &mut [u8]) -> Result<usize, Failed>
+        requires { 0 < length buffer.old }
+        // A read fails exactly where its number is one of those that fail.
+        ensures fails { IsErr result ↔ IsFailing self.new.calls }
+        ensures count { IfOk result (λ n.
+            n ≡ min (min (length self.old.left) (length buffer.old)) self.old.piece) }
+        ensures bound { IfOk result (λ n. n ≤ length buffer.new) }
+        ensures taken { IfOk result (λ n. self.old.left ≡ take n buffer.new ++ self.new.left) }
+        ensures end { IfOk result (λ n. n ≡ 0 → self.new.left ≡ []) }
+        ensures kept { OnErr result (self.new.left ≡ self.old.left) }
+
+        ensures calls { self.new.calls ≡ with_call self.old.calls }
+        ensures piece { self.new.piece ≡ self.old.piece }
+        ensures faultless { OnOk result (self.new.faults ≡ self.old.faults) }
+        ensures fault { OnErr result (self.new.faults ≡ one_more self.old.faults) }
+        ensures cause { OnErr result (HasRisen self.old.faults self.new.faults) }
+        ensures later { self.old.faults ≤ self.new.faults }
+    {
+        if self.calls.is_next_failing() {
+            return Err(self.faults.fail());
+        }
+        Ok(self.bytes.take(buffer, self.piece))
+    }
+}

@@ -1,0 +1,79 @@
+ghost use Rattle.std.specs.Prelude.{◌≡◌, ◌≤◌, ◌<◌, ◌↔◌, ◌++◌, [], length, take, min, IsErr, IfOk, OnOk, OnErr};
+ghost use Rattle.gpu_io.specs.Faults.{one_more, HasRisen};
+ghost use Rattle.gpu_io.specs.InMemory.{IsFull, free_room};
+
+use crate::bounded::Bounded;
+use crate::failed::Failed;
+use crate::faults::Faults;
+use crate::sink::Sink;
+use gpu_word::Memory;
+use std::alloc::Global;
+use std::marker::Model;
+
+/// A sink in memory that fails only where its room is full.
+#[derive(Debug, Drop)]
+pub struct SteadySink {
+    bytes: Bounded,
+    faults: Faults,
+}
+
+impl Model for SteadySink {
+    ghost use Rattle.gpu_io.specs.InMemory.{SteadySinkData};
+
+    ghost Value = { SteadySinkData };
+
+    ghost view = { λ s. record { written = s.bytes; faults = s.faults } };
+}
+
+impl SteadySink {
+    /// An empty sink with room for so many bytes, all of it taken at once.
+    pub fn make(alloc: Global, room: usize) -> Result<SteadySink, Memory>
+        ensures written { IfOk result (λ s. s.written ≡ record { bytes = []; room = room }) }
+        ensures faults { IfOk result (λ s. s.faults ≡ 0) }
+    {
+        let bytes = Bounded::new(alloc, room)?;
+        Ok(SteadySink {
+            bytes,
+            faults: Faults::new(),
+        })
+    }
+
+    /// The bytes written.
+    pub fn bytes(&self) -> &[u8]
+        ensures { result.now ≡ self.now.written.bytes }
+    {
+        self.bytes.bytes()
+    }
+}
+
+impl Sink for SteadySink {
+    ghost use Rattle.std.specs.Prelude.{Some};
+
+    ghost written = { λ s. Some s.written.bytes };
+
+    ghost faults = { λ s. s.faults };
+
+    /// Takes as many bytes as there are and as fit into the room.
+    fn write(&mut self, bytes: &[u8]) -> Result<usize, Failed>
+        requires { 0 < length bytes.now }
+        // A write fails exactly where the room is full.
+        ensures fails { IsErr result ↔ IsFull self.old.written }
+        ensures count { IfOk result (λ n. n ≡ min (length bytes.now) (free_room self.old.written)) }
+        ensures some { IfOk result (λ n. 0 < n) }
+        ensures bound { IfOk result (λ n. n ≤ length bytes.now) }
+        ensures appended { IfOk result (λ n.
+            self.new.written.bytes ≡ self.old.written.bytes ++ take n bytes.now) }
+        ensures kept { OnErr result (self.new.written ≡ self.old.written) }
+
+        ensures room { self.new.written.room ≡ self.old.written.room }
+        ensures faultless { OnOk result (self.new.faults ≡ self.old.faults) }
+        ensures fault { OnErr result (self.new.faults ≡ one_more self.old.faults) }
+        ensures cause { OnErr result (HasRisen self.old.faults self.new.faults) }
+        ensures later { self.old.faults ≤ self.new.faults }
+    {
+        if self.bytes.is_full() {
+            return Err(self.faults.fail());
+        }
+        Ok(self.bytes.put(bytes, bytes.len()))
+    }
+}
