@@ -1,5 +1,5 @@
 -- One image, its rectangles, and what is drawn into them.
-use Rattle.std.specs.Prelude.{ℕ, ◌+◌, ◌-◌, ◌*◌, ◌/◌, ◌%◌, Bool, ◌&&◌, nat_le, nat_lt, List, map, take, drop, slice_index, if◌then◌else◌}
+use Rattle.std.specs.Prelude.{◌≡◌, ℕ, ◌+◌, ◌-◌, ◌*◌, ◌/◌, ◌%◌, Bool, ◌&&◌, nat_le, nat_lt, List, length, map, take, drop, slice_index, if◌then◌else◌}
 use Rattle.std.specs.List.{range_with_len}
 use Rattle.gpu_store.specs.declared.rect.Rect.{Rect}
 
@@ -12,6 +12,10 @@ pub record Picture : Type 0 where
 -- how many texels an image has
 abbrev pub texel_count : Picture → ℕ
 texel_count picture = picture.width * picture.height
+
+-- an image has as many texels as its size says
+abbrev pub IsWhole : Picture → Type 0
+IsWhole picture = length picture.texels ≡ texel_count picture
 
 -- the texel in column x of row y
 abbrev pub texel_at : Picture → ℕ → ℕ → ℕ

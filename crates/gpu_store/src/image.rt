@@ -1,5 +1,5 @@
 ghost use Rattle.std.specs.Prelude.{◌≡◌, ◌+◌, ◌*◌, ◌≤◌, ◌<◌, length, slice_index, IfOk, IsTrue};
-ghost use Rattle.gpu_store.specs.Picture.{texel_at, row_of, painted, rectangle, fits, texel_count, drawn};
+ghost use Rattle.gpu_store.specs.Picture.{texel_at, row_of, IsWhole, painted, rectangle, fits, texel_count, drawn};
 
 use crate::rect::Rect;
 use crate::rows;
@@ -50,9 +50,10 @@ impl Image {
         }
     }
 
-    /// The width and the height.
+    /// The width and the height, which say how many texels there are.
     pub fn size(&self) -> (u32, u32)
-        ensures { result ≡ (self.now.width, self.now.height) }
+        ensures size { result ≡ (self.now.width, self.now.height) }
+        ensures whole { IsWhole self.now }
     {
         (self.width, self.height)
     }
@@ -77,7 +78,8 @@ impl Image {
     /// The texels of a row.
     pub fn row(&self, y: u32) -> &[u32]
         requires { y < self.now.height }
-        ensures { result.now ≡ row_of self.now y }
+        ensures row { result.now ≡ row_of self.now y }
+        ensures len { length result.now ≡ self.now.width }
     {
         let start = y as usize * self.width as usize;
         &self.texels[start..start + self.width as usize]

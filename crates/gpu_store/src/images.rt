@@ -1,8 +1,8 @@
 ghost use Rattle.std.specs.Prelude.{◌≡◌, ◌&&◌, ◌≤◌, ◌<◌, ◌*◌, ◌≢◌, [], length, slice_get, IsErr, IsSomeAnd, IfOk, IfSome, OnOk, OnErr, option_map};
 ghost use Rattle.std.specs.Ordering.{nat_cmp};
 ghost use Rattle.std.specs.List.Sorted.{IsStrictlyIncreasing, IsStrictlySortedBy};
-ghost use Rattle.gpu_store.specs.Images.{picture_of, numbers, apply, is_side, HasItsTexels, IsCreate};
-ghost use Rattle.gpu_store.specs.Picture.{row_of};
+ghost use Rattle.gpu_store.specs.Images.{picture_of, numbers, total, apply, is_side, HasItsTexels, IsCreate};
+ghost use Rattle.gpu_store.specs.Picture.{row_of, IsWhole};
 
 use crate::image::Image;
 use crate::op::{Answer, Op};
@@ -232,6 +232,7 @@ impl Images {
     pub fn count(&self) -> u32
         ensures count { result ≡ length self.now }
         ensures rising { IsStrictlyIncreasing (numbers self.now) }
+        ensures within { total self.now ≤ MOST_TEXELS }
     {
         self.images.len() as u32
     }
@@ -256,7 +257,8 @@ impl Images {
 
     /// The width and the height of an image, or `None` where it is missing.
     pub fn size(&self, image: u32) -> Option<(u32, u32)>
-        ensures { result ≡ option_map (λ picture. (picture.width, picture.height)) (picture_of self.now image) }
+        ensures size { result ≡ option_map (λ picture. (picture.width, picture.height)) (picture_of self.now image) }
+        ensures whole { IfSome (picture_of self.now image) IsWhole }
     {
         let found = self.images.get(&image)?;
         Some(found.size())
@@ -265,7 +267,8 @@ impl Images {
     /// The texels of a row of an image, from left to right.
     pub fn row(&self, image: u32, y: u32) -> &[u32]
         requires { IsSomeAnd (picture_of self.now image) (λ picture. y < picture.height) }
-        ensures { IfSome (picture_of self.now image) (λ picture. result.now ≡ row_of picture y) }
+        ensures row { IfSome (picture_of self.now image) (λ picture. result.now ≡ row_of picture y) }
+        ensures len { IfSome (picture_of self.now image) (λ picture. length result.now ≡ picture.width) }
     {
         self.images.get(&image).unwrap().row(y)
     }

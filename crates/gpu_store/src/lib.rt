@@ -1,6 +1,7 @@
 //! The images that all streams share: their texels, and the operations on them.
 #![tactic(auto)]
 
+mod conversion;
 mod image;
 mod images;
 mod op;
@@ -8,6 +9,7 @@ mod rect;
 mod rows;
 mod texels;
 
+pub use conversion::unpack;
 pub use images::Images;
 pub use op::{Answer, Op};
 pub use rect::Rect;
