@@ -14,3 +14,6 @@ pub use images::Images;
 pub use op::{Answer, Op};
 pub use rect::Rect;
 pub use texels::Texels;
+
+#[cfg(test)]
+mod tests;
