@@ -35,11 +35,11 @@ without images image = remove_entry (is_at (nat_cmp image)) images
 abbrev pub total : Pictures → ℕ
 total images = sum_by texel_count (values_of images)
 
--- the number of the image at a place in the order, counted from 0, stands in this list
+-- the numbers of the images, in rising order
 abbrev pub numbers : Pictures → List ℕ
 numbers images = keys_of images
 
--- what is kept beside the images: their count of texels, which is within the limit, and that none is empty
+-- the count of all texels is right and within 4,194,304, and no image is empty
 pub record AreCounted (texels : ℕ) (images : Pictures) : Type 0 where
   pub counted : texels ≡ total images
   pub within : texels ≤ 4194304
@@ -81,7 +81,7 @@ abbrev pub present : Option Picture → Result Picture Answer
 present (Some picture) = Ok picture
 present None = Err InvalidOperation
 
--- one image more, unless it is there, a side is out of range or the texels would be too many
+-- one image of zeros more, unless it is there, a side is out of range or the texels would be too many
 abbrev pub created : Pictures → ℕ → ℕ → ℕ → Result Pictures Answer
 created images image width height = do
   _ ← unless (is_none (picture_of images image)) InvalidOperation

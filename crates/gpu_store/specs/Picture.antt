@@ -1,5 +1,5 @@
 -- One image, its rectangles, and what is drawn into them.
-use Rattle.std.specs.Prelude.{◌≡◌, ℕ, ◌+◌, ◌-◌, ◌*◌, ◌/◌, ◌%◌, Bool, ◌&&◌, nat_le, nat_lt, List, length, map, take, drop, slice_index, if◌then◌else◌}
+use Rattle.std.specs.Prelude.{◌≡◌, ◌≤◌, ℕ, ◌+◌, ◌-◌, ◌*◌, ◌/◌, ◌%◌, Bool, ◌&&◌, nat_le, nat_lt, List, length, map, take, drop, slice_index, if◌then◌else◌}
 use Rattle.std.specs.List.{range_with_len}
 use Rattle.gpu_store.specs.declared.rect.Rect.{Rect}
 
@@ -16,6 +16,12 @@ texel_count picture = picture.width * picture.height
 -- an image has as many texels as its size says
 abbrev pub IsWhole : Picture → Type 0
 IsWhole picture = length picture.texels ≡ texel_count picture
+
+-- what holds of every stored image: no side is above 4,096, and it has as many texels as its size says
+pub record IsStored (width height : ℕ) (texels : List ℕ) : Type 0 where
+  pub wide : width ≤ 4096
+  pub high : height ≤ 4096
+  pub whole : length texels ≡ width * height
 
 -- the texel in column x of row y
 abbrev pub texel_at : Picture → ℕ → ℕ → ℕ

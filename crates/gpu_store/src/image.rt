@@ -16,14 +16,13 @@ pub struct Image {
 }
 
 impl Model for Image {
-    ghost use Rattle.std.specs.Prelude.{◌≡◌, ◌*◌, ◌≤◌, length};
-    ghost use Rattle.gpu_store.specs.Picture.{Picture};
+    ghost use Rattle.gpu_store.specs.Picture.{Picture, IsStored};
 
     ghost Value = { Picture };
 
     ghost view = { λ image. record { width = image.width; height = image.height; texels = image.texels.items } };
 
-    ghost invariant = { λ image. (image.width ≤ 4096) × (image.height ≤ 4096) × (length image.texels.items ≡ image.width * image.height) };
+    ghost invariant = { λ image. IsStored image.width image.height image.texels.items };
 }
 
 impl Image {

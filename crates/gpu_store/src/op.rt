@@ -1,10 +1,10 @@
 use crate::rect::Rect;
 use crate::texels::Texels;
 
-/// An operation on the images.
+/// An operation on the images. Images go by their numbers, and places and sizes are in texels.
 #[derive(Debug, Drop)]
 pub enum Op {
-    /// Makes an image whose texels are all 0.
+    /// Makes an image of this width and height, each from 1 to 4,096, whose texels are all 0.
     Create {
         image: u32,
         width: u32,
@@ -31,7 +31,7 @@ pub enum Op {
         w: u32,
         h: u32,
     },
-    /// Writes texels into a rectangle, row by row.
+    /// Writes texels into a rectangle, row by row: as many as the rectangle has.
     Upload {
         image: u32,
         rect: Rect,
