@@ -1,0 +1,5 @@
+pub mod Drawing
+pub mod Painting
+pub mod Lookups
+pub mod Counting
+pub mod Steps

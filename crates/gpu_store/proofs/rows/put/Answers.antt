@@ -1,0 +1,18 @@
+use Rattle.std.proofs.Common.{◌+◌, ◌-◌, ◌*◌, arith, refl}
+use Rattle.gpu_store.proofs.Drawing.{row_end, source_end, row_below, other_place, same_rows}
+use Rattle.gpu_store.proofs.rows.put.Goals as goal
+
+pub put_row-requires : goal.put_row-requires
+put_row-requires c = record {
+  source = omega (arith, source_end c.args.source_width c.args.sx c.args.sy c.args.rect.w c.args.rect.h c.args.rect.y c.loop-row.row _ c.requires.source_columns c.requires.source_rows (omega arith) (omega arith));
+  target = row_end c.loop-row.row c.args.width c.args.rect.x c.args.rect.w (c.args.rect.y + c.args.rect.h) _ (omega arith) c.requires.columns (omega arith);
+}
+
+pub loop-row-preserved : goal.loop-row-preserved
+loop-row-preserved c =
+    row_below c.args.width c.args.rect _ c.args.rect.y c.loop-row.row _ c.args.texels.now c.loop-row.texels c.put_row.new.texels c.requires.columns (omega arith)
+    (λ i lt. other_place c.args.source.now ((c.args.sy + (c.loop-row.row - c.args.rect.y)) * c.args.source_width) c.args.sx i)
+    c.loop-row.invariant c.put_row.ensures
+
+pub returns : goal.returns
+returns c = same_rows c.args.width c.args.rect _ c.args.rect.y c.loop-row.row _ _ c.args.texels.now c.loop-row.texels refl (omega arith) c.loop-row.invariant

@@ -1,0 +1,20 @@
+use Rattle.std.proofs.Common.{◌+◌, arith, refl, inr}
+use Rattle.gpu_store.proofs.Drawing.{row_end, source_end, row_below, unread, same_rows}
+use Rattle.gpu_store.proofs.rows.shift_up.Goals as goal
+
+pub move_row-requires : goal.move_row-requires
+move_row-requires c = record {
+  source = omega (arith, source_end c.args.width c.args.sx c.args.sy c.args.rect.w c.args.rect.h c.args.rect.y c.loop-row.row _ c.requires.source_columns c.requires.source_rows (omega arith) (omega arith));
+  target = row_end c.loop-row.row c.args.width c.args.rect.x c.args.rect.w (c.args.rect.y + c.args.rect.h) _ (omega arith) c.requires.columns (omega arith);
+}
+
+pub loop-row-preserved : goal.loop-row-preserved
+loop-row-preserved c =
+    row_below c.args.width c.args.rect _ c.args.rect.y c.loop-row.row _ c.args.texels.now c.loop-row.texels c.move_row.new.texels c.requires.columns (omega arith)
+    (λ i lt. unread c.args.width c.args.rect _ c.args.rect.y c.loop-row.row c.args.texels.now c.loop-row.texels c.args.sx _ i c.loop-row.invariant (omega arith)
+    (source_end c.args.width c.args.sx c.args.sy c.args.rect.w c.args.rect.h c.args.rect.y c.loop-row.row _ c.requires.source_columns c.requires.source_rows (omega arith) (omega arith))
+    (inr (omega arith)))
+    c.loop-row.invariant c.move_row.ensures
+
+pub returns : goal.returns
+returns c = same_rows c.args.width c.args.rect _ c.args.rect.y c.loop-row.row _ _ c.args.texels.now c.loop-row.texels refl (omega arith) c.loop-row.invariant

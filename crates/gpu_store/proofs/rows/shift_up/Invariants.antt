@@ -1,0 +1,6 @@
+use Rattle.std.proofs.Common.{◌+◌, ◌*◌, slice_index}
+use Rattle.gpu_store.specs.Rows.{IsDrawn}
+use Rattle.gpu_store.proofs.rows.shift_up.Given as goal
+
+abbrev pub invariant-loop-row : goal.invariant-loop-row
+invariant-loop-row l = IsDrawn l.width l.rect (λ x y. slice_index l.fn.texels ((l.sy + y) * l.width + (l.sx + x))) l.top l.row l.fn.texels l.texels

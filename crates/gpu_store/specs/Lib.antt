@@ -1,0 +1,4 @@
+pub mod Picture
+pub mod Rows
+pub mod Images
+pub mod Conversion
