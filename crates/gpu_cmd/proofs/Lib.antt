@@ -1,0 +1,4 @@
+pub mod Heads
+pub mod Copies
+pub mod Memories
+pub mod Rising
