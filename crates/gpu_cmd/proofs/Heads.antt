@@ -98,11 +98,18 @@ room_ends : (b : Bool) (size get put ring : ℕ) → nat_lt get put ≡ b → ge
 room_ends true size get put ring e g p h = grind (arith, nat_tests)
 room_ends false size get put ring e g p h = grind (arith, nat_tests)
 
--- the ring words of a header that passed end at the latest where the ring does
+-- the entries of a header that passed are some, and end at the latest where the ring does
+pub headed_room : (entry : ℕ) (facts : StreamFacts) (P : Shape → Type 0) → facts.get < facts.areas.ring → facts.put < facts.areas.ring → IsOkAnd (headed entry facts) P → (1 ≤ size_of entry) × (facts.get + size_of entry ≤ facts.areas.ring)
+headed_room entry facts P g r h =
+    let p = headed_passed entry facts P h in
+    let some : IsTrue (nat_le 1 (size_of entry)) = p.first in
+    (grind (arith, nat_tests), room_ends (nat_lt facts.get facts.put) (size_of entry) facts.get facts.put facts.areas.ring refl g r p.second)
+
+-- its ring words too
 pub headed_within : (entry : ℕ) (facts : StreamFacts) (n : ℕ) → facts.get < facts.areas.ring → facts.put < facts.areas.ring → IsOkAnd (headed entry facts) (λ shape. n ≡ shape.ring_words) → facts.get + n ≤ facts.areas.ring
 headed_within entry facts n g r h =
     let p = headed_passed entry facts (λ shape. n ≡ shape.ring_words) h in
     let few : ring_words_of (id_of entry) (size_of entry) ≤ size_of entry = words_by_id (id_of entry == 0) (size_of entry) p.first in
-    let ends : facts.get + size_of entry ≤ facts.areas.ring = room_ends (nat_lt facts.get facts.put) (size_of entry) facts.get facts.put facts.areas.ring refl g r p.second in
+    let ends : facts.get + size_of entry ≤ facts.areas.ring = (headed_room entry facts (λ shape. n ≡ shape.ring_words) g r h).1 in
     let words : n ≡ ring_words_of (id_of entry) (size_of entry) = p.said in
     omega arith

@@ -1,5 +1,5 @@
 -- The places to be fetched: the ring places rise below the ring's end, and the transfer places rise behind it.
-use Rattle.std.proofs.Common.{◌≡◌, ℕ, zero, suc, ◌+◌, ◌*◌, ◌<◌, ◌≤◌, Bool, true, false, Option, Some, None, Result, Ok, Err, List, [], ◌∷◌, ◌++◌, length, map, refl, ⊎_elim, arith, add-one, IsTrue, IsOkAnd}
+use Rattle.std.proofs.Common.{◌≡◌, ℕ, zero, suc, ◌+◌, ◌*◌, ◌<◌, ◌≤◌, Bool, true, false, Option, Some, None, Result, Ok, Err, List, [], ◌∷◌, ◌++◌, length, map, refl, ⊎_elim, arith, add-one, IsTrue, IfOk, IsOkAnd}
 use Rattle.std.specs.Prelude.{◌==◌, nat_le, ◌&&◌, slice_index}
 use Rattle.std.specs.List.{AllByRecursion, range_with_len}
 use Rattle.std.specs.List.Sorted.{IsStrictlyIncreasing}
@@ -21,11 +21,12 @@ use Rattle.gpu_cmd.specs.Outcome.{◌>>=◌, unless, or_error}
 use Rattle.gpu_cmd.specs.Table.{Row, row_of, argument}
 use Rattle.gpu_cmd.specs.Spans.{span_at}
 use Rattle.gpu_cmd.specs.Lawful.{IsLawfulAreas, IsLawfulFacts, places_of}
-use Rattle.gpu_cmd.specs.Ranges.{transfer_range, transfer_places, places_from, places_in}
-use Rattle.gpu_cmd.specs.Checks.{headed, checked, decoded, lies_in, has_memories, has_format, has_slot, has_data, has_aligned_results, is_within_quota}
+use Rattle.gpu_cmd.specs.Ranges.{transfer_range, size_range, data_range, places_from, places_in}
+use Rattle.gpu_cmd.specs.Checks.{headed, decoded, lies_in}
 use Rattle.gpu_cmd.specs.Copied.{fetched_places, places_read, places_headed, places_decoded, ring_places, value_in}
 use Rattle.gpu_cmd.specs.Laws.{PlacesRise, PlacesAreThere}
 use Rattle.gpu_cmd.proofs.Heads.{headed_within}
+use Rattle.gpu_cmd.proofs.Decoders.{decoded_passed}
 use Rattle.gpu_cmd.proofs.Copies as copies
 
 -- ---- transfer places
@@ -57,33 +58,9 @@ by_range areas (Some range) others lawful h = by_span areas range (span_at areas
     first_holds true b h = refl
     first_holds false b h = h
 
--- the same of an answer
-abbrev pub AnswersBehind : Areas → Result Decoded CmdError → Type 0
-AnswersBehind areas (Err error) = Unit {0}
-AnswersBehind areas (Ok found) = AreBehind areas found.from found.count
-
-by_checks : (a b c m q : Bool) (areas : Areas) (found : Decoded) → (IsTrue m → AreBehind areas found.from found.count) → AnswersBehind areas (unless a InvalidArguments >>= λ _. unless b InvalidArguments >>= λ _. unless c InvalidArguments >>= λ _. unless m OutOfBounds >>= λ _. unless q Quota >>= λ _. Ok found)
-by_checks false b c m q areas found h = tt
-by_checks true false c m q areas found h = tt
-by_checks true true false m q areas found h = tt
-by_checks true true true false q areas found h = tt
-by_checks true true true true false areas found h = tt
-by_checks true true true true true areas found h = h refl
-
-checked_behind : (ring_words : ℕ) (command : Command) (facts : StreamFacts) → IsLawfulAreas facts.areas → AnswersBehind facts.areas (checked ring_words command facts)
-unfolding checked
-checked_behind ring_words command facts lawful =
-    let places = transfer_places facts.areas command in
-    by_checks (has_format command) (has_slot command) (has_data ring_words command && has_aligned_results command) (has_memories facts.areas command) (is_within_quota (facts.fetched + ring_words + places.count)) facts.areas (record { command = command; from = places.from; count = places.count }) (by_range facts.areas (transfer_range command) _ lawful)
-
-by_row : (row : Option Row) (words : List ℕ) (facts : StreamFacts) → IsLawfulAreas facts.areas → AnswersBehind facts.areas (or_error UnknownCommand row >>= λ row. checked (length words) (row.command (argument words)) facts)
-by_row None words facts lawful = tt
-by_row (Some row) words facts lawful = checked_behind (length words) (row.command (argument words)) facts lawful
-
 -- the transfer places of what the decoder answers stand behind the ring
-pub decoded_behind : (words : List ℕ) (facts : StreamFacts) → IsLawfulAreas facts.areas → AnswersBehind facts.areas (decoded words facts)
-unfolding decoded
-decoded_behind words facts lawful = by_row (row_of (id_of (slice_index words 0))) words facts lawful
+pub decoded_behind : (words : List ℕ) (facts : StreamFacts) → IsLawfulAreas facts.areas → IfOk (decoded words facts) (λ found. AreBehind facts.areas found.from found.count)
+decoded_behind words facts lawful = decoded_passed words facts (λ found. AreBehind facts.areas found.from found.count) (λ command m q. by_range facts.areas (transfer_range command) (option_map_or (lies_in facts.areas.results) (size_range command) true && option_map_or (lies_in facts.areas.results) (data_range command) true) lawful m)
 
 -- ---- lists that rise
 
@@ -129,7 +106,7 @@ unfolding RisesWithin
 transfer_rises zero from areas h = tt
 transfer_rises (suc count) from areas h = wider from areas.ring (places_of areas) (range_with_len from (suc count)) (h.begun (omega arith)) (range_rises from (suc count) (places_of areas) h.ended)
 
-by_decoder : (areas : Areas) (answer : Result Decoded CmdError) → AnswersBehind areas answer → RisesWithin areas.ring (places_of areas) (places_decoded answer)
+by_decoder : (areas : Areas) (answer : Result Decoded CmdError) → IfOk answer (λ found. AreBehind areas found.from found.count) → RisesWithin areas.ring (places_of areas) (places_decoded answer)
 unfolding RisesWithin
 by_decoder areas (Err error) h = tt
 by_decoder areas (Ok found) h = transfer_rises found.count found.from areas h

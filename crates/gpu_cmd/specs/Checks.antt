@@ -25,11 +25,11 @@ is_within_quota words = nat_le words 1048576
 -- checks 1 to 5, of the header alone
 unfoldable pub headed : ℕ → StreamFacts → Result Shape CmdError
 headed entry facts = do
-  _ ← unless (nat_le 1 (size_of entry)) InvalidSize
-  _ ← unless (nat_le (size_of entry) (room facts)) OutOfBounds
-  row ← or_error UnknownCommand (row_of (id_of entry))
-  _ ← unless (fits row (size_of entry)) InvalidArguments
-  _ ← unless (is_within_quota (facts.fetched + ring_words_of (id_of entry) (size_of entry))) Quota
+  _ ← unless (nat_le 1 (size_of entry)) InvalidSize  -- 1
+  _ ← unless (nat_le (size_of entry) (room facts)) OutOfBounds  -- 2
+  row ← or_error UnknownCommand (row_of (id_of entry))  -- 3
+  _ ← unless (fits row (size_of entry)) InvalidArguments  -- 4
+  _ ← unless (is_within_quota (facts.fetched + ring_words_of (id_of entry) (size_of entry))) Quota  -- 5
   Ok (record { id = id_of entry; size = size_of entry; ring_words = ring_words_of (id_of entry) (size_of entry) })
 
 -- check 6: a format has a number from 1 to 4
@@ -61,11 +61,11 @@ has_memories areas command = option_map_or (lies_in areas.memories) (transfer_ra
 -- checks 6 to 10, of a command with so many ring words
 unfoldable pub checked : ℕ → Command → StreamFacts → Result Decoded CmdError
 checked ring_words command facts = do
-  _ ← unless (has_format command) InvalidArguments
-  _ ← unless (has_slot command) InvalidArguments
-  _ ← unless (has_data ring_words command && has_aligned_results command) InvalidArguments
-  _ ← unless (has_memories facts.areas command) OutOfBounds
-  _ ← unless (is_within_quota (facts.fetched + ring_words + (transfer_places facts.areas command).count)) Quota
+  _ ← unless (has_format command) InvalidArguments  -- 6
+  _ ← unless (has_slot command) InvalidArguments  -- 7
+  _ ← unless (has_data ring_words command && has_aligned_results command) InvalidArguments  -- 8
+  _ ← unless (has_memories facts.areas command) OutOfBounds  -- 9
+  _ ← unless (is_within_quota (facts.fetched + ring_words + (transfer_places facts.areas command).count)) Quota  -- 10
   Ok (record { command = command; from = (transfer_places facts.areas command).from; count = (transfer_places facts.areas command).count })
 
 -- checks 6 to 10, of all ring words of a command; its id is known by check 3

@@ -1,7 +1,9 @@
 -- Laws of copied commands.
-use Rattle.std.specs.Prelude.{◌≡◌, ℕ, ◌<◌, ◌≤◌, List, [], ◌∷◌, ◌++◌, length, Ok, Err, slice_index}
+use Rattle.std.specs.Prelude.{◌≡◌, ℕ, ◌+◌, ◌<◌, ◌≤◌, List, [], ◌∷◌, ◌++◌, length, Ok, Err, slice_index}
 use Rattle.std.specs.List.{All}
 use Rattle.std.specs.List.Sorted.{IsStrictlyIncreasing}
+use Rattle.gpu_word.specs.Header.{size_of}
+use Rattle.gpu_cmd.specs.declared.command.Command.{Command}
 use Rattle.gpu_cmd.specs.declared.error.CmdError.{CmdError}
 use Rattle.gpu_cmd.specs.declared.error.CmdError.TheVariants.{OutOfBounds}
 use Rattle.gpu_cmd.specs.declared.facts.StreamFacts.{StreamFacts}
@@ -9,7 +11,7 @@ use Rattle.gpu_cmd.specs.declared.shape.Shape.{Shape}
 use Rattle.gpu_cmd.specs.declared.decoded.Decoded.{Decoded}
 use Rattle.gpu_cmd.specs.Lawful.{IsLawfulFacts, places_of}
 use Rattle.gpu_cmd.specs.Checks.{headed, decoded}
-use Rattle.gpu_cmd.specs.Copied.{copied, fetched_places, fetched, judged, words_at, places_listed, IsCopy}
+use Rattle.gpu_cmd.specs.Copied.{value_in, copied, fetched_places, fetched, judged, words_at, places_listed, IsCopy}
 
 -- a put out of range: no word is fetched, and the verdict is OutOfBounds whatever a list says
 abbrev pub PutOutOfRange : Type 0
@@ -42,3 +44,12 @@ PlacesRise = (words : List (ℕ × ℕ)) (facts : StreamFacts) → IsLawfulFacts
 -- each is a place of the stream's ring or of its transfer memories
 abbrev pub PlacesAreThere : Type 0
 PlacesAreThere = (words : List (ℕ × ℕ)) (facts : StreamFacts) → IsLawfulFacts facts → All (λ place. place < places_of facts.areas) (fetched_places words facts)
+
+-- a command that is accepted has an entry, ends in the ring, and leaves the stream within its quota
+pub record LeavesRoom (words : List (ℕ × ℕ)) (facts : StreamFacts) : Type 0 where
+  pub some : 1 ≤ size_of (value_in words facts.get)
+  pub ends : facts.get + size_of (value_in words facts.get) ≤ facts.areas.ring
+  pub quota : facts.fetched + length words ≤ 1048576
+
+abbrev pub AcceptedLeavesRoom : Type 0
+AcceptedLeavesRoom = (words : List (ℕ × ℕ)) (facts : StreamFacts) (command : Command) → IsLawfulFacts facts → IsCopy words facts (Ok command) → LeavesRoom words facts

@@ -5,6 +5,7 @@ pub mod Outcome
 pub mod Table
 pub mod Spans
 pub mod Lawful
+pub mod Tiling
 pub mod Ranges
 pub mod Checks
 pub mod Copied

@@ -5,7 +5,7 @@ ghost use Rattle.gpu_cmd.specs.Checks.{has_format, has_slot, has_data, has_align
 
 use crate::areas::Areas;
 use crate::command::Command;
-use crate::range::{Places, Range};
+use crate::range::{Places, Range, WORD_BYTES};
 use gpu_word::Format;
 
 /// How many buckets, and how many buffers, a stream has.
@@ -16,9 +16,6 @@ const MOST_BYTES: u32 = 262_144;
 
 /// How many ring entries of a SetBucketDataImmediate stand before its data.
 const ENTRIES_BEFORE_DATA: usize = 4;
-
-/// How many bytes a word has.
-const WORD_BYTES: usize = 4;
 
 impl Command {
     // The number of the format that texels are read in.
@@ -123,7 +120,7 @@ impl Command {
             } => Some(Range {
                 memory: result_memory,
                 offset: result_offset,
-                bytes: WORD_BYTES as u128,
+                bytes: u128::from(WORD_BYTES),
             }),
             _ => None,
         }
@@ -180,7 +177,7 @@ impl Command {
         ensures { result ≡ has_data entries self }
     {
         let data_entries = entries.saturating_sub(ENTRIES_BEFORE_DATA);
-        self.immediate_size().is_none_or(|size| (size as usize).div_ceil(WORD_BYTES)
+        self.immediate_size().is_none_or(|size| (size as usize).div_ceil(WORD_BYTES as usize)
             <= data_entries)
     }
 

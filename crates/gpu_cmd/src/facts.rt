@@ -1,4 +1,4 @@
-ghost use Rattle.std.specs.Prelude.{◌≡◌, ◌<◌, ◌≤◌};
+ghost use Rattle.std.specs.Prelude.{◌≡◌, ◌↔◌, IsTrue};
 ghost use Rattle.gpu_cmd.specs.Lawful.{IsLawfulFacts, room};
 
 use crate::areas::Areas;
@@ -30,5 +30,14 @@ impl StreamFacts {
         } else {
             self.areas.ring - self.get
         }
+    }
+
+    /// Whether a stream of a script may have these facts, whatever its put.
+    pub fn is_lawful(&self) -> bool
+        ensures { IsTrue result ↔ IsLawfulFacts self.now }
+    {
+        self.areas.is_lawful()
+            && self.get < self.areas.ring
+            && u64::from(self.fetched) <= MOST_FETCHED
     }
 }

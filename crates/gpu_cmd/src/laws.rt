@@ -1,4 +1,4 @@
-ghost use Rattle.gpu_cmd.specs.Laws.{PutOutOfRange, HeaderRefused, EntriesRefused, CommandCopied, WordsOfMemory, MemoryCopied, PlacesRise, PlacesAreThere};
+ghost use Rattle.gpu_cmd.specs.Laws.{PutOutOfRange, HeaderRefused, EntriesRefused, CommandCopied, WordsOfMemory, MemoryCopied, PlacesRise, PlacesAreThere, AcceptedLeavesRoom};
 
 /// The law of copied words: what was read as `head` and `decode` say is what is to be fetched, and the verdict on it is
 /// theirs, at each point where a fetch can stop.
@@ -19,4 +19,9 @@ pub fn fetched_words()
 pub fn command_places()
     ensures rise { PlacesRise }
     ensures there { PlacesAreThere }
+{}
+
+/// The law of accepted commands: the facts that follow one are lawful again.
+pub fn accepted_commands()
+    ensures { AcceptedLeavesRoom }
 {}

@@ -20,6 +20,9 @@ pub use command::Command;
 pub use decoded::{Decoded, decode};
 pub use error::CmdError;
 pub use facts::StreamFacts;
-pub use laws::{command_places, copied_words, fetched_words};
+pub use laws::{accepted_commands, command_places, copied_words, fetched_words};
 pub use name::Name;
 pub use shape::{Shape, head};
+
+#[cfg(test)]
+mod tests;

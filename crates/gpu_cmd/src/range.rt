@@ -6,7 +6,7 @@ ghost use Rattle.gpu_cmd.specs.Checks.{is_aligned, lies_in};
 use crate::areas::{Areas, Span, span_at};
 
 /// How many bytes a word has.
-const WORD_BYTES: u32 = 4;
+pub(crate) const WORD_BYTES: u32 = 4;
 
 /// Bytes of a memory.
 #[derive(Clone, Copy, Debug, PartialEq, Eq)]

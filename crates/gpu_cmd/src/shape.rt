@@ -33,6 +33,7 @@ pub fn head(entry: u32, facts: &StreamFacts) -> Result<Shape, CmdError>
     ensures some { IfOk result (λ shape. 1 ≤ shape.ring_words) }
     ensures fetched { IfOk result (λ shape. shape.ring_words ≤ shape.size) }
     ensures room { IfOk result (λ shape. shape.size ≤ room facts.now) }
+    ensures quota { IfOk result (λ shape. facts.now.fetched + shape.ring_words ≤ 1048576) }
     ensures within { IfOk result (λ shape. facts.now.get + shape.size ≤ facts.now.areas.ring) }
 {
     let header = split(entry);
