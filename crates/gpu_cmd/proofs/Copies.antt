@@ -69,6 +69,13 @@ pub places_at : (place : ℕ) (values : List ℕ) → places_listed (words_at pl
 places_at place [] = refl
 places_at place (value ∷ values) = ap (λ places. place ∷ places) (places_at (place + 1) values)
 
+-- one more value at the place behind the last
+pub words_at_push : (place : ℕ) (values : List ℕ) (value : ℕ) → words_at place (values ++ value ∷ []) ≡ words_at place values ++ (place + length values, value) ∷ []
+words_at_push place [] value = ap (λ p. (p, value) ∷ []) (omega arith)
+words_at_push place (first ∷ values) value =
+    let same : (place + 1) + length values ≡ place + length (first ∷ values) = omega arith in
+    ap (λ words. (place, first) ∷ words) (words_at_push (place + 1) values value ∙ ap (λ p. words_at (place + 1) values ++ (p, value) ∷ []) same)
+
 -- ---- the laws
 
 pub put_out_of_range : PutOutOfRange

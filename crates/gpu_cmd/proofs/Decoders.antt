@@ -1,10 +1,9 @@
 -- What checks 6 to 10 leave where they pass.
-use Rattle.std.proofs.Common.{◌≡◌, ℕ, ◌+◌, ◌≤◌, Bool, true, false, Option, Some, None, Result, Ok, Err, List, length, refl, arith, IsTrue, IfOk}
+use Rattle.std.proofs.Common.{ℕ, ◌+◌, ◌≤◌, Bool, true, false, Option, Some, None, Ok, List, length, refl, arith, IsTrue, IfOk}
 use Rattle.std.specs.Prelude.{◌&&◌, slice_index}
 use Rattle.std.proofs.lemmas.Bool.Decides.{nat_tests}
 use Rattle.gpu_word.specs.Header.{id_of}
 use Rattle.gpu_cmd.specs.declared.command.Command.{Command}
-use Rattle.gpu_cmd.specs.declared.error.CmdError.{CmdError}
 use Rattle.gpu_cmd.specs.declared.error.CmdError.TheVariants.{UnknownCommand, InvalidArguments, OutOfBounds, Quota}
 use Rattle.gpu_cmd.specs.declared.facts.StreamFacts.{StreamFacts}
 use Rattle.gpu_cmd.specs.declared.decoded.Decoded.{Decoded}

@@ -1,5 +1,5 @@
 -- A command that is accepted leaves its stream room to go on.
-use Rattle.std.proofs.Common.{◌≡◌, ℕ, ◌+◌, ◌<◌, ◌≤◌, Result, Ok, Err, List, [], ◌∷◌, ◌++◌, length, map, refl, sym, ap, ◌∙◌, ⊎_elim, arith, IfOk, IsOkAnd, length-append}
+use Rattle.std.proofs.Common.{◌≡◌, ℕ, ◌+◌, ◌<◌, ◌≤◌, Result, Ok, Err, ◌++◌, length, map, refl, sym, ap, ◌∙◌, ⊎_elim, arith, IfOk, IsOkAnd, length-append}
 use Rattle.std.specs.List.{range_with_len}
 use Rattle.std.proofs.lemmas.Bool.{cases_lt}
 use Rattle.std.proofs.lemmas.List.{length-map}
@@ -14,7 +14,7 @@ use Rattle.gpu_cmd.specs.declared.decoded.Decoded.{Decoded}
 use Rattle.gpu_cmd.specs.Lawful.{IsLawfulFacts}
 use Rattle.gpu_cmd.specs.Outcome.{◌>>=◌}
 use Rattle.gpu_cmd.specs.Checks.{headed, decoded}
-use Rattle.gpu_cmd.specs.Copied.{copied, fetched_places, judged, places_read, places_headed, places_decoded, ring_places, value_in, places_listed, IsCopy}
+use Rattle.gpu_cmd.specs.Copied.{copied, fetched_places, judged, places_headed, places_decoded, ring_places, value_in, places_listed}
 use Rattle.gpu_cmd.specs.Laws.{LeavesRoom, AcceptedLeavesRoom}
 use Rattle.gpu_cmd.proofs.Heads.{headed_room}
 use Rattle.gpu_cmd.proofs.Decoders.{decoded_few}

@@ -1,24 +1,19 @@
 -- The places to be fetched: the ring places rise below the ring's end, and the transfer places rise behind it.
-use Rattle.std.proofs.Common.{◌≡◌, ℕ, zero, suc, ◌+◌, ◌*◌, ◌<◌, ◌≤◌, Bool, true, false, Option, Some, None, Result, Ok, Err, List, [], ◌∷◌, ◌++◌, length, map, refl, ⊎_elim, arith, add-one, IsTrue, IfOk, IsOkAnd}
-use Rattle.std.specs.Prelude.{◌==◌, nat_le, ◌&&◌, slice_index}
+use Rattle.std.proofs.Common.{◌≡◌, ℕ, zero, suc, ◌+◌, ◌*◌, ◌<◌, ◌≤◌, Bool, true, false, Option, Some, None, Result, Ok, Err, List, [], ◌∷◌, ◌++◌, map, refl, ⊎_elim, arith, add-one, IsTrue, IfOk, IsOkAnd}
+use Rattle.std.specs.Prelude.{◌==◌, nat_le, ◌&&◌}
 use Rattle.std.specs.List.{AllByRecursion, range_with_len}
 use Rattle.std.specs.List.Sorted.{IsStrictlyIncreasing}
 use Rattle.std.specs.Option.{option_map_or}
 use Rattle.std.proofs.lemmas.Bool.{cases_lt}
 use Rattle.std.proofs.lemmas.Bool.Decides.{nat_tests}
 use Rattle.std.proofs.lemmas.List.Elements.{All-from_recursion}
-use Rattle.gpu_cmd.specs.declared.command.Command.{Command}
 use Rattle.gpu_cmd.specs.declared.error.CmdError.{CmdError}
-use Rattle.gpu_cmd.specs.declared.error.CmdError.TheVariants.{UnknownCommand, InvalidArguments, OutOfBounds, Quota}
 use Rattle.gpu_cmd.specs.declared.areas.Areas.{Areas}
 use Rattle.gpu_cmd.specs.declared.areas.Span.{Span}
 use Rattle.gpu_cmd.specs.declared.facts.StreamFacts.{StreamFacts}
 use Rattle.gpu_cmd.specs.declared.range.Range.{Range}
 use Rattle.gpu_cmd.specs.declared.shape.Shape.{Shape}
 use Rattle.gpu_cmd.specs.declared.decoded.Decoded.{Decoded}
-use Rattle.gpu_word.specs.Header.{id_of}
-use Rattle.gpu_cmd.specs.Outcome.{◌>>=◌, unless, or_error}
-use Rattle.gpu_cmd.specs.Table.{Row, row_of, argument}
 use Rattle.gpu_cmd.specs.Spans.{span_at}
 use Rattle.gpu_cmd.specs.Lawful.{IsLawfulAreas, IsLawfulFacts, places_of}
 use Rattle.gpu_cmd.specs.Ranges.{transfer_range, size_range, data_range, places_from, places_in}

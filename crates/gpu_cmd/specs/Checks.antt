@@ -15,12 +15,12 @@ use Rattle.gpu_cmd.specs.declared.decoded.Decoded.{Decoded}
 use Rattle.gpu_cmd.specs.Outcome.{◌>>=◌, unless, or_error}
 use Rattle.gpu_cmd.specs.Table.{row_of, fits, ring_words_of, argument}
 use Rattle.gpu_cmd.specs.Spans.{span_at}
-use Rattle.gpu_cmd.specs.Lawful.{room}
+use Rattle.gpu_cmd.specs.Lawful.{most_fetched, room}
 use Rattle.gpu_cmd.specs.Ranges.{format_in, slot_in, made_size_in, immediate_size_in, transfer_range, size_range, data_range, transfer_places}
 
--- a stream fetches at most 1,048,576 words
+-- so many words are no more than a stream may fetch
 abbrev pub is_within_quota : ℕ → Bool
-is_within_quota words = nat_le words 1048576
+is_within_quota words = nat_le words most_fetched
 
 -- checks 1 to 5, of the header alone
 unfoldable pub headed : ℕ → StreamFacts → Result Shape CmdError
@@ -48,6 +48,7 @@ has_data entries command = option_map_or (λ size. nat_le size (4 * (entries - 4
 abbrev pub is_aligned : Range → Bool
 is_aligned range = range.offset % 4 == 0
 
+-- check 8: so are all that the command writes
 abbrev pub has_aligned_results : Command → Bool
 has_aligned_results command = option_map_or is_aligned (size_range command) true && option_map_or is_aligned (data_range command) true
 
@@ -55,6 +56,8 @@ has_aligned_results command = option_map_or is_aligned (size_range command) true
 abbrev pub lies_in : List (Option Span) → Range → Bool
 lies_in spans range = option_map_or (λ (span : Span). nat_le (range.offset + range.bytes) (4 * span.words)) (span_at spans range.memory) false
 
+-- check 9: each range of the command does, those that are read among the transfer memories and those that are written
+-- among the result memories
 abbrev pub has_memories : Areas → Command → Bool
 has_memories areas command = option_map_or (lies_in areas.memories) (transfer_range command) true && (option_map_or (lies_in areas.results) (size_range command) true && option_map_or (lies_in areas.results) (data_range command) true)
 

@@ -11,11 +11,15 @@ pub record IsLawfulAreas (areas : Areas) : Type 0 where
   pub memories : AreTiles areas.ring areas.memories
   pub results : AreTiles 0 areas.results
 
+-- how many words a stream may fetch for the commands that it executes
+abbrev pub most_fetched : ℕ
+most_fetched = 1048576
+
 -- lawful areas, a position in the ring, and no more words fetched than a stream may fetch
 pub record IsLawfulFacts (facts : StreamFacts) : Type 0 where
   pub areas : IsLawfulAreas facts.areas
   pub get : facts.get < facts.areas.ring
-  pub fetched : facts.fetched ≤ 1048576
+  pub fetched : facts.fetched ≤ most_fetched
 
 -- the places of a stream: those of its ring, and those of its transfer memories
 abbrev pub places_of : Areas → ℕ

@@ -177,8 +177,10 @@ impl Command {
         ensures { result ≡ has_data entries self }
     {
         let data_entries = entries.saturating_sub(ENTRIES_BEFORE_DATA);
-        self.immediate_size().is_none_or(|size| (size as usize).div_ceil(WORD_BYTES as usize)
-            <= data_entries)
+        match self.immediate_size() {
+            Some(size) => (size as usize).div_ceil(WORD_BYTES as usize) <= data_entries,
+            None => true,
+        }
     }
 
     // Check 8: result memories are written from the start of a word on.

@@ -1,7 +1,9 @@
 /// A command with its arguments, in the order in which they follow the header.
 ///
-/// Offsets and sizes of buckets, buffers and memories are in bytes. A release or an id in two halves is
-/// `low + high * 2^32`.
+/// Images, buckets, buffers, transfer memories and result memories go by number. Offsets and sizes are in bytes, and
+/// `x`, `y`, `w`, `h` and the like in texels; a rectangle has `w * h` of them, packed by rows without gaps. A texel is
+/// `r * 2^24 + g * 2^16 + b * 2^8 + a`, and `format` is the number of a `gpu_word::Format`. A release or an id in two
+/// halves is `low + high * 2^32`.
 #[derive(Clone, Copy, Debug, PartialEq, Eq)]
 pub enum Command {
     /// Does nothing.
@@ -15,7 +17,7 @@ pub enum Command {
         bucket: u32,
         size: u32,
     },
-    /// Writes bytes of a memory into a bucket.
+    /// Writes `size` bytes of a transfer memory into a bucket at `offset`.
     SetBucketData {
         bucket: u32,
         offset: u32,
@@ -23,13 +25,13 @@ pub enum Command {
         memory: u32,
         memory_offset: u32,
     },
-    /// Writes bytes of the data entries that follow in the ring into a bucket.
+    /// Writes the first `size` bytes of the data entries, which follow in the ring, into a bucket at `offset`.
     SetBucketDataImmediate {
         bucket: u32,
         offset: u32,
         size: u32,
     },
-    /// Writes a bucket's size as one word to a result memory, and its first bytes to another.
+    /// Writes a bucket's size as one word to a result memory, and up to `data_size` of its first bytes to another.
     GetBucketStart {
         bucket: u32,
         result_memory: u32,
@@ -38,7 +40,7 @@ pub enum Command {
         data_memory: u32,
         data_offset: u32,
     },
-    /// Writes bytes of a bucket to a result memory.
+    /// Writes `size` bytes of a bucket from `offset` on to a result memory.
     GetBucketData {
         bucket: u32,
         offset: u32,
@@ -46,18 +48,18 @@ pub enum Command {
         memory: u32,
         memory_offset: u32,
     },
-    /// Raises the stream's release count.
+    /// Raises the stream's release count to a release.
     InsertFence {
         release_low: u32,
         release_high: u32,
     },
-    /// Waits for a release of the stream of this number.
+    /// Waits for a release of the stream of a number.
     WaitToken {
         stream: u32,
         release_low: u32,
         release_high: u32,
     },
-    /// Makes an image.
+    /// Makes an image whose texels are all 0.
     CreateImage {
         image: u32,
         width: u32,
@@ -87,7 +89,7 @@ pub enum Command {
         w: u32,
         h: u32,
     },
-    /// Writes texels from a memory into a rectangle.
+    /// Writes texels from a transfer memory into a rectangle.
     UploadRect {
         image: u32,
         x: u32,
@@ -117,7 +119,7 @@ pub enum Command {
     DeleteBuffer {
         buffer: u32,
     },
-    /// Writes bytes of a memory into a buffer.
+    /// Writes `size` bytes of a transfer memory into a buffer at `offset`.
     BufferData {
         buffer: u32,
         offset: u32,
@@ -125,7 +127,7 @@ pub enum Command {
         memory: u32,
         memory_offset: u32,
     },
-    /// Writes texels from a buffer into a rectangle.
+    /// Writes texels from a buffer, from `offset` on, into a rectangle.
     UploadBuffer {
         image: u32,
         x: u32,
@@ -136,7 +138,7 @@ pub enum Command {
         buffer: u32,
         offset: u32,
     },
-    /// Waits for a release of the stream of this name.
+    /// Waits for a release of the stream of a name.
     WaitSyncToken {
         namespace: u32,
         id_low: u32,

@@ -1,5 +1,5 @@
 ghost use Rattle.std.specs.Prelude.{◌≡◌, ◌+◌, ◌<◌, ◌≤◌, ◌^◌, IfOk, IsOkAnd, length, slice_index};
-ghost use Rattle.gpu_cmd.specs.Lawful.{IsLawfulFacts, places_of};
+ghost use Rattle.gpu_cmd.specs.Lawful.{IsLawfulFacts, most_fetched, places_of};
 ghost use Rattle.gpu_cmd.specs.Checks.{headed, checked, decoded};
 
 use crate::command::Command;
@@ -29,7 +29,7 @@ fn checked(ring_words: usize, command: Command, facts: &StreamFacts) -> Result<D
     ensures none { IfOk result (λ found. found.count ≡ 0 → found.from ≡ 0) }
     ensures transfer { IfOk result (λ found. 0 < found.count → facts.now.areas.ring ≤ found.from) }
     ensures places { IfOk result (λ found. found.from + found.count ≤ places_of facts.now.areas) }
-    ensures quota { IfOk result (λ found. facts.now.fetched + ring_words + found.count ≤ 1048576) }
+    ensures quota { IfOk result (λ found. facts.now.fetched + ring_words + found.count ≤ most_fetched) }
 {
     if !command.has_format() || !command.has_slot() {
         return Err(CmdError::InvalidArguments);
@@ -63,7 +63,7 @@ pub fn decode(words: &[u32], facts: &StreamFacts) -> Result<Decoded, CmdError>
     ensures none { IfOk result (λ found. found.count ≡ 0 → found.from ≡ 0) }
     ensures transfer { IfOk result (λ found. 0 < found.count → facts.now.areas.ring ≤ found.from) }
     ensures places { IfOk result (λ found. found.from + found.count ≤ places_of facts.now.areas) }
-    ensures quota { IfOk result (λ found. facts.now.fetched + length words.now + found.count ≤ 1048576) }
+    ensures quota { IfOk result (λ found. facts.now.fetched + length words.now + found.count ≤ most_fetched) }
 {
     let command = table::command(split(words[0]).id, words);
     checked(words.len(), command, facts)

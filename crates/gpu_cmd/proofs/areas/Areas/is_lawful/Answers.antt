@@ -1,6 +1,5 @@
 -- The test computes what says whether areas are lawful.
-use Rattle.std.proofs.Common.{◌≡◌, rules}
-use Rattle.gpu_cmd.specs.Tiling.{are_lawful}
+use Rattle.std.proofs.Common.{rules}
 use Rattle.gpu_cmd.proofs.Tiles.{lawful_tested}
 use Rattle.gpu_cmd.proofs.areas.Areas.is_lawful.Goals as goal
 
