@@ -6,7 +6,7 @@ use crate::command::Command;
 
 pub fn set_bucket_size(words: &[u32]) -> Command
     requires { 2 < length words.now }
-    ensures { result ≡ Command.SetBucketSize (argument words.now 1) (argument words.now 2) }
+    ensures { let a = argument words.now in result ≡ Command.SetBucketSize (a 1) (a 2) }
 {
     Command::SetBucketSize {
         bucket: words[1],
@@ -16,7 +16,8 @@ pub fn set_bucket_size(words: &[u32]) -> Command
 
 pub fn set_bucket_data(words: &[u32]) -> Command
     requires { 5 < length words.now }
-    ensures { result ≡ Command.SetBucketData (argument words.now 1) (argument words.now 2) (argument words.now 3) (argument words.now 4) (argument words.now 5) }
+    ensures { let a = argument words.now in
+        result ≡ Command.SetBucketData (a 1) (a 2) (a 3) (a 4) (a 5) }
 {
     Command::SetBucketData {
         bucket: words[1],
@@ -29,7 +30,8 @@ pub fn set_bucket_data(words: &[u32]) -> Command
 
 pub fn set_bucket_data_immediate(words: &[u32]) -> Command
     requires { 3 < length words.now }
-    ensures { result ≡ Command.SetBucketDataImmediate (argument words.now 1) (argument words.now 2) (argument words.now 3) }
+    ensures { let a = argument words.now in
+        result ≡ Command.SetBucketDataImmediate (a 1) (a 2) (a 3) }
 {
     Command::SetBucketDataImmediate {
         bucket: words[1],
@@ -40,7 +42,8 @@ pub fn set_bucket_data_immediate(words: &[u32]) -> Command
 
 pub fn get_bucket_start(words: &[u32]) -> Command
     requires { 6 < length words.now }
-    ensures { result ≡ Command.GetBucketStart (argument words.now 1) (argument words.now 2) (argument words.now 3) (argument words.now 4) (argument words.now 5) (argument words.now 6) }
+    ensures { let a = argument words.now in
+        result ≡ Command.GetBucketStart (a 1) (a 2) (a 3) (a 4) (a 5) (a 6) }
 {
     Command::GetBucketStart {
         bucket: words[1],
@@ -54,7 +57,8 @@ pub fn get_bucket_start(words: &[u32]) -> Command
 
 pub fn get_bucket_data(words: &[u32]) -> Command
     requires { 5 < length words.now }
-    ensures { result ≡ Command.GetBucketData (argument words.now 1) (argument words.now 2) (argument words.now 3) (argument words.now 4) (argument words.now 5) }
+    ensures { let a = argument words.now in
+        result ≡ Command.GetBucketData (a 1) (a 2) (a 3) (a 4) (a 5) }
 {
     Command::GetBucketData {
         bucket: words[1],
@@ -67,7 +71,7 @@ pub fn get_bucket_data(words: &[u32]) -> Command
 
 pub fn insert_fence(words: &[u32]) -> Command
     requires { 2 < length words.now }
-    ensures { result ≡ Command.InsertFence (argument words.now 1) (argument words.now 2) }
+    ensures { let a = argument words.now in result ≡ Command.InsertFence (a 1) (a 2) }
 {
     Command::InsertFence {
         release_low: words[1],
@@ -77,7 +81,7 @@ pub fn insert_fence(words: &[u32]) -> Command
 
 pub fn wait_token(words: &[u32]) -> Command
     requires { 3 < length words.now }
-    ensures { result ≡ Command.WaitToken (argument words.now 1) (argument words.now 2) (argument words.now 3) }
+    ensures { let a = argument words.now in result ≡ Command.WaitToken (a 1) (a 2) (a 3) }
 {
     Command::WaitToken {
         stream: words[1],
@@ -88,7 +92,7 @@ pub fn wait_token(words: &[u32]) -> Command
 
 pub fn create_image(words: &[u32]) -> Command
     requires { 3 < length words.now }
-    ensures { result ≡ Command.CreateImage (argument words.now 1) (argument words.now 2) (argument words.now 3) }
+    ensures { let a = argument words.now in result ≡ Command.CreateImage (a 1) (a 2) (a 3) }
 {
     Command::CreateImage {
         image: words[1],
@@ -99,7 +103,8 @@ pub fn create_image(words: &[u32]) -> Command
 
 pub fn clear_rect(words: &[u32]) -> Command
     requires { 6 < length words.now }
-    ensures { result ≡ Command.ClearRect (argument words.now 1) (argument words.now 2) (argument words.now 3) (argument words.now 4) (argument words.now 5) (argument words.now 6) }
+    ensures { let a = argument words.now in
+        result ≡ Command.ClearRect (a 1) (a 2) (a 3) (a 4) (a 5) (a 6) }
 {
     Command::ClearRect {
         image: words[1],
@@ -113,7 +118,8 @@ pub fn clear_rect(words: &[u32]) -> Command
 
 pub fn copy_rect(words: &[u32]) -> Command
     requires { 8 < length words.now }
-    ensures { result ≡ Command.CopyRect (argument words.now 1) (argument words.now 2) (argument words.now 3) (argument words.now 4) (argument words.now 5) (argument words.now 6) (argument words.now 7) (argument words.now 8) }
+    ensures { let a = argument words.now in
+        result ≡ Command.CopyRect (a 1) (a 2) (a 3) (a 4) (a 5) (a 6) (a 7) (a 8) }
 {
     Command::CopyRect {
         source: words[1],
@@ -129,7 +135,8 @@ pub fn copy_rect(words: &[u32]) -> Command
 
 pub fn upload_rect(words: &[u32]) -> Command
     requires { 8 < length words.now }
-    ensures { result ≡ Command.UploadRect (argument words.now 1) (argument words.now 2) (argument words.now 3) (argument words.now 4) (argument words.now 5) (argument words.now 6) (argument words.now 7) (argument words.now 8) }
+    ensures { let a = argument words.now in
+        result ≡ Command.UploadRect (a 1) (a 2) (a 3) (a 4) (a 5) (a 6) (a 7) (a 8) }
 {
     Command::UploadRect {
         image: words[1],
@@ -145,7 +152,8 @@ pub fn upload_rect(words: &[u32]) -> Command
 
 pub fn upload_bucket(words: &[u32]) -> Command
     requires { 7 < length words.now }
-    ensures { result ≡ Command.UploadBucket (argument words.now 1) (argument words.now 2) (argument words.now 3) (argument words.now 4) (argument words.now 5) (argument words.now 6) (argument words.now 7) }
+    ensures { let a = argument words.now in
+        result ≡ Command.UploadBucket (a 1) (a 2) (a 3) (a 4) (a 5) (a 6) (a 7) }
 {
     Command::UploadBucket {
         image: words[1],
@@ -160,7 +168,7 @@ pub fn upload_bucket(words: &[u32]) -> Command
 
 pub fn create_buffer(words: &[u32]) -> Command
     requires { 2 < length words.now }
-    ensures { result ≡ Command.CreateBuffer (argument words.now 1) (argument words.now 2) }
+    ensures { let a = argument words.now in result ≡ Command.CreateBuffer (a 1) (a 2) }
 {
     Command::CreateBuffer {
         buffer: words[1],
@@ -170,7 +178,8 @@ pub fn create_buffer(words: &[u32]) -> Command
 
 pub fn buffer_data(words: &[u32]) -> Command
     requires { 5 < length words.now }
-    ensures { result ≡ Command.BufferData (argument words.now 1) (argument words.now 2) (argument words.now 3) (argument words.now 4) (argument words.now 5) }
+    ensures { let a = argument words.now in
+        result ≡ Command.BufferData (a 1) (a 2) (a 3) (a 4) (a 5) }
 {
     Command::BufferData {
         buffer: words[1],
@@ -183,7 +192,8 @@ pub fn buffer_data(words: &[u32]) -> Command
 
 pub fn upload_buffer(words: &[u32]) -> Command
     requires { 8 < length words.now }
-    ensures { result ≡ Command.UploadBuffer (argument words.now 1) (argument words.now 2) (argument words.now 3) (argument words.now 4) (argument words.now 5) (argument words.now 6) (argument words.now 7) (argument words.now 8) }
+    ensures { let a = argument words.now in
+        result ≡ Command.UploadBuffer (a 1) (a 2) (a 3) (a 4) (a 5) (a 6) (a 7) (a 8) }
 {
     Command::UploadBuffer {
         image: words[1],
@@ -199,7 +209,8 @@ pub fn upload_buffer(words: &[u32]) -> Command
 
 pub fn wait_sync_token(words: &[u32]) -> Command
     requires { 5 < length words.now }
-    ensures { result ≡ Command.WaitSyncToken (argument words.now 1) (argument words.now 2) (argument words.now 3) (argument words.now 4) (argument words.now 5) }
+    ensures { let a = argument words.now in
+        result ≡ Command.WaitSyncToken (a 1) (a 2) (a 3) (a 4) (a 5) }
 {
     Command::WaitSyncToken {
         namespace: words[1],

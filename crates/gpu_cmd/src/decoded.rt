@@ -57,7 +57,8 @@ fn checked(ring_words: usize, command: Command, facts: &StreamFacts) -> Result<D
 /// what it reads and writes, and that the stream's quota holds with its transfer words too.
 pub fn decode(words: &[u32], facts: &StreamFacts) -> Result<Decoded, CmdError>
     requires lawful { IsLawfulFacts facts.now }
-    requires head { IsOkAnd (headed (slice_index words.now 0) facts.now) (λ shape. length words.now ≡ shape.ring_words) }
+    requires head { IsOkAnd (headed (slice_index words.now 0) facts.now)
+        (λ shape. length words.now ≡ shape.ring_words) }
 
     ensures verdict { result ≡ decoded words.now facts.now }
     ensures none { IfOk result (λ found. found.count ≡ 0 → found.from ≡ 0) }

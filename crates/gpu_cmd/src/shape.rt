@@ -5,8 +5,7 @@ ghost use Rattle.gpu_cmd.specs.Checks.{headed};
 
 use crate::error::CmdError;
 use crate::facts::{MOST_FETCHED, StreamFacts};
-use crate::ids;
-use crate::table::fits;
+use crate::table::{fits, ring_words};
 use gpu_word::split;
 
 /// What a header says that passed checks 1 to 5.
@@ -49,11 +48,7 @@ pub fn head(entry: u32, facts: &StreamFacts) -> Result<Shape, CmdError>
     if !fits {
         return Err(CmdError::InvalidArguments);
     }
-    let ring_words = if header.id == ids::NOOP {
-        1
-    } else {
-        header.size
-    };
+    let ring_words = ring_words(header.id, header.size);
     if u64::from(facts.fetched) + u64::from(ring_words) > MOST_FETCHED {
         return Err(CmdError::Quota);
     }

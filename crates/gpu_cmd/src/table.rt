@@ -1,6 +1,6 @@
 ghost use Rattle.std.specs.Prelude.{◌≡◌, length, IfSome, IsSomeAnd, IsTrue};
 ghost use Rattle.std.specs.Option.{option_map};
-ghost use Rattle.gpu_cmd.specs.Table.{row_of, fits, argument};
+ghost use Rattle.gpu_cmd.specs.Table.{row_of, fits, ring_words_of, argument};
 
 use crate::command::Command;
 use crate::{arguments, ids};
@@ -34,6 +34,13 @@ pub(crate) fn fits(id: u32, size: u32) -> Option<bool>
         _ => return None,
     };
     Some(fits)
+}
+
+// How many of so many entries are fetched: of a Noop its header alone, of every other command all.
+pub(crate) fn ring_words(id: u32, size: u32) -> u32
+    ensures { result ≡ ring_words_of id size }
+{
+    if id == ids::NOOP { 1 } else { size }
 }
 
 // The command of an id that a command has, by its ring words.

@@ -5,28 +5,28 @@ use crate::{Areas, CmdError, Decoded, Shape, Span, StreamFacts, decode, head};
 use CmdError::{InvalidArguments, InvalidSize, OutOfBounds, Quota, UnknownCommand};
 use std::process::Abort;
 
-/// The header of least size of each command, with that size.
-const LEAST: [(u32, u32); 20] = [
-    (0x0000_0001, 1),
-    (0x0020_0002, 2),
-    (0x0040_0003, 3),
-    (0x0060_0006, 6),
-    (0x0080_0004, 4),
-    (0x00a0_0007, 7),
-    (0x00c0_0006, 6),
-    (0x2000_0003, 3),
-    (0x2020_0004, 4),
-    (0x2040_0004, 4),
-    (0x2060_0002, 2),
-    (0x2080_0007, 7),
-    (0x20a0_0009, 9),
-    (0x20c0_0009, 9),
-    (0x20e0_0008, 8),
-    (0x2100_0003, 3),
-    (0x2120_0002, 2),
-    (0x2140_0006, 6),
-    (0x2160_0009, 9),
-    (0x2180_0006, 6),
+/// The header of least size of each command, with that size, and what is wrong with one entry less.
+const LEAST: [(u32, u32, CmdError); 20] = [
+    (0x0000_0001, 1, InvalidSize),
+    (0x0020_0002, 2, InvalidArguments),
+    (0x0040_0003, 3, InvalidArguments),
+    (0x0060_0006, 6, InvalidArguments),
+    (0x0080_0004, 4, InvalidArguments),
+    (0x00a0_0007, 7, InvalidArguments),
+    (0x00c0_0006, 6, InvalidArguments),
+    (0x2000_0003, 3, InvalidArguments),
+    (0x2020_0004, 4, InvalidArguments),
+    (0x2040_0004, 4, InvalidArguments),
+    (0x2060_0002, 2, InvalidArguments),
+    (0x2080_0007, 7, InvalidArguments),
+    (0x20a0_0009, 9, InvalidArguments),
+    (0x20c0_0009, 9, InvalidArguments),
+    (0x20e0_0008, 8, InvalidArguments),
+    (0x2100_0003, 3, InvalidArguments),
+    (0x2120_0002, 2, InvalidArguments),
+    (0x2140_0006, 6, InvalidArguments),
+    (0x2160_0009, 9, InvalidArguments),
+    (0x2180_0006, 6, InvalidArguments),
 ];
 
 /// Headers with `get`, `put` and the words fetched before, and the ring words or the first check that fails.
@@ -129,6 +129,16 @@ fn areas() -> Areas {
     }
 }
 
+fn areas_with(ring: u32, base: u32, words: u32) -> Areas {
+    let mut memories = [None; 16];
+    memories[2] = Some(Span { base, words });
+    Areas {
+        ring,
+        memories,
+        results: [None; 16],
+    }
+}
+
 fn facts(get: u32, put: u32, fetched: u32) -> StreamFacts {
     StreamFacts {
         areas: areas(),
@@ -166,17 +176,12 @@ fn decoded(rt: &impl Abort, words: &[u32; 9], fetched: u32) -> Result<Decoded, C
 
 #[test]
 fn commands_are_judged(rt: HostRuntime) {
-    for (header, size) in LEAST {
-        let less = if size == 1 {
-            InvalidSize
-        } else {
-            InvalidArguments
-        };
-        let facts = facts(0, 15, 0);
-        let sizes = [header, header.saturating_sub(1)].map(|entry| shape_of(&rt, entry, &facts).map(
-            |shape| shape.size,
-        ));
-        assert_eq!(rt; sizes, [Ok(size), Err(less)], "{header:x}");
+    let at_start = facts(0, 15, 0);
+    for (header, size, less) in LEAST {
+        let shape = shape_of(&rt, header, &at_start);
+        assert_eq!(rt; shape.map(|shape| shape.size), Ok(size), "{header:x}");
+        let shape = shape_of(&rt, header.saturating_sub(1), &at_start);
+        assert_eq!(rt; shape, Err(less), "{header:x}");
     }
     for (header, get, put, fetched, want) in HEADS {
         let shape = shape_of(&rt, header, &facts(get, put, fetched));
@@ -199,15 +204,10 @@ fn commands_are_judged(rt: HostRuntime) {
     assert_eq!(rt; decoded(&rt, &five_bytes, 1_048_569), Err(Quota));
     assert_eq!(rt; decoded(&rt, &nowhere, 1_048_569), Err(OutOfBounds));
     for (ring, base, words) in UNLAWFUL {
-        let mut memories = [None; 16];
-        memories[2] = Some(Span { base, words });
-        let results = [None; 16];
-        let unlawful = Areas {
-            ring,
-            memories,
-            results,
-        };
-        assert!(rt; !unlawful.is_lawful(), "{ring} {base} {words}");
+        assert!(rt;
+            !areas_with(ring, base, words).is_lawful(),
+            "{ring} {base} {words}"
+        );
     }
     let areas = areas();
     assert!(rt; areas.is_lawful());
