@@ -1,0 +1,12 @@
+pub use Rattle.gpu_word.specs.Header
+pub use Rattle.gpu_word.specs.Formats
+pub mod Errors
+pub mod Outcome
+pub mod Table
+pub mod Spans
+pub mod Lawful
+pub mod Tiling
+pub mod Ranges
+pub mod Checks
+pub mod Copied
+pub mod Laws

@@ -1,0 +1,71 @@
+ghost use Rattle.std.specs.Prelude.{◌≡◌, ◌+◌, ◌<◌, ◌≤◌, ◌^◌, IfOk, IsOkAnd, length, slice_index};
+ghost use Rattle.gpu_cmd.specs.Lawful.{IsLawfulFacts, most_fetched, places_of};
+ghost use Rattle.gpu_cmd.specs.Checks.{headed, checked, decoded};
+
+use crate::command::Command;
+use crate::error::CmdError;
+use crate::facts::{MOST_FETCHED, StreamFacts};
+use crate::table;
+use gpu_word::split;
+
+/// A command that passed checks 1 to 10, and the transfer places that it still needs.
+#[derive(Clone, Copy, Debug, PartialEq, Eq)]
+pub struct Decoded {
+    /// The command.
+    pub command: Command,
+    /// The first transfer place, or 0 where none is needed.
+    pub from: u32,
+    /// How many transfer places.
+    pub count: u32,
+}
+
+// Checks 6 to 10 on a command with so many ring words.
+#[tactic(auto, unfolding(crate::specs::Checks::checked))]
+fn checked(ring_words: usize, command: Command, facts: &StreamFacts) -> Result<Decoded, CmdError>
+    requires lawful { IsLawfulFacts facts.now }
+    requires few { ring_words < 2 ^ 21 }
+
+    ensures verdict { result ≡ checked ring_words command facts.now }
+    ensures none { IfOk result (λ found. found.count ≡ 0 → found.from ≡ 0) }
+    ensures transfer { IfOk result (λ found. 0 < found.count → facts.now.areas.ring ≤ found.from) }
+    ensures places { IfOk result (λ found. found.from + found.count ≤ places_of facts.now.areas) }
+    ensures quota { IfOk result (λ found. facts.now.fetched + ring_words + found.count ≤ most_fetched) }
+{
+    if !command.has_format() || !command.has_slot() {
+        return Err(CmdError::InvalidArguments);
+    }
+    if !command.has_data(ring_words) || !command.has_aligned_results() {
+        return Err(CmdError::InvalidArguments);
+    }
+    if !command.has_memories(&facts.areas) {
+        return Err(CmdError::OutOfBounds);
+    }
+    let places = command.transfer_places(&facts.areas);
+    let fetched = u64::from(facts.fetched) + ring_words as u64 + u64::from(places.count);
+    if fetched > MOST_FETCHED {
+        return Err(CmdError::Quota);
+    }
+    Ok(Decoded {
+        command,
+        from: places.from,
+        count: places.count,
+    })
+}
+
+/// The checks on all ring words of a command whose header passed `head`, in order: that its format is one, that its
+/// bucket or buffer and their size are, that its data and its offsets into result memories are, that its memories hold
+/// what it reads and writes, and that the stream's quota holds with its transfer words too.
+pub fn decode(words: &[u32], facts: &StreamFacts) -> Result<Decoded, CmdError>
+    requires lawful { IsLawfulFacts facts.now }
+    requires head { IsOkAnd (headed (slice_index words.now 0) facts.now)
+        (λ shape. length words.now ≡ shape.ring_words) }
+
+    ensures verdict { result ≡ decoded words.now facts.now }
+    ensures none { IfOk result (λ found. found.count ≡ 0 → found.from ≡ 0) }
+    ensures transfer { IfOk result (λ found. 0 < found.count → facts.now.areas.ring ≤ found.from) }
+    ensures places { IfOk result (λ found. found.from + found.count ≤ places_of facts.now.areas) }
+    ensures quota { IfOk result (λ found. facts.now.fetched + length words.now + found.count ≤ most_fetched) }
+{
+    let command = table::command(split(words[0]).id, words);
+    checked(words.len(), command, facts)
+}
