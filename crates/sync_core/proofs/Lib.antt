@@ -1,3 +1,9 @@
 mod Lists
 mod Keeps
 mod Stands
+mod Numbers
+mod Waits
+mod Ended
+mod Rising
+mod Targets
+mod Theorems

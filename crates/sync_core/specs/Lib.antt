@@ -2,3 +2,4 @@ pub mod Standing
 pub mod Events
 pub mod Pending
 pub mod Core
+pub mod Laws

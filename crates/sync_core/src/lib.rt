@@ -4,6 +4,7 @@
 mod ending;
 mod judge;
 mod judged;
+mod laws;
 mod stream;
 mod sweep;
 mod sync;
@@ -11,6 +12,10 @@ mod wait;
 
 pub use ending::{Ending, How};
 pub use judged::{Judged, OrderFault};
+pub use laws::{
+    ended_stays_ended, kept_is_decided, least_can_run, orders_are_positive, orders_rise,
+    waits_form_no_cycle, waits_go_down, waits_rise,
+};
 pub use sync::SyncCore;
 
 #[cfg(test)]

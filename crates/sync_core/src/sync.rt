@@ -1,4 +1,4 @@
-ghost use Rattle.std.specs.Prelude.{◌≡◌, ◌↔◌, ℕ, ◌+◌, ◌<◌, ◌≤◌, ◌^◌, List, [], ◌∷◌, length, true, false, Ok, Err, OnOk, OnErr, IfOk, IsErrOf};
+ghost use Rattle.std.specs.Prelude.{◌≡◌, ◌↔◌, ℕ, ◌+◌, ◌<◌, ◌≤◌, ◌^◌, List, [], ◌∷◌, length, true, false, Ok, Err, OnOk, OnErr, IfOk, IsSome, IsErrOf};
 ghost use Rattle.sync_core.specs.Standing.{at, IsKnown, first_order};
 ghost use Rattle.sync_core.specs.Events.{SyncEvent, Ordered, Waited, Released, Finished, WasLost, WasClosed};
 ghost use Rattle.sync_core.specs.Core.{StandsFor, left_of, blocked, judgement};
@@ -41,6 +41,7 @@ impl SyncCore {
     pub fn make(alloc: Global, streams: u32) -> Result<SyncCore, Memory>
         requires { streams ≤ 16 }
         ensures count { IfOk result (λ core. length core.streams ≡ streams) }
+        ensures drawn { IfOk result (λ core. core.drawn ≡ 0) }
         ensures stands { IfOk result (λ core. StandsFor core []) }
     {
         let mut all = Vec::with_capacity(alloc, streams as usize)?;
@@ -57,7 +58,8 @@ impl SyncCore {
 
     /// The first unprocessed number of stream s, or `None` where it has none.
     pub fn front(&self, s: u32) -> Option<u32>
-        ensures { result ≡ first_order (left_of self.now s) }
+        ensures value { result ≡ first_order (left_of self.now s) }
+        ensures variant { IsSome result ↔ (0 < length (left_of self.now s)) }
     {
         match stream_at(self.streams.as_slice(), s) {
             Some(stream) => stream.first(),
@@ -84,12 +86,12 @@ impl SyncCore {
 
     /// Draws the next order number for stream s, and judges each fence (stream, release).
     ///
-    /// A lost stream draws no number, and a closed one asks for none.
+    /// A lost stream draws no number.
     pub fn order(&mut self, s: u32, fences: &[(u32, u64)]) -> Result<u32, OrderFault>
         requires known { IsKnown (length self.old.streams) s }
-        requires open { (at self.old.streams s).closed ≡ false }
         requires room { self.old.drawn + 1 < 2 ^ 32 }
         ensures number { IfOk result (λ n. n ≡ self.old.drawn + 1) }
+        ensures drawn { OnOk result (self.new.drawn ≡ self.old.drawn + 1) }
         ensures count { length self.new.streams ≡ length self.old.streams }
         ensures stands { OnOk result ((h : List SyncEvent) → StandsFor self.old h → StandsFor self.new ((s, Ordered fences.now) ∷ h)) }
         ensures lost { IsErrOf result OrderFault.Lost ↔ ((at self.old.streams s).lost ≡ true) }
@@ -118,6 +120,7 @@ impl SyncCore {
     pub fn wait(&mut self, s: u32, t: u32, r: u64) -> Result<Judged, Memory>
         requires front { 0 < length (left_of self.old s) }
         ensures judged { IfOk result (λ j. j ≡ judgement self.old s t r) }
+        ensures drawn { self.new.drawn ≡ self.old.drawn }
         ensures count { length self.new.streams ≡ length self.old.streams }
         ensures stands { OnOk result ((h : List SyncEvent) → StandsFor self.old h → StandsFor self.new ((s, Waited t r) ∷ h)) }
         ensures err { OnErr result (self.new ≡ self.old) }
@@ -151,6 +154,7 @@ impl SyncCore {
     /// Raises the release count of stream s to r, where r is greater.
     pub fn release(&mut self, s: u32, r: u64)
         requires known { IsKnown (length self.old.streams) s }
+        ensures drawn { self.new.drawn ≡ self.old.drawn }
         ensures count { length self.new.streams ≡ length self.old.streams }
         ensures stands { (h : List SyncEvent) → StandsFor self.old h → StandsFor self.new ((s, Released r) ∷ h) }
     {
@@ -169,6 +173,7 @@ impl SyncCore {
     pub fn finish(&mut self, s: u32)
         requires front { 0 < length (left_of self.old s) }
         requires free { blocked self.old s ≡ false }
+        ensures drawn { self.new.drawn ≡ self.old.drawn }
         ensures count { length self.new.streams ≡ length self.old.streams }
         ensures stands { (h : List SyncEvent) → StandsFor self.old h → StandsFor self.new ((s, Finished) ∷ h) }
     {
@@ -186,6 +191,7 @@ impl SyncCore {
     /// Loses stream s: its numbers and its own waits go.
     pub fn lose(&mut self, s: u32)
         requires known { IsKnown (length self.old.streams) s }
+        ensures drawn { self.new.drawn ≡ self.old.drawn }
         ensures count { length self.new.streams ≡ length self.old.streams }
         ensures stands { (h : List SyncEvent) → StandsFor self.old h → StandsFor self.new ((s, WasLost) ∷ h) }
     {
@@ -203,6 +209,7 @@ impl SyncCore {
     /// Closes stream s: its numbers and its own waits go, and waits on it end.
     pub fn close(&mut self, s: u32)
         requires known { IsKnown (length self.old.streams) s }
+        ensures drawn { self.new.drawn ≡ self.old.drawn }
         ensures count { length self.new.streams ≡ length self.old.streams }
         ensures stands { (h : List SyncEvent) → StandsFor self.old h → StandsFor self.new ((s, WasClosed) ∷ h) }
     {

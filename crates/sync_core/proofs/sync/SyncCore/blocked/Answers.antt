@@ -13,4 +13,4 @@ blocked_first s n (x ∷ xs) ws e = let same : n ≡ x.order = cc in ap (λ (k :
 pub returns-in-Some : goal.returns-in-Some
 returns-in-Some c =
     c.has_wait_of.ensures ∙ ap (has_wait_of c.args.s c.in-Some.n) (c.as_slice.ensures.value ∙ ap (λ (k : Core). k.pending) c.self.view_is)
-    ∙ blocked_first c.args.s c.in-Some.n (left_of c.args.self.now c.args.s) c.args.self.now.pending (sym c.in-Some.is ∙ c.front.ensures)
+    ∙ blocked_first c.args.s c.in-Some.n (left_of c.args.self.now c.args.s) c.args.self.now.pending (sym c.in-Some.is ∙ c.front.ensures.value)
