@@ -1,9 +1,9 @@
-mod Lists
-mod Keeps
-mod Stands
-mod Numbers
-mod Waits
-mod Ended
-mod Rising
-mod Targets
-mod Theorems
+pub mod Lists
+pub mod Keeps
+pub mod Stands
+pub mod Numbers
+pub mod Waits
+pub mod Ended
+pub mod Rising
+pub mod Targets
+pub mod Theorems

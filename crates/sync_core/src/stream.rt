@@ -80,7 +80,7 @@ impl Stream {
 
     /// The first unprocessed number.
     pub fn front(&self) -> Option<Number>
-        ensures { MatchOption result (self.now.left ≡ []) (λ x. (front_of self.now.left ≡ x.order) × (made_of self.now.left ≡ x.made)) }
+        ensures { MatchOption result (self.now.left ≡ []) (λ x. (front_of self.now.left ≡ x.order) × (made_of self.now.left ≡ x.made) × (0 < length self.now.left)) }
     {
         self.left.front().copied()
     }
