@@ -1,12 +1,12 @@
 -- With all streams at home none is chosen only where no stream has a number.
-use Rattle.std.proofs.Common.{◌≡◌, ℕ, zero, suc, ◌<◌, ◌≤◌, ◌⊎◌, inl, inr, eqb, Bool, true, false, ◌&&◌, not, List, [], ◌∷◌, length, get_or, Option, Some, None, refl, sym, ap, subst, ◌∙◌, arith}
+use Rattle.std.proofs.Common.{◌≡◌, ℕ, zero, suc, ◌<◌, ◌≤◌, ◌⊎◌, inl, inr, Bool, true, false, ◌&&◌, not, List, [], ◌∷◌, length, get_or, refl, sym, ap, subst, ◌∙◌, arith}
 use Rattle.std.specs.Prelude.{nat_lt, is_some, All, map, IsNone}
 use Rattle.std.proofs.lemmas.List.Elements.{All-weaker, All-nil, All-cons, All-map}
 use Rattle.std.proofs.lemmas.Bool.Decides.{nat_tests}
 use Rattle.sync_core.specs.declared.wait.Number.{Number}
 use Rattle.sync_core.specs.declared.wait.Wait.{Wait}
 use Rattle.sync_core.specs.Standing.{Standing, nobody, at, IsKnown, first_order, front_of}
-use Rattle.sync_core.specs.Events.{SyncEvent, standing, left}
+use Rattle.sync_core.specs.Events.{SyncEvent, standing}
 use Rattle.sync_core.specs.Pending.{is_blocked, has_wait_of, pending}
 use Rattle.sync_core.specs.Core.{Core, StandsFor, left_of, blocked}
 use Rattle.sync_core.specs.Laws.{IsLeast}
@@ -14,7 +14,7 @@ use Rattle.sync_core.proofs.Numbers.{Rises, left_rises}
 use Rattle.sync_core.proofs.Targets.{least_can_run}
 use Rattle.seq_sched.specs.declared.seat.Seat.{Seat}
 use Rattle.seq_sched.specs.Seats.{seat_of, AreHome}
-use Rattle.seq_sched.specs.Choice.{can_run, choice, IsChoice, NoneCanRun, NothingLeft}
+use Rattle.seq_sched.specs.Choice.{choice, NoneCanRun, NothingLeft}
 use Rattle.seq_sched.proofs.Least.{upto, choice_none}
 
 abbrev has_front : Core → ℕ → Bool

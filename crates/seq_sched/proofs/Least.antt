@@ -1,13 +1,13 @@
 -- The least of the streams that can run.
-use Rattle.std.proofs.Common.{◌≡◌, ℕ, zero, suc, ◌<◌, ◌≤◌, eqb, Bool, true, false, ◌&&◌, ◌||◌, cond, List, length, Option, Some, None, refl, sym, ap, subst, ◌∙◌, arith}
-use Rattle.std.specs.Prelude.{nat_lt, is_some, option_map, IfSome, IsNone, IsSome}
+use Rattle.std.proofs.Common.{◌≡◌, ℕ, zero, suc, ◌≤◌, eqb, Bool, true, false, ◌&&◌, ◌||◌, cond, List, length, Option, Some, None, refl, sym, ap, subst, arith}
+use Rattle.std.specs.Prelude.{nat_lt, option_map, IfSome, IsNone}
 use Rattle.std.proofs.lemmas.Bool.Decides.{nat_tests}
 use Rattle.sync_core.specs.Standing.{IsKnown}
 use Rattle.sync_core.specs.Core.{Core}
 use Rattle.seq_sched.specs.declared.seat.Seat.{Seat}
 use Rattle.seq_sched.specs.declared.seat.Runner.{Runner}
 use Rattle.seq_sched.specs.Seats.{seat_of}
-use Rattle.seq_sched.specs.Choice.{can_run, runner_of, candidate, goes_before, lesser, least, choice, IsChoice, NoneCanRun}
+use Rattle.seq_sched.specs.Choice.{can_run, runner_of, goes_before, lesser, least, choice, IsChoice, NoneCanRun}
 
 -- what holds of the streams 1 to k and of the next holds of all
 pub upto : (P : ℕ → Type 0) (k : ℕ) → ((t : ℕ) → IsKnown k t → P t) → P (suc k) → (t : ℕ) → IsKnown (suc k) t → P t
