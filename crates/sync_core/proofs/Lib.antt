@@ -1,0 +1,9 @@
+pub mod Lists
+pub mod Keeps
+pub mod Stands
+pub mod Numbers
+pub mod Waits
+pub mod Ended
+pub mod Rising
+pub mod Targets
+pub mod Theorems

@@ -1,0 +1,5 @@
+pub mod Standing
+pub mod Events
+pub mod Pending
+pub mod Core
+pub mod Laws

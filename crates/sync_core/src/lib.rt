@@ -1,0 +1,22 @@
+//! Order numbers, waits between streams, and how they end.
+#![tactic(auto)]
+
+mod ending;
+mod judge;
+mod judged;
+mod laws;
+mod stream;
+mod sweep;
+mod sync;
+mod wait;
+
+pub use ending::{Ending, How};
+pub use judged::{Judged, OrderFault};
+pub use laws::{
+    ended_stays_ended, kept_is_decided, least_can_run, orders_are_positive, orders_rise,
+    waits_form_no_cycle, waits_go_down, waits_rise,
+};
+pub use sync::SyncCore;
+
+#[cfg(test)]
+mod tests;

@@ -1,0 +1,25 @@
+-- The mark of an ending, and what the hooks keep.
+use Rattle.std.specs.Prelude.{ℕ, ◌+◌, ◌*◌, ◌%◌, ◌^◌, ◌<◌, List}
+use Rattle.sync_core.specs.declared.ending.Ending.{Ending}
+use Rattle.sync_core.specs.declared.ending.How.{How}
+use Rattle.sync_core.specs.declared.ending.How.TheVariants.{Release, Guard, Closed}
+
+-- the part of a mark that tells how the wait ended
+abbrev pub kind_of : How → ℕ
+kind_of Release = 0
+kind_of Guard = 1
+kind_of Closed = 2
+
+-- the mark of an ending
+abbrev pub mark : ℕ → Ending → ℕ
+mark base e = (base + 4 * e.order + kind_of e.how) % 2 ^ 32
+
+-- the numbers of an ending are in the ranges of their types
+abbrev pub InRange : Ending → Type 0
+InRange e = (e.stream < 2 ^ 32) × (e.order < 2 ^ 32) × (e.target < 2 ^ 32) × (e.release < 2 ^ 64)
+
+-- what is seen of hooks: the base of their marks, the marks so far, and for how many more there is room
+pub record Marks : Type 0 where
+  pub base : ℕ
+  pub marks : List ℕ
+  pub spare : ℕ
