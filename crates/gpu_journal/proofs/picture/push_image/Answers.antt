@@ -4,7 +4,7 @@ use Rattle.gpu_journal.proofs.Rows.{rows_more, image_done}
 use Rattle.gpu_journal.proofs.picture.push_image.Goals as goal
 
 pub loop-y-preserved : goal.loop-y-preserved
-loop-y-preserved c = rows_more (picture_of c.args.images.now c.args.image) c.args.image c.loop-y.y c.args.out.now.items c.loop-y.out.items c.push_row.new.out.items c.row.result.now c.row.ensures c.in_ok-push_row.ensures c.loop-y.invariant
+loop-y-preserved c = rows_more (picture_of c.args.images.now c.args.image) c.args.image c.loop-y.y c.args.out.now.items c.loop-y.out.items c.push_row.new.out.items c.row.result.now c.row.ensures.row c.in_ok-push_row.ensures c.loop-y.invariant
 
 pub returns : goal.returns
-returns c = image_done (picture_of c.args.images.now c.args.image) c.args.image c.unwrap-width.result.0 c.unwrap-width.result.1 c.loop-y.y c.args.out.now.items c.loop-y.out.items (sym c.size.ensures ∙ c.unwrap-width.ensures) (omega arith) c.loop-y.invariant
+returns c = image_done (picture_of c.args.images.now c.args.image) c.args.image c.unwrap-width.result.0 c.unwrap-width.result.1 c.loop-y.y c.args.out.now.items c.loop-y.out.items (sym c.size.ensures.size ∙ c.unwrap-width.ensures) (omega arith) c.loop-y.invariant
