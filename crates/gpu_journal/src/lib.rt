@@ -15,3 +15,6 @@ pub use journal::Journal;
 pub use picture::picture_text;
 pub use tally::Tally;
 pub use text::{journal_text, stream_text};
+
+#[cfg(test)]
+mod tests;

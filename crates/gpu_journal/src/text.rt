@@ -117,12 +117,7 @@ fn push_tally(out: &mut Vec<u8>, tally: &Tally) -> Result<(), AllocError>
 
 /// The line of a stream: how it ended, and what it counted.
 #[tactic(auto, unfolding(crate::specs::Text::stream_text))]
-pub fn stream_text(
-    alloc: Global,
-    stream: u32,
-    tally: &Tally,
-    end: End,
-) -> Result<Vec<u8>, Memory>
+pub fn stream_text(alloc: Global, stream: u32, tally: &Tally, end: End) -> Result<Vec<u8>, Memory>
     ensures { IfOk result (λ text. text.items ≡ stream_text stream tally.now end) }
 {
     let mut text = Vec::from_slice(alloc, b"stream")?;

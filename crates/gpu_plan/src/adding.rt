@@ -26,11 +26,7 @@ const MOST_FENCES: usize = 16;
 
 // Adds a put for each word, at places that follow one another.
 #[tactic(auto, using(crate::proofs::Lawful::puts_within))]
-fn add_puts(
-    actions: &mut Vec<Action>,
-    place: u32,
-    values: Words<'_>,
-) -> Result<(), AllocError>
+fn add_puts(actions: &mut Vec<Action>, place: u32, values: Words<'_>) -> Result<(), AllocError>
     requires { place + length (words_of values.rest.now) < 2 ^ 32 }
     ensures added { OnOk result (actions.new.items ≡ actions.old.items ++ puts place (map value_of (words_of values.entry.rest.now))) }
     ensures within { All (IsWithin (place + length (words_of values.entry.rest.now))) (puts place (map value_of (words_of values.entry.rest.now))) }

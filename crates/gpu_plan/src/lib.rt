@@ -13,3 +13,6 @@ mod text;
 pub use fault::{Kind, ScriptFault};
 pub use plan::{Action, Fences, Plan, Plans, Priority};
 pub use script::parse;
+
+#[cfg(test)]
+mod tests;

@@ -79,16 +79,16 @@ pub reads_header : (memory : List ℕ) (facts : StreamFacts) (words : List (ℕ 
 reads_header memory facts words error are fits near refused =
     let first : part memory facts.get 1 ≡ slice_index memory facts.get ∷ [] = cut_first memory facts.get 0 (omega arith) in
     rw are (read_by memory facts (words_at facts.get (part memory facts.get 1)) (Err error)
-        (rw first (header_refused facts (slice_index memory facts.get) error near refused))
-        (part_held memory facts.get 1 fits))
+    (rw first (header_refused facts (slice_index memory facts.get) error near refused))
+    (part_held memory facts.get 1 fits))
 
 pub reads_entries : (memory : List ℕ) (facts : StreamFacts) (shape : Shape) (words : List (ℕ × ℕ)) (error : CmdError) → words ≡ words_at facts.get (part memory facts.get shape.ring_words) → facts.get + shape.ring_words ≤ length memory
     → facts.put < facts.areas.ring → 1 ≤ shape.ring_words → headed (slice_index memory facts.get) facts ≡ Ok shape → decoded (part memory facts.get shape.ring_words) facts ≡ Err error → IsRead memory facts words (Err error)
 reads_entries memory facts shape words error are fits near some headed_so refused =
     let values = part memory facts.get shape.ring_words in
     rw are (read_by memory facts (words_at facts.get values) (Err error)
-        (entries_refused facts shape values error near (ap (λ entry. headed entry facts) (part_first memory facts.get shape.ring_words fits some) ∙ headed_so) (length-part memory facts.get shape.ring_words fits) refused)
-        (part_held memory facts.get shape.ring_words fits))
+    (entries_refused facts shape values error near (ap (λ entry. headed entry facts) (part_first memory facts.get shape.ring_words fits some) ∙ headed_so) (length-part memory facts.get shape.ring_words fits) refused)
+    (part_held memory facts.get shape.ring_words fits))
 
 pub reads_command : (memory : List ℕ) (facts : StreamFacts) (shape : Shape) (found : Decoded) (words : List (ℕ × ℕ))
     → words ≡ words_at facts.get (part memory facts.get shape.ring_words) ++ words_at found.from (part memory found.from found.count) → facts.get + shape.ring_words ≤ length memory → found.from + found.count ≤ length memory
@@ -97,8 +97,8 @@ reads_command memory facts shape found words are fits more_fits near some headed
     let values = part memory facts.get shape.ring_words in
     let more = part memory found.from found.count in
     rw are (read_by memory facts (words_at facts.get values ++ words_at found.from more) (Ok found.command)
-        (command_copied facts shape values found more near (ap (λ entry. headed entry facts) (part_first memory facts.get shape.ring_words fits some) ∙ headed_so) (length-part memory facts.get shape.ring_words fits) decoded_so (length-part memory found.from found.count more_fits))
-        (All-append (Held memory) (words_at facts.get values) (words_at found.from more) (part_held memory facts.get shape.ring_words fits) (part_held memory found.from found.count more_fits)))
+    (command_copied facts shape values found more near (ap (λ entry. headed entry facts) (part_first memory facts.get shape.ring_words fits some) ∙ headed_so) (length-part memory facts.get shape.ring_words fits) decoded_so (length-part memory found.from found.count more_fits))
+    (All-append (Held memory) (words_at facts.get values) (words_at found.from more) (part_held memory facts.get shape.ring_words fits) (part_held memory found.from found.count more_fits)))
 
 pub length-words_at : (place : ℕ) (values : List ℕ) → length (words_at place values) ≡ length values
 length-words_at place [] = refl

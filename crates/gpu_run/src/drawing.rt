@@ -43,10 +43,7 @@ fn drawing(command: &Command) -> Option<Op>
 }
 
 /// Executes the command of a verdict. The answer tells whether there was an operation that is done.
-pub(crate) fn draw(
-    images: &mut Images,
-    verdict: &Result<Command, CmdError>,
-) -> Result<bool, Memory>
+pub(crate) fn draw(images: &mut Images, verdict: &Result<Command, CmdError>) -> Result<bool, Memory>
     ensures done { IfOk result (λ done. done ≡ is_drawn images.old (drawing_of verdict.now)) }
     ensures images { OnOk result (images.new ≡ images_after images.old (drawing_of verdict.now)) }
 {

@@ -9,3 +9,6 @@ mod values;
 
 pub use report::Report;
 pub use serial::run_one;
+
+#[cfg(test)]
+mod tests;

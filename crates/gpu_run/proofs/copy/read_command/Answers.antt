@@ -38,7 +38,7 @@ entries_read c =
     let count = c.in-Ok.shape.ring_words in
     let same : count ≡ get + count - get = omega arith in
     reads_entries c.args.memory.now c.args.facts.now c.in-Ok.shape c.push_words-2.new.words.items c.in-Err-decode.error (entries_words c) (omega arith) (omega arith) (omega arith) (sym c.in-Ok.ensures.verdict)
-        (ap (λ n. decoded (part c.args.memory.now get n) c.args.facts.now) same ∙ sym c.in-Err-decode.ensures.verdict)
+    (ap (λ n. decoded (part c.args.memory.now get n) c.args.facts.now) same ∙ sym c.in-Err-decode.ensures.verdict)
 
 pub returns-in-Err-decode-clause-words : goal.returns-in-Err-decode-clause-words
 returns-in-Err-decode-clause-words c = (entries_read c).whole
@@ -72,7 +72,7 @@ command_read c =
     let same : count ≡ get + count - get = omega arith in
     let places = c.in-Ok-decode.ensures.places in
     reads_command c.args.memory.now c.args.facts.now c.in-Ok.shape c.in-Ok-decode.found c.push_words-in-Ok-decode.new.words.items (command_words c) (omega arith) (omega arith) (omega arith) (omega arith) (sym c.in-Ok.ensures.verdict)
-        (ap (λ n. decoded (part c.args.memory.now get n) c.args.facts.now) same ∙ sym c.in-Ok-decode.ensures.verdict)
+    (ap (λ n. decoded (part c.args.memory.now get n) c.args.facts.now) same ∙ sym c.in-Ok-decode.ensures.verdict)
 
 pub returns-in_ok-push_words-in-Ok-decode-clause-words : goal.returns-in_ok-push_words-in-Ok-decode-clause-words
 returns-in_ok-push_words-in-Ok-decode-clause-words c = (command_read c).whole

@@ -31,9 +31,9 @@ loop-facts-init c =
     let ring : c.areas.result.now.ring ≡ plan.areas.ring = ap (λ (areas : Areas). areas.ring) c.areas.ensures.value in
     let event = Order 1 1 (length plan.actions - 1) in
     let first : c.push.new.self.events ≡ event ∷ [] =
-        c.push.ensures.events
-        ∙ ap (λ (actions : List Action). Order 1 1 (length actions - 1) ∷ c.reserve.new.self.events) c.actions.ensures.value
-        ∙ ap (λ (past : List Event). event ∷ past) (c.in_ok-reserve.ensures.events ∙ c.make-journal.ensures) in
+    c.push.ensures.events
+    ∙ ap (λ (actions : List Action). Order 1 1 (length actions - 1) ∷ c.reserve.new.self.events) c.actions.ensures.value
+    ∙ ap (λ (past : List Event). event ∷ past) (c.in_ok-reserve.ensures.events ∙ c.make-journal.ensures) in
     let one : length c.push.new.self.events ≡ 1 = ap (λ (past : List Event). length past) first in
     let left : plan.areas.ring + 2 - length c.push.new.self.events ≡ plan.areas.ring + 1 = omega arith in
     let all : plan.areas.ring + 2 ≡ suc (plan.areas.ring + 1) = omega arith in
@@ -119,8 +119,8 @@ returns c =
     let follows = finish_follows plan put past facts.get facts.fetched images inv.known (omega arith) c.loop-facts-test.false in
     let left : plan.areas.ring + 2 - length past ≡ suc (plan.areas.ring + 1 - length past) = omega arith in
     let whole : serial plan put ≡ Finish 1 1 ∷ past =
-        sym inv.played
-        ∙ ap (λ n. played n plan put past) left
-        ∙ goes_on (plan.areas.ring + 1 - length past) plan put past (Finish 1 1) follows
-        ∙ stays (plan.areas.ring + 1 - length past) plan put (Finish 1 1 ∷ past) (none_after_finish plan put past facts.get facts.fetched images inv.known) in
+    sym inv.played
+    ∙ ap (λ n. played n plan put past) left
+    ∙ goes_on (plan.areas.ring + 1 - length past) plan put past (Finish 1 1) follows
+    ∙ stays (plan.areas.ring + 1 - length past) plan put (Finish 1 1 ∷ past) (none_after_finish plan put past facts.get facts.fetched images inv.known) in
     rw (c.push-2.ensures.events, c.tally_of.ensures) refl ∙ sym (is_finished plan put past facts.get facts.fetched images inv.known whole)
