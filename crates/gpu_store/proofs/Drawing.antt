@@ -130,13 +130,6 @@ row_above width rect texel row last v old mid new fits le same drawn written = r
       ];
 }
 
--- nothing is drawn yet
-pub none_drawn : (width : ℕ) (rect : Rect) (texel : ℕ → ℕ → ℕ) (first last : ℕ) (old : List ℕ) → last ≤ first → IsDrawn width rect texel first last old old
-none_drawn width rect texel first last old le = record { sized = refl; shown = λ x y lt within. undrawn rect.x rect.w x y first last (texel (x - rect.x) (y - rect.y)) (get_or old (y * width + x) 0) le }
-  where
-    undrawn : (left w x y first last shown old : ℕ) → last ≤ first → old ≡ cond (nat_le left x && nat_lt x (left + w) && nat_le first y && nat_lt y last) shown old
-    undrawn left w x y first last shown old le = grind (arith, nat_tests)
-
 outside_rows : (left w x y first last mid old shown : ℕ) → (y < first) ⊎ (last ≤ y)
     → mid ≡ cond (nat_le left x && nat_lt x (left + w) && nat_le first y && nat_lt y last) shown old → mid ≡ old
 outside_rows left w x y first last mid old shown outside is = grind (arith, nat_tests)

@@ -17,10 +17,7 @@ picture width height texels = record { width = width; height = height; texels = 
 pub rows_fit : (rows width height n : ℕ) → rows ≤ height → n ≡ width * height → rows * width ≤ n
 rows_fit rows width height n le is = let far : rows * width ≤ height * width = mul-le-mul_right width le in omega (arith, mul_comm width height)
 
--- a rectangle that fits ends within the columns and within the rows
-pub fits_columns : (image : Picture) (rect : Rect) → fits image rect ≡ true → rect.x + rect.w ≤ image.width
-fits_columns image rect is = grind (arith, nat_tests)
-
+-- a rectangle that fits ends within the rows
 pub fits_rows : (image : Picture) (rect : Rect) → fits image rect ≡ true → rect.y + rect.h ≤ image.height
 fits_rows image rect is = grind (arith, nat_tests)
 

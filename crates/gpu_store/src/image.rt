@@ -1,4 +1,4 @@
-ghost use Rattle.std.specs.Prelude.{◌≡◌, ◌+◌, ◌*◌, ◌≤◌, ◌<◌, length, slice_index, IfOk, IsTrue};
+ghost use Rattle.std.specs.Prelude.{◌≡◌, ◌+◌, ◌*◌, ◌≤◌, ◌<◌, [], length, slice_index, IfOk, IsTrue};
 ghost use Rattle.gpu_store.specs.Picture.{texel_at, row_of, IsWhole, painted, rectangle, fits, texel_count, drawn};
 
 use crate::rect::Rect;
@@ -41,7 +41,9 @@ impl Image {
     }
 
     /// An image without texels, which takes no memory.
-    pub fn empty(alloc: Global) -> Image {
+    pub fn empty(alloc: Global) -> Image
+        ensures { result.texels ≡ [] }
+    {
         Image {
             width: 0,
             height: 0,
