@@ -1,6 +1,6 @@
 -- What a line adds to a lawful plan leaves it lawful.
 use Rattle.std.proofs.Common.{◌≡◌, ℕ, suc, ◌+◌, ◌≤◌, ◌<◌, ◌^◌, ◌-◌, ◌&&◌, Bool, true, false, cond, List, [], ◌∷◌, ◌++◌, length, map, take, Some, None, refl, sym, ap, subst, ◌∙◌, arith, lit<, length-append}
-use Rattle.std.specs.Prelude.{not, unwrap_or, nat_lt,  replicate, slice_get, zero, Option}
+use Rattle.std.specs.Prelude.{not, unwrap_or, nat_lt, replicate, slice_get, zero, Option}
 use Rattle.std.specs.Str.Parse.{digits_value}
 use Rattle.std.proofs.lemmas.Bool.{ltb-true, and_parts}
 use Rattle.std.proofs.lemmas.List.{length-map, take_at, length_push}

@@ -15,10 +15,10 @@ module _ (first : ℕ) (spans : List (Option Span)) (m : ℕ) (new : Span) (tile
   more : words_in (set spans m (Some new)) ≡ words_in spans + new.words
   unfolding words_of_span
   more =
-    let gone : get_or spans m None ≡ None = sym (unwrap_or-slice_get spans m None) ∙ none in
-    let grown = sum_by-set words_of_span spans m (Some new) None (omega arith) in
-    let nothing : words_of_span (get_or spans m None) ≡ 0 = ap words_of_span gone in
-    omega arith
+      let gone : get_or spans m None ≡ None = sym (unwrap_or-slice_get spans m None) ∙ none in
+      let grown = sum_by-set words_of_span spans m (Some new) None (omega arith) in
+      let nothing : words_of_span (get_or spans m None) ≡ 0 = ap words_of_span gone in
+      omega arith
 
   at_new : span_at (set spans m (Some new)) m ≡ Some new
   at_new = unwrap_or-slice_get (set spans m (Some new)) m None ∙ get_or-set_same spans m (Some new) None (omega arith)
@@ -39,10 +39,10 @@ module _ (first : ℕ) (spans : List (Option Span)) (m : ℕ) (new : Span) (tile
     begun = λ i s e. ⊎_elim (λ h. rw h.1 (omega arith)) (λ h. tiles.begun i s h.1) (found i s e);
     ended = λ i s e. ⊎_elim (λ h. rw (h.1, more) (omega arith)) (λ h. let before = tiles.ended i s h.1 in rw more (omega arith)) (found i s e);
     apart = λ i j s t lt e f.
-      ⊎_elim (λ h.
+        ⊎_elim (λ h.
         ⊎_elim (λ k. absurd (omega arith)) (λ k. let before = tiles.ended j t k.1 in inr (rw h.1 (omega arith))) (found j t f))
-      (λ h.
+        (λ h.
         ⊎_elim (λ k. let before = tiles.ended i s h.1 in inl (rw k.1 (omega arith))) (λ k. tiles.apart i j s t lt h.1 k.1) (found j t f))
-      (found i s e);
+        (found i s e);
     few = rw more few;
   }

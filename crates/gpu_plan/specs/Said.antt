@@ -13,7 +13,7 @@ use Rattle.gpu_plan.specs.Outcome.{◌>>=◌, or_kind, unless}
 -- what a line's first word names
 abbrev pub keyword_of : List ℕ → Option Keyword
 keyword_of word =
-  if bytes_eq word (codes "stream") then Some StreamLine else (if bytes_eq word (codes "memory") then Some MemoryLine else (if bytes_eq word (codes "results") then Some ResultsLine else (if bytes_eq word (codes "put") then Some PutLine else (if bytes_eq word (codes "fill") then Some FillLine else (if bytes_eq word (codes "flush") then Some FlushLine else (if bytes_eq word (codes "finish") then Some FinishLine else (if bytes_eq word (codes "token") then Some TokenLine else (if bytes_eq word (codes "close") then Some CloseLine else (if bytes_eq word (codes "dump") then Some DumpLine else None)))))))))
+    if bytes_eq word (codes "stream") then Some StreamLine else (if bytes_eq word (codes "memory") then Some MemoryLine else (if bytes_eq word (codes "results") then Some ResultsLine else (if bytes_eq word (codes "put") then Some PutLine else (if bytes_eq word (codes "fill") then Some FillLine else (if bytes_eq word (codes "flush") then Some FlushLine else (if bytes_eq word (codes "finish") then Some FinishLine else (if bytes_eq word (codes "token") then Some TokenLine else (if bytes_eq word (codes "close") then Some CloseLine else (if bytes_eq word (codes "dump") then Some DumpLine else None)))))))))
 
 -- the priority that a word names
 abbrev pub priority_of : List ℕ → Option Priority
