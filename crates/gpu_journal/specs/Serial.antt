@@ -1,6 +1,8 @@
 -- The one history of a script whose one stream has one flush, the last of its actions.
-use Rattle.std.specs.Prelude.{ℕ, zero, suc, ◌+◌, ◌-◌, ◌==◌, Bool, true, false, not, List, [], ◌∷◌, length, Option, Some, None, Result, if◌then◌else◌, reverse, ◌++◌}
+use Rattle.std.specs.Prelude.{ℕ, zero, suc, ◌+◌, ◌-◌, ◌==◌, Bool, true, false, not, List, [], ◌∷◌, length, Option, Some, None, is_none, ◌&&◌, if◌then◌else◌, reverse, ◌++◌}
+use Rattle.std.specs.List.{list_all}
 use Rattle.std.specs.Option.{option_map_or}
+use Rattle.gpu_cmd.specs.declared.areas.Areas.{Areas}
 use Rattle.gpu_cmd.specs.declared.facts.StreamFacts.{StreamFacts}
 use Rattle.gpu_cmd.specs.Copied.{copied, fetched}
 use Rattle.gpu_store.specs.declared.op.Op.{Op}
@@ -9,7 +11,7 @@ use Rattle.gpu_store.specs.declared.op.Answer.TheVariants.{Done, InvalidValue, I
 use Rattle.gpu_store.specs.Images.{Pictures, apply}
 use Rattle.gpu_plan.specs.declared.plan.Action.{Action}
 use Rattle.gpu_plan.specs.declared.plan.Action.TheVariants.{Put, Flush}
-use Rattle.gpu_plan.specs.Plans.{PlanData, PlansData}
+use Rattle.gpu_plan.specs.Plans.{PlanData}
 use Rattle.gpu_plan.specs.Values.{value_at}
 use Rattle.gpu_journal.specs.declared.event.Event.{Event}
 use Rattle.gpu_journal.specs.declared.event.Event.TheVariants.{Order, Step, Finish}
@@ -83,9 +85,13 @@ ran_of past world = record { events = past; images = world.images; tally = recor
 unfoldable pub finished_run : PlanData → ℕ → Option Ran
 finished_run plan put = if (world plan put (serial plan put)).finished then Some (ran_of (serial plan put) (world plan put (serial plan put))) else None
 
--- the run of plans: there is one where there is one stream, which has one flush and finishes it
+-- the stream has a ring, and neither transfer memories nor result memories
+abbrev pub has_ring_alone : Areas → Bool
+has_ring_alone areas = list_all is_none areas.memories && list_all is_none areas.results
+
+-- the run of plans: there is one where there is one stream, which has a ring alone, and one flush, which it finishes
 abbrev pub run_of : List PlanData → Option Ran
-run_of (plan ∷ []) = option_map_or (finished_run plan) (only_flush plan.actions) None
+run_of (plan ∷ []) = if has_ring_alone plan.areas then option_map_or (finished_run plan) (only_flush plan.actions) None else None
 run_of _ = None
 
 -- the text of a run: its events in their order, its images, and the line of its stream

@@ -7,7 +7,7 @@ use Rattle.gpu_plan.specs.declared.fault.Kind.TheVariants.{Number, Word}
 use Rattle.gpu_plan.specs.declared.fault.LineError.{LineError}
 use Rattle.gpu_plan.specs.declared.fault.LineError.TheVariants as errors
 use Rattle.gpu_plan.specs.Outcome.{◌>>=◌, or_kind, Fails}
-use Rattle.gpu_plan.specs.Script.{pairs_of}
+use Rattle.gpu_plan.specs.Said.{pairs_of}
 
 -- what was read before, and what is still read
 abbrev pub with_front : List (ℕ × ℕ) → Result (List (ℕ × ℕ)) Kind → Result (List (ℕ × ℕ)) Kind

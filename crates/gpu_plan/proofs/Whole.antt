@@ -7,7 +7,8 @@ use Rattle.gpu_plan.specs.declared.fault.ScriptFault.{ScriptFault}
 use Rattle.gpu_plan.specs.declared.fault.ScriptFault.TheVariants as faults
 use Rattle.gpu_plan.specs.Outcome.{FailsAt}
 use Rattle.gpu_plan.specs.Plans.{PlansData}
-use Rattle.gpu_plan.specs.Script.{Draft, streams, no_stream, is_skipped, is_head, numbered, from_body, from_head}
+use Rattle.gpu_plan.specs.Adding.{Draft, streams, no_stream}
+use Rattle.gpu_plan.specs.Script.{is_skipped, is_head, numbered, from_body, from_head}
 
 pub body_goes : (n : ℕ) (d next : Draft) (all rest : List (List ℕ)) (line : List ℕ) (total : Result PlansData (ℕ × Kind)) → all ≡ line ∷ rest → numbered n (words_of line) d ≡ Ok next
     → from_body n d (map words_of all) ≡ total → from_body (n + 1) next (map words_of rest) ≡ total

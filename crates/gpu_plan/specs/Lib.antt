@@ -2,6 +2,8 @@ pub mod Text
 pub mod Numbers
 pub mod Outcome
 pub mod Plans
+pub mod Said
+pub mod Adding
 pub mod Script
 pub mod Drafts
 pub mod Values

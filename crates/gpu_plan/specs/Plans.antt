@@ -1,17 +1,20 @@
 -- What the streams of a script do.
-use Rattle.std.specs.Prelude.{ℕ, ◌^◌, ◌<◌, ◌≤◌, List, length, replicate, None}
-use Rattle.std.specs.List.{All}
+use Rattle.std.specs.Prelude.{◌≡◌, ℕ, ◌^◌, ◌-◌, ◌<◌, ◌≤◌, Bool, true, false, not, List, length, replicate, take, slice_get, sum_by, Some, None, Option, IsTrue}
+use Rattle.std.specs.List.{All, list_all, count_by}
 use Rattle.gpu_cmd.specs.declared.areas.Areas.{Areas}
+use Rattle.gpu_cmd.specs.declared.areas.Span.{Span}
 use Rattle.gpu_cmd.specs.Lawful.{IsLawfulAreas, places_of}
+use Rattle.gpu_cmd.specs.Spans.{words_in}
 use Rattle.gpu_plan.specs.declared.plan.Action.{Action}
 use Rattle.gpu_plan.specs.declared.plan.Action.TheVariants.{Put, Flush, Finish, Token, Close}
 use Rattle.gpu_plan.specs.declared.plan.Priority.{Priority}
 
--- what one stream has and does
+-- what one stream has and does; a dump is the place of an action, and the result place that is read behind it
 pub record PlanData : Type 0 where
   pub areas : Areas
   pub priority : Priority
   pub actions : List Action
+  pub dumps : List (ℕ × ℕ)
 
 -- the areas of a stream that has a ring and no memory
 abbrev pub ring_alone : ℕ → Areas
@@ -25,11 +28,58 @@ IsWithin places Finish = Unit {0}
 IsWithin places (Token token) = Unit {0}
 IsWithin places Close = Unit {0}
 
--- what the format of scripts allows a stream
+-- a flush has at most 16 fences
+abbrev pub HasFewFences : Action → Type 0
+HasFewFences (Put place value) = Unit {0}
+HasFewFences (Flush put fences) = length fences ≤ 16
+HasFewFences Finish = Unit {0}
+HasFewFences (Token token) = Unit {0}
+HasFewFences Close = Unit {0}
+
+-- the action is no Close
+abbrev pub stays_open : Action → Bool
+stays_open (Put place value) = true
+stays_open (Flush put fences) = true
+stays_open Finish = true
+stays_open (Token token) = true
+stays_open Close = false
+
+abbrev pub is_flush : Action → Bool
+is_flush (Put place value) = false
+is_flush (Flush put fences) = true
+is_flush Finish = false
+is_flush (Token token) = false
+is_flush Close = false
+
+-- a Close is among the actions
+abbrev pub is_closed : List Action → Bool
+is_closed actions = not (list_all stays_open actions)
+
+-- what the format of scripts allows a stream; no action but the last is a Close
 pub record IsLawfulPlan (areas : Areas) (actions : List Action) : Type 0 where
   pub laid_out : IsLawfulAreas areas
   pub within : All (IsWithin (places_of areas)) actions
+  pub fenced : All HasFewFences actions
+  pub closes_last : IsTrue (list_all stays_open (take (length actions - 1) actions))
   pub few : length actions ≤ 1000000
+
+-- a dump stands at a Finish, and reads a declared result place
+abbrev pub IsDump : List (Option Span) → List Action → ℕ × ℕ → Type 0
+IsDump results actions dump = (slice_get actions dump.0 ≡ Some Finish) × (dump.1 < words_in results)
+
+-- how many actions the plans have in all
+abbrev pub actions_in : List PlanData → ℕ
+actions_in plans = sum_by (λ plan. length plan.actions) plans
+
+-- how many flushes the plans have in all
+abbrev pub flushes_in : List PlanData → ℕ
+flushes_in plans = sum_by (λ plan. count_by is_flush plan.actions) plans
+
+-- what the format of scripts allows all streams together
+pub record IsLawfulScript (plans : List PlanData) : Type 0 where
+  pub streams : length plans ≤ 16
+  pub actions : actions_in plans ≤ 1000000
+  pub flushes : flushes_in plans ≤ 100000
 
 -- a script: its streams, in the order of their lines
 pub record PlansData : Type 0 where

@@ -1,22 +1,20 @@
-ghost use Rattle.std.specs.Prelude.{◌≡◌, ◌+◌, ◌<◌, ◌≤◌, ◌^◌, ◌++◌, length, map, OnOk, IfOk, vec_len};
-ghost use Rattle.std.specs.List.{All};
+ghost use Rattle.std.specs.Prelude.{◌≡◌, IfOk};
 ghost use Rattle.gpu_plan.specs.Text.{words_of};
-ghost use Rattle.gpu_plan.specs.Numbers.{value_of};
-ghost use Rattle.gpu_plan.specs.Plans.{IsWithin, ring_alone};
+ghost use Rattle.gpu_plan.specs.Plans.{IsLawfulScript, actions_in, flushes_in};
 ghost use Rattle.gpu_plan.specs.Outcome.{Gives};
-ghost use Rattle.gpu_plan.specs.Script.{puts, streams, with_stream, with_puts, with_flush, with_line};
+ghost use Rattle.gpu_plan.specs.Adding.{streams, with_stream, with_memory, with_results, with_puts, with_fill, with_flush, with_finish, with_token, with_close, with_dump, with_line};
 ghost use Rattle.gpu_plan.specs.Drafts.{shown};
 
+use crate::acting::{acting, fresh};
+use crate::begun::Begun;
 use crate::draft::Draft;
 use crate::fault::{Kind, LineError};
-use crate::line::{Keyword, flush_said, keyword_of, put_said, stream_said, value_of};
+use crate::keyword::{Keyword, keyword_of};
+use crate::line::{fill_said, flush_said, none_said, one_said, put_said, stream_said, two_said};
 use crate::plan::{Action, Fences, Plan};
+use crate::spans::{span_at, spans_with};
 use crate::text::Words;
-use gpu_cmd::Areas;
 use std::alloc::{AllocError, Global};
-
-/// The most actions of a script.
-const MOST_ACTIONS: usize = 1_000_000;
 
 /// The most flushes of a script.
 const MOST_FLUSHES: usize = 100_000;
@@ -24,47 +22,14 @@ const MOST_FLUSHES: usize = 100_000;
 /// The most fences of a flush.
 const MOST_FENCES: usize = 16;
 
-// Adds a put for each word, at places that follow one another.
-#[tactic(auto, using(crate::proofs::Lawful::puts_within))]
-fn add_puts(actions: &mut Vec<Action>, place: u32, values: Words<'_>) -> Result<(), AllocError>
-    requires { place + length (words_of values.rest.now) < 2 ^ 32 }
-    ensures added { OnOk result (actions.new.items ≡ actions.old.items ++ puts place (map value_of (words_of values.entry.rest.now))) }
-    ensures within { All (IsWithin (place + length (words_of values.entry.rest.now))) (puts place (map value_of (words_of values.entry.rest.now))) }
-{
-    let mut at = place;
-    for word in values {
-        let value = value_of(word);
-        actions.push(Action::Put { place: at, value })?;
-        at += 1;
-    }
-    Ok(())
-}
-
-// The places of a stream that has no memory yet.
-fn ring_alone(ring: u32) -> Areas
-    ensures { result ≡ ring_alone ring }
-{
-    Areas {
-        ring,
-        memories: [None; 16],
-        results: [None; 16],
-    }
-}
-
-#[tactic(auto, unfolding(crate::specs::Script::with_stream), using(crate::proofs::Lawful::lawful_start))]
+#[tactic(auto, unfolding(crate::specs::Adding::with_stream))]
 fn with_stream(alloc: Global, words: Words<'_>, draft: Draft) -> Result<Draft, LineError>
     ensures { Gives shown result (with_stream (words_of words.entry.rest.now) (shown draft)) }
 {
     let (stream, priority, ring) = stream_said(words)?;
-    let Draft {
-        mut done,
-        last,
-        actions,
-        flushes,
-    } = draft;
-    if let Some(plan) = last {
-        done.push(plan)?;
-    }
+    let actions = draft.actions;
+    let flushes = draft.flushes;
+    let done = streams(draft)?;
     if stream as usize != done.len() + 1 {
         return Err(LineError::Refused(Kind::Order));
     }
@@ -73,85 +38,137 @@ fn with_stream(alloc: Global, words: Words<'_>, draft: Draft) -> Result<Draft, L
     }
     Ok(Draft {
         done,
-        last: Some(Plan {
-            areas: ring_alone(ring),
-            priority,
-            actions: Vec::new(alloc),
-        }),
+        last: Some(Plan::start(alloc, ring, priority)),
         actions,
         flushes,
     })
 }
 
-#[tactic(auto, unfolding(crate::specs::Script::with_puts), using(crate::proofs::Lawful::lawful_puts))]
+#[tactic(auto, unfolding(crate::specs::Adding::with_memory))]
+fn with_memory(words: Words<'_>, draft: Draft) -> Result<Draft, LineError>
+    ensures { Gives shown result (with_memory (words_of words.entry.rest.now) (shown draft)) }
+{
+    let (memory, count) = two_said(words)?;
+    let Begun {
+        done,
+        plan,
+        actions,
+        flushes,
+    } = fresh(draft)?;
+    let areas = *plan.areas();
+    let memories = spans_with(areas.ring, &areas.memories, memory, count)?;
+    Ok(Draft {
+        done,
+        last: Some(plan.with_memories(memories)),
+        actions,
+        flushes,
+    })
+}
+
+#[tactic(auto, unfolding(crate::specs::Adding::with_results))]
+fn with_results(words: Words<'_>, draft: Draft) -> Result<Draft, LineError>
+    ensures { Gives shown result (with_results (words_of words.entry.rest.now) (shown draft)) }
+{
+    let (memory, count) = two_said(words)?;
+    let Begun {
+        done,
+        plan,
+        actions,
+        flushes,
+    } = fresh(draft)?;
+    let areas = *plan.areas();
+    let results = spans_with(0, &areas.results, memory, count)?;
+    Ok(Draft {
+        done,
+        last: Some(plan.with_results(results)),
+        actions,
+        flushes,
+    })
+}
+
+#[tactic(auto, unfolding(crate::specs::Adding::with_puts))]
 fn with_puts(words: Words<'_>, draft: Draft) -> Result<Draft, LineError>
     ensures { Gives shown result (with_puts (words_of words.entry.rest.now) (shown draft)) }
 {
     let said = put_said(words)?;
-    let Draft {
-        done,
-        last,
-        actions: before,
-        flushes,
-    } = draft;
-    let Some(plan) = last else {
-        return Err(LineError::Refused(Kind::Order));
-    };
-    let Plan {
-        areas,
-        priority,
-        mut actions,
-    } = plan;
-    if said.place as usize + said.count > areas.ring as usize {
+    let begun = acting(draft)?;
+    if said.place as usize + said.count > begun.plan.areas().ring as usize {
         return Err(LineError::Refused(Kind::Place));
     }
-    if said.count > MOST_ACTIONS - before {
-        return Err(LineError::Refused(Kind::Limit));
-    }
-    add_puts(&mut actions, said.place, said.values)?;
-    Ok(Draft {
-        done,
-        last: Some(Plan {
-            areas,
-            priority,
-            actions,
-        }),
-        actions: before + said.count,
-        flushes,
-    })
+    begun.put(said.place, said.values, said.count)
 }
 
-#[tactic(auto, unfolding(crate::specs::Script::with_flush), using(crate::proofs::Lawful::lawful_flush))]
+#[tactic(auto, unfolding(crate::specs::Adding::with_fill))]
+fn with_fill(words: Words<'_>, draft: Draft) -> Result<Draft, LineError>
+    ensures { Gives shown result (with_fill (words_of words.entry.rest.now) (shown draft)) }
+{
+    let (memory, said) = fill_said(words)?;
+    let begun = acting(draft)?;
+    let Some(span) = span_at(&begun.plan.areas().memories, memory) else {
+        return Err(LineError::Refused(Kind::Place));
+    };
+    if said.place as usize + said.count > span.words as usize {
+        return Err(LineError::Refused(Kind::Place));
+    }
+    begun.put(span.base + said.place, said.values, said.count)
+}
+
+#[tactic(auto, unfolding(crate::specs::Adding::with_flush))]
 fn with_flush(alloc: Global, words: Words<'_>, draft: Draft) -> Result<Draft, LineError>
     ensures { Gives shown result (with_flush (words_of words.entry.rest.now) (shown draft)) }
 {
     let (put, pairs) = flush_said(alloc, words)?;
-    let Draft {
-        done,
-        last,
-        actions,
-        flushes,
-    } = draft;
-    let Some(mut plan) = last else {
-        return Err(LineError::Refused(Kind::Order));
-    };
-    if actions >= MOST_ACTIONS || flushes >= MOST_FLUSHES || pairs.len() > MOST_FENCES {
+    let begun = acting(draft)?;
+    if begun.flushes >= MOST_FLUSHES || pairs.len() > MOST_FENCES {
         return Err(LineError::Refused(Kind::Limit));
     }
-    plan.actions.push(Action::Flush {
-        put,
-        fences: Fences::of(pairs),
-    })?;
-    Ok(Draft {
-        done,
-        last: Some(plan),
-        actions: actions + 1,
-        flushes: flushes + 1,
-    })
+    begun.flush(put, Fences::of(pairs))
+}
+
+#[tactic(auto, unfolding(crate::specs::Adding::with_finish))]
+fn with_finish(words: Words<'_>, draft: Draft) -> Result<Draft, LineError>
+    ensures { Gives shown result (with_finish (words_of words.entry.rest.now) (shown draft)) }
+{
+    none_said(words)?;
+    let begun = acting(draft)?;
+    begun.act(Action::Finish)
+}
+
+#[tactic(auto, unfolding(crate::specs::Adding::with_token))]
+fn with_token(words: Words<'_>, draft: Draft) -> Result<Draft, LineError>
+    ensures { Gives shown result (with_token (words_of words.entry.rest.now) (shown draft)) }
+{
+    let token = one_said(words)?;
+    let begun = acting(draft)?;
+    begun.act(Action::Token { token })
+}
+
+#[tactic(auto, unfolding(crate::specs::Adding::with_close))]
+fn with_close(words: Words<'_>, draft: Draft) -> Result<Draft, LineError>
+    ensures { Gives shown result (with_close (words_of words.entry.rest.now) (shown draft)) }
+{
+    none_said(words)?;
+    let begun = acting(draft)?;
+    begun.act(Action::Close)
+}
+
+#[tactic(auto, unfolding(crate::specs::Adding::with_dump))]
+fn with_dump(words: Words<'_>, draft: Draft) -> Result<Draft, LineError>
+    ensures { Gives shown result (with_dump (words_of words.entry.rest.now) (shown draft)) }
+{
+    let (memory, index) = two_said(words)?;
+    let begun = acting(draft)?;
+    let Some(span) = span_at(&begun.plan.areas().results, memory) else {
+        return Err(LineError::Refused(Kind::Place));
+    };
+    if index >= span.words {
+        return Err(LineError::Refused(Kind::Place));
+    }
+    begun.dump(span.base + index)
 }
 
 /// The draft with what a line of this name and these words adds.
-#[tactic(auto, unfolding(crate::specs::Script::with_line))]
+#[tactic(auto, unfolding(crate::specs::Adding::with_line))]
 pub(crate) fn with_line(
     alloc: Global,
     name: &[u8],
@@ -160,18 +177,29 @@ pub(crate) fn with_line(
 ) -> Result<Draft, LineError>
     ensures { Gives shown result (with_line name.now (words_of words.entry.rest.now) (shown draft)) }
 {
-    match keyword_of(name) {
+    let Some(keyword) = keyword_of(name) else {
+        return Err(LineError::Refused(Kind::Word));
+    };
+    match keyword {
         Keyword::StreamLine => with_stream(alloc, words, draft),
+        Keyword::MemoryLine => with_memory(words, draft),
+        Keyword::ResultsLine => with_results(words, draft),
         Keyword::PutLine => with_puts(words, draft),
+        Keyword::FillLine => with_fill(words, draft),
         Keyword::FlushLine => with_flush(alloc, words, draft),
-        Keyword::Unknown => Err(LineError::Refused(Kind::Word)),
+        Keyword::FinishLine => with_finish(words, draft),
+        Keyword::TokenLine => with_token(words, draft),
+        Keyword::CloseLine => with_close(words, draft),
+        Keyword::DumpLine => with_dump(words, draft),
     }
 }
 
 /// The streams of a draft, in order.
 pub(crate) fn streams(draft: Draft) -> Result<Vec<Plan>, AllocError>
     ensures streams { IfOk result (λ plans. plans.items ≡ streams (shown draft)) }
-    ensures few { IfOk result (λ plans. vec_len plans ≤ 16) }
+    ensures lawful { IfOk result (λ plans. IsLawfulScript plans.items) }
+    ensures counted { IfOk result (λ plans. actions_in plans.items ≡ draft.actions) }
+    ensures counted_flushes { IfOk result (λ plans. flushes_in plans.items ≡ draft.flushes) }
 {
     let Draft {
         mut done,

@@ -1,5 +1,7 @@
-ghost use Rattle.std.specs.Prelude.{◌≤◌, length, vec_len};
-ghost use Rattle.std.specs.Option.{ForSome};
+ghost use Rattle.std.specs.Prelude.{◌≡◌, ◌+◌, ◌≤◌, length, vec_len};
+ghost use Rattle.std.specs.List.{count_by};
+ghost use Rattle.std.specs.Option.{option_map_or};
+ghost use Rattle.gpu_plan.specs.Plans.{PlanData, is_flush, actions_in, flushes_in};
 
 use crate::plan::Plan;
 
@@ -13,5 +15,6 @@ pub(crate) struct Draft {
     ghost few: { vec_len done ≤ 15 },
     ghost within: { actions ≤ 1000000 },
     ghost flushed: { flushes ≤ 100000 },
-    ghost begun: { ForSome last (λ plan. length plan.actions ≤ actions) },
+    ghost counted: { actions ≡ actions_in done.items + option_map_or (λ (plan : PlanData). length plan.actions) last 0 },
+    ghost counted_flushes: { flushes ≡ flushes_in done.items + option_map_or (λ (plan : PlanData). count_by is_flush plan.actions) last 0 },
 }

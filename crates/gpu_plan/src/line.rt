@@ -3,7 +3,7 @@ ghost use Rattle.std.specs.List.{list_all};
 ghost use Rattle.gpu_plan.specs.Text.{words_of};
 ghost use Rattle.gpu_plan.specs.Numbers.{decimal_of, long_decimal_of, is_value, value_of};
 ghost use Rattle.gpu_plan.specs.Outcome.{Gives, or_kind};
-ghost use Rattle.gpu_plan.specs.Script.{keyword_of, priority_of, are_pairs, pairs_of, stream_said, put_said, flush_said};
+ghost use Rattle.gpu_plan.specs.Said.{priority_of, are_pairs, pairs_of, none_said, one_said, two_said, stream_said, put_said, fill_said, flush_said};
 ghost use Rattle.gpu_plan.specs.declared.fault.Kind.TheVariants.{Number};
 
 use crate::fault::{Kind, LineError};
@@ -11,29 +11,6 @@ use crate::number::{decimal_u32, decimal_u64, hex_u32};
 use crate::plan::Priority;
 use crate::text::Words;
 use std::alloc::Global;
-
-/// What a line's first word names.
-#[derive(Clone, Copy, Debug, PartialEq, Eq)]
-pub(crate) enum Keyword {
-    StreamLine,
-    PutLine,
-    FlushLine,
-    Unknown,
-}
-
-pub(crate) fn keyword_of(word: &[u8]) -> Keyword
-    ensures { result ≡ keyword_of word.now }
-{
-    if word == b"stream".as_slice() {
-        Keyword::StreamLine
-    } else if word == b"put".as_slice() {
-        Keyword::PutLine
-    } else if word == b"flush".as_slice() {
-        Keyword::FlushLine
-    } else {
-        Keyword::Unknown
-    }
-}
 
 fn priority_of(word: &[u8]) -> Option<Priority>
     ensures { result ≡ priority_of word.now }
@@ -67,8 +44,43 @@ fn long_decimal_at(word: &[u8]) -> Result<u64, LineError>
     }
 }
 
+/// The words behind `finish` and `close`: there is none.
+#[tactic(auto, unfolding(crate::specs::Said::none_said))]
+pub(crate) fn none_said(mut words: Words<'_>) -> Result<(), LineError>
+    ensures { Gives (λ said. tt) result (none_said (words_of words.entry.rest.now)) }
+{
+    match words.next() {
+        None => Ok(()),
+        Some(_) => Err(LineError::Refused(Kind::Word)),
+    }
+}
+
+/// The word behind `token`.
+#[tactic(auto, unfolding(crate::specs::Said::one_said))]
+pub(crate) fn one_said(mut words: Words<'_>) -> Result<u32, LineError>
+    ensures { Gives (λ said. said) result (one_said (words_of words.entry.rest.now)) }
+{
+    let (Some(n), None) = (words.next(), words.next()) else {
+        return Err(LineError::Refused(Kind::Word));
+    };
+    decimal_at(n)
+}
+
+/// The words behind `memory`, `results` and `dump`.
+#[tactic(auto, unfolding(crate::specs::Said::two_said))]
+pub(crate) fn two_said(mut words: Words<'_>) -> Result<(u32, u32), LineError>
+    ensures { Gives (λ said. said) result (two_said (words_of words.entry.rest.now)) }
+{
+    let (Some(m), Some(n), None) = (words.next(), words.next(), words.next()) else {
+        return Err(LineError::Refused(Kind::Word));
+    };
+    let first = decimal_at(m)?;
+    let second = decimal_at(n)?;
+    Ok((first, second))
+}
+
 /// The words behind `stream`.
-#[tactic(auto, unfolding(crate::specs::Script::stream_said))]
+#[tactic(auto, unfolding(crate::specs::Said::stream_said))]
 pub(crate) fn stream_said(mut words: Words<'_>) -> Result<(u32, Priority, u32), LineError>
     ensures { Gives (λ said. said) result (stream_said (words_of words.entry.rest.now)) }
 {
@@ -114,7 +126,7 @@ pub(crate) struct Putting<'a> {
 }
 
 /// The words behind `put`.
-#[tactic(auto, unfolding(crate::specs::Script::put_said))]
+#[tactic(auto, unfolding(crate::specs::Said::put_said))]
 pub(crate) fn put_said<'a>(mut words: Words<'a>) -> Result<Putting<'a>, LineError>
     ensures said { Gives (λ said. (said.place, map value_of (words_of said.values.rest.now))) result (put_said (words_of words.entry.rest.now)) }
     ensures counted { IfOk result (λ said. said.count ≡ length (words_of said.values.rest.now)) }
@@ -136,6 +148,25 @@ pub(crate) fn put_said<'a>(mut words: Words<'a>) -> Result<Putting<'a>, LineErro
         }),
         None => Err(LineError::Refused(Kind::Number)),
     }
+}
+
+/// The words behind `fill`: a memory, and what a put line says.
+#[tactic(auto, unfolding(crate::specs::Said::fill_said))]
+pub(crate) fn fill_said<'a>(mut words: Words<'a>) -> Result<(u32, Putting<'a>), LineError>
+    ensures said { Gives (λ said. (said.0, said.1.place, map value_of (words_of said.1.values.rest.now))) result (fill_said (words_of words.entry.rest.now)) }
+    ensures counted { IfOk result (λ said. said.1.count ≡ length (words_of said.1.values.rest.now)) }
+    ensures few { IfOk result (λ said. said.1.count ≤ 2 ^ 63) }
+{
+    let Some(first) = words.next() else {
+        return Err(LineError::Refused(Kind::Word));
+    };
+    let rest = words;
+    let (Some(_), Some(_)) = (words.next(), words.next()) else {
+        return Err(LineError::Refused(Kind::Word));
+    };
+    let memory = decimal_at(first)?;
+    let putting = put_said(rest)?;
+    Ok((memory, putting))
 }
 
 fn are_pairs(words: Words<'_>) -> bool
@@ -174,7 +205,7 @@ fn pairs_of(alloc: Global, words: Words<'_>) -> Result<Vec<(u32, u64)>, LineErro
 }
 
 /// The words behind `flush`.
-#[tactic(auto, unfolding(crate::specs::Script::flush_said))]
+#[tactic(auto, unfolding(crate::specs::Said::flush_said))]
 pub(crate) fn flush_said(
     alloc: Global,
     mut words: Words<'_>,

@@ -1,6 +1,7 @@
-ghost use Rattle.std.specs.Prelude.{◌≡◌, ◌-◌, ◌≤◌, ◌^◌, ◌<◌, length, slice_get};
+ghost use Rattle.std.specs.Prelude.{◌≡◌, ◌-◌, ◌≤◌, length, slice_get};
+ghost use Rattle.std.specs.List.{All};
 ghost use Rattle.gpu_cmd.specs.Lawful.{IsLawfulAreas};
-ghost use Rattle.gpu_plan.specs.Plans.{IsLawfulPlan};
+ghost use Rattle.gpu_plan.specs.Plans.{IsLawfulPlan, IsLawfulScript, IsDump};
 
 use gpu_cmd::Areas;
 use std::marker::Model;
@@ -65,16 +66,18 @@ pub struct Plan {
     pub(crate) areas: Areas,
     pub(crate) priority: Priority,
     pub(crate) actions: Vec<Action>,
+    pub(crate) dumps: Vec<(u32, u32)>,
 }
 
 impl Model for Plan {
-    ghost use Rattle.gpu_plan.specs.Plans.{PlanData, IsLawfulPlan};
+    ghost use Rattle.std.specs.List.{All};
+    ghost use Rattle.gpu_plan.specs.Plans.{PlanData, IsLawfulPlan, IsDump};
 
     ghost Value = { PlanData };
 
-    ghost view = { λ p. record { areas = p.areas; priority = p.priority; actions = p.actions.items } };
+    ghost view = { λ p. record { areas = p.areas; priority = p.priority; actions = p.actions.items; dumps = p.dumps.items } };
 
-    ghost invariant = { λ p. IsLawfulPlan p.areas p.actions.items };
+    ghost invariant = { λ p. IsLawfulPlan p.areas p.actions.items × All (IsDump p.areas.results p.actions.items) p.dumps.items };
 }
 
 impl Plan {
@@ -100,6 +103,15 @@ impl Plan {
     {
         self.priority
     }
+
+    /// What the client reads: for each dump line in order, the place of its Finish among the actions, and the result place
+    /// that is read once this Finish has passed.
+    pub fn dumps(&self) -> &[(u32, u32)]
+        ensures value { result.now ≡ self.now.dumps }
+        ensures lawful { All (IsDump self.now.areas.results self.now.actions) result.now }
+    {
+        &self.dumps
+    }
 }
 
 /// The plans of one script, at most 16, in the order of their stream lines.
@@ -109,19 +121,18 @@ pub struct Plans {
 }
 
 impl Model for Plans {
-    ghost use Rattle.std.specs.Prelude.{◌≤◌, length};
-    ghost use Rattle.gpu_plan.specs.Plans.{PlansData};
+    ghost use Rattle.gpu_plan.specs.Plans.{PlansData, IsLawfulScript};
 
     ghost Value = { PlansData };
 
     ghost view = { λ p. record { plans = p.plans.items } };
 
-    ghost invariant = { λ p. length p.plans.items ≤ 16 };
+    ghost invariant = { λ p. IsLawfulScript p.plans.items };
 }
 
 impl Plans {
     pub(crate) fn of(plans: Vec<Plan>) -> Plans
-        requires { length plans.items ≤ 16 }
+        requires { IsLawfulScript plans.items }
         ensures { result ≡ record { plans = plans.items } }
     {
         Plans { plans }
@@ -130,6 +141,7 @@ impl Plans {
     /// How many streams there are.
     pub fn count(&self) -> u32
         ensures count { result ≡ length self.now.plans }
+        ensures lawful { IsLawfulScript self.now.plans }
         ensures few { result ≤ 16 }
     {
         self.plans.len() as u32

@@ -3,16 +3,32 @@ use std::test::Fail;
 
 #[test]
 fn the_first_bad_line_is_named_with_its_first_kind(rt: HostRuntime) {
-    let cases: [(&[u8], u32, Kind); 18] = [
+    let cases: [(&[u8], u32, Kind); 48] = [
         (b"", 1, Kind::Head),
         (b"\n", 2, Kind::Head),
         (b"#x", 2, Kind::Head),
+        (b"\n \t\r\n#\n", 4, Kind::Head),
         (b"gpu-script 01\n", 1, Kind::Head),
+        (b"GPU-SCRIPT 1\n", 1, Kind::Head),
         (b"gpu-script 1 #x\n", 1, Kind::Head),
+        (b"gpu-script 3\n", 1, Kind::Head),
         (b"gpu-script 1\nbegin\n", 2, Kind::Word),
         (b"gpu-script 1\nstream 5 urgent x", 2, Kind::Word),
+        (b"gpu-script 1\nstream 0 1 low 16", 2, Kind::Word),
+        (b"gpu-script 1\nput 0", 2, Kind::Word),
         (b"gpu-script 1\nput x 1", 2, Kind::Number),
+        (b"gpu-script 1\nput 0 1 #x", 2, Kind::Number),
+        (b"gpu-script 1\nfill 0 1", 2, Kind::Word),
+        (b"gpu-script 1\nfill 0 1 g", 2, Kind::Number),
         (b"gpu-script 1\nflush 0 1", 2, Kind::Word),
+        (b"gpu-script 1\nfinish # x", 2, Kind::Word),
+        // A form feed is a part of its word.
+        (b"gpu-script 1\nfinish\x0c", 2, Kind::Word),
+        (b"gpu-script 1\ntoken", 2, Kind::Word),
+        (b"gpu-script 1\ntoken -1", 2, Kind::Number),
+        (b"gpu-script 1\nclose 1", 2, Kind::Word),
+        (b"gpu-script 1\ndump 0", 2, Kind::Word),
+        (b"gpu-script 1\ndump 0 0", 2, Kind::Order),
         (b"gpu-script 1\nstream 3 normal 8", 2, Kind::Order),
         (b"gpu-script 1\n\n# remark\nput 0 1", 4, Kind::Order),
         (b"gpu-script 1\nstream 1 low 16\nput 15 1 2", 3, Kind::Place),
@@ -34,6 +50,77 @@ fn the_first_bad_line_is_named_with_its_first_kind(rt: HostRuntime) {
             3,
             Kind::Number,
         ),
+        (
+            b"gpu-script 1\nstream 1 low 16\nflush 0 1 1 1 1 1 1 1 1 1 1 1 1 1 1 1 1 1 1 1 1 1 1 1 1 1 1 1 1 1 1 1 1 1 1",
+            3,
+            Kind::Limit,
+        ),
+        (
+            b"gpu-script 1\nstream 1 low 16\nmemory 16 1",
+            3,
+            Kind::Limit,
+        ),
+        (b"gpu-script 1\nstream 1 low 16\nmemory 0 0", 3, Kind::Limit),
+        (
+            b"gpu-script 1\nstream 1 low 16\nmemory 0 65535\nresults 0 65536\nmemory 1 2",
+            5,
+            Kind::Limit,
+        ),
+        (
+            b"gpu-script 1\nstream 1 low 16\nmemory 0 1\nresults 0 1\nmemory 0 0",
+            5,
+            Kind::Double,
+        ),
+        (
+            b"gpu-script 1\nstream 1 low 16\nresults 0 1\nresults 0 1",
+            4,
+            Kind::Double,
+        ),
+        (
+            b"gpu-script 1\nstream 1 low 16\nfinish\nmemory 16 0",
+            4,
+            Kind::Order,
+        ),
+        (
+            b"gpu-script 1\nstream 1 low 16\nfinish\nresults 0 1",
+            4,
+            Kind::Order,
+        ),
+        (
+            b"gpu-script 1\nstream 1 low 16\nresults 0 1\nfill 0 0 1",
+            4,
+            Kind::Place,
+        ),
+        (
+            b"gpu-script 1\nstream 1 low 16\nmemory 0 2\nfill 0 1 1 1",
+            4,
+            Kind::Place,
+        ),
+        (
+            b"gpu-script 1\nstream 1 low 16\nmemory 0 2\nfill 0 4294967295 1",
+            4,
+            Kind::Place,
+        ),
+        (
+            b"gpu-script 1\nstream 1 low 16\nmemory 0 1\ndump 0 0",
+            4,
+            Kind::Place,
+        ),
+        (
+            b"gpu-script 1\nstream 1 low 16\nresults 0 1\ndump 0 1",
+            4,
+            Kind::Place,
+        ),
+        (
+            b"gpu-script 1\nstream 1 low 16\nclose\nclose",
+            4,
+            Kind::Order,
+        ),
+        (
+            b"gpu-script 1\nstream 1 low 16\nclose\ndump 0 0",
+            4,
+            Kind::Order,
+        ),
     ];
     for (text, line, kind) in cases {
         assert!(rt; text.len() <= 16_777_216);
@@ -47,21 +134,49 @@ fn the_first_bad_line_is_named_with_its_first_kind(rt: HostRuntime) {
 
 #[test]
 fn a_script_gives_its_plans(rt: HostRuntime) -> Result<(), Fail> {
-    let text = b"gpu-script 1\nstream 1 normal 16\n put 0\t20400004 A\r\nflush 11 2 7";
+    let text = b" # blanks, and a last line without a line feed
+gpu-script\t1\r
+stream 0000000001 normal 16
+memory 15 65536
+results 3 1
+results 0 65535
+ put 0\t20400004 A\r
+
+fill 15 65535 fFfFfFfF
+token 7
+dump 0 65534
+flush 11 2 7
+close
+stream 2 high 4096
+flush 4294967295 0 1 1 1 1 1 1 1 1 1 1 1 1 1 1 1 1 1 1 1 1 1 1 1 1 1 1 1 1 1 1 18446744073709551615";
     let plans = parse(rt.alloc(), text).ok().ok_or("a script")?;
-    assert_eq!(rt; plans.count(), 1);
+    assert_eq!(rt; plans.count(), 2);
     let plan = plans.plan(1);
     assert_eq!(rt; plan.priority(), Priority::Normal);
     assert_eq!(rt; plan.areas().ring, 16);
+    assert_eq!(rt; plan.areas().places(), 65_552);
     let [
         Action::Put { place: 0, .. },
         Action::Put { place, value },
+        Action::Put {
+            place: last,
+            value: 0xffff_ffff,
+        },
+        Action::Token { token: 7 },
+        Action::Finish,
         Action::Flush { put, fences },
+        Action::Close,
     ] = plan.actions()
     else {
-        return Err(Fail::from("two puts and a flush"));
+        return Err(Fail::from("all actions"));
     };
-    assert_eq!(rt; (*place, *value, *put), (1, 10, 11));
+    assert_eq!(rt; (*place, *value, *last, *put), (1, 10, 65_551, 11));
     assert_eq!(rt; fences.as_slice(), [(2, 7)].as_slice());
+    assert_eq!(rt; plan.dumps(), [(4, 65_535)].as_slice());
+    let [Action::Flush { fences, .. }] = plans.plan(2).actions() else {
+        return Err(Fail::from("a flush"));
+    };
+    assert_eq!(rt; fences.as_slice().len(), 16);
+    assert_eq!(rt; fences.as_slice()[15], (1, u64::MAX));
     Ok(())
 }

@@ -1,5 +1,5 @@
 -- The serial history, one event after the other.
-use Rattle.std.proofs.Common.{◌≡◌, ◌≢◌, ℕ, Bool, zero, suc, ◌+◌, ◌-◌, ◌%◌, ◌<◌, true, false, List, [], ◌∷◌, length, Option, Some, None, Result, Ok, Err, refl, sym, ap, ◌∙◌, arith}
+use Rattle.std.proofs.Common.{◌≡◌, ◌≢◌, ℕ, Bool, zero, suc, ◌+◌, ◌-◌, ◌<◌, true, false, List, [], ◌∷◌, length, Some, None, Result, Ok, Err, refl, sym, ap, ◌∙◌}
 use Rattle.std.specs.Prelude.{IsOk, slice_index}
 use Rattle.std.proofs.Math.Path.{fun_ext}
 use Rattle.std.proofs.Math.Nat.{mod-eq_of_lt}
@@ -13,8 +13,8 @@ use Rattle.gpu_plan.specs.Plans.{PlanData}
 use Rattle.gpu_store.specs.Images.{Pictures}
 use Rattle.gpu_journal.specs.declared.event.Event.{Event}
 use Rattle.gpu_journal.specs.declared.event.Event.TheVariants.{Order, Step, Finish}
-use Rattle.gpu_journal.specs.World.{World, world, moved, facts_of, no_event, drawing_of, images_after}
-use Rattle.gpu_journal.specs.Serial.{memory_of, is_drawn, draws, step_event, event_after, next, played, serial, Ran, ran_of, finished_run}
+use Rattle.gpu_journal.specs.World.{World, world, moved, facts_of, drawing_of, images_after}
+use Rattle.gpu_journal.specs.Serial.{memory_of, is_drawn, draws, step_event, event_after, next, played, serial, finished_run}
 
 -- a history goes on by the event that follows it
 pub goes_on : (more : ℕ) (plan : PlanData) (put : ℕ) (past : List Event) (event : Event) → next plan put past ≡ Some event → played (suc more) plan put past ≡ played more plan put (event ∷ past)

@@ -1,12 +1,13 @@
-ghost use Rattle.std.specs.Prelude.{◌≡◌, ◌<◌, ◌≤◌, length, Some, IfOk};
+ghost use Rattle.std.specs.Prelude.{◌≡◌, ◌<◌, ◌≤◌, length, Some, IfOk, is_none};
+ghost use Rattle.std.specs.List.{list_all};
 ghost use Rattle.gpu_plan.specs.Plans.{PlanData};
-ghost use Rattle.gpu_journal.specs.Serial.{only_flush, finished_run, run_of};
+ghost use Rattle.gpu_journal.specs.Serial.{only_flush, has_ring_alone, finished_run, run_of};
 
 use crate::copy::read_command;
 use crate::drawing::draw;
 use crate::report::Report;
 use crate::values::words_after;
-use gpu_cmd::StreamFacts;
+use gpu_cmd::{Areas, Span, StreamFacts};
 use gpu_journal::{Event, Journal, Tally, Words};
 use gpu_plan::{Action, Plan, Plans};
 use gpu_store::Images;
@@ -31,6 +32,20 @@ fn only_flush(actions: &[Action]) -> Option<u32>
             _ => return None,
         }
     }
+}
+
+// Whether none of the memories is declared.
+fn none_declared(spans: &[Option<Span>; 16]) -> bool
+    ensures { result ≡ list_all is_none spans.now }
+{
+    spans.iter().all(|span| span.is_none())
+}
+
+// Whether the stream has neither transfer memories nor result memories.
+fn has_ring_alone(areas: &Areas) -> bool
+    ensures { result ≡ has_ring_alone areas.now }
+{
+    none_declared(&areas.memories) && none_declared(&areas.results)
 }
 
 // The tally of a stream that consumed so many entries and fetched so many words.
@@ -89,8 +104,8 @@ fn finished_run(alloc: Global, plan: &Plan, put: u32) -> Result<Option<Report>, 
     }))
 }
 
-/// Runs a script by the one-thread rule, where it is of the built form: one stream, whose actions are puts and one last
-/// flush without fences, and whose commands all draw. Every other script gives `None`.
+/// Runs a script by the one-thread rule, where it is of the built form: one stream with a ring alone, whose actions are
+/// puts and one last flush without fences, and whose commands all draw. Every other script gives `None`.
 pub fn run_one(alloc: Global, plans: &Plans) -> Result<Option<Report>, Memory>
     ensures { IfOk result (λ report. report ≡ run_of plans.now.plans) }
 {
@@ -98,6 +113,9 @@ pub fn run_one(alloc: Global, plans: &Plans) -> Result<Option<Report>, Memory>
         return Ok(None);
     }
     let plan = plans.plan(FIRST);
+    if !has_ring_alone(plan.areas()) {
+        return Ok(None);
+    }
     match only_flush(plan.actions()) {
         Some(put) => finished_run(alloc, plan, put),
         None => Ok(None),

@@ -1,4 +1,5 @@
 use crate::status::Status;
+use gpu_plan::Kind;
 use thiserror::Error;
 
 /// The text of a status other than `Ok`, as standard error shows it.
@@ -10,8 +11,12 @@ pub(crate) enum Fault {
     Read,
     #[error("write fault")]
     Write,
+    #[error("refused: line {line}: {kind:?}")]
+    Refused { line: u32, kind: Kind },
     #[error("no memory")]
     Memory,
+    #[error("input too long")]
+    TooLong,
     #[error("not built yet")]
     NotBuilt,
 }
@@ -23,7 +28,9 @@ pub(crate) fn fault_of(status: Status) -> Option<Fault> {
         Status::Usage => Some(Fault::Usage),
         Status::ReadFault => Some(Fault::Read),
         Status::WriteFault => Some(Fault::Write),
+        Status::Refused { line, kind } => Some(Fault::Refused { line, kind }),
         Status::NoMemory => Some(Fault::Memory),
+        Status::TooLong => Some(Fault::TooLong),
         Status::NotBuilt => Some(Fault::NotBuilt),
     }
 }

@@ -4,6 +4,7 @@
 mod fault;
 mod reading;
 mod status;
+mod stop;
 mod top;
 mod writing;
 

@@ -1,6 +1,8 @@
 ghost use Rattle.std.specs.Prelude.{◌≡◌};
 ghost use Rattle.script_main.specs.Top.{code_of};
 
+use gpu_plan::Kind;
+
 /// How the program ended.
 #[derive(Clone, Copy, Debug, PartialEq, Eq)]
 pub enum Status {
@@ -12,9 +14,13 @@ pub enum Status {
     ReadFault,
     /// The output could not be written; a front of it stands.
     WriteFault,
+    /// The input is no script: its first bad line, counted from 1, with its first kind; nothing was written.
+    Refused { line: u32, kind: Kind },
     /// Memory was wanted; nothing was written.
     NoMemory,
-    /// The input is longer than is allowed, or no script of the form that is built so far; nothing was written.
+    /// The input is longer than 16,777,216 bytes; nothing was written.
+    TooLong,
+    /// The input is a script, and not of the form that is built so far; nothing was written.
     NotBuilt,
 }
 
@@ -28,7 +34,9 @@ impl Status {
             Status::Usage => 2,
             Status::ReadFault => 3,
             Status::WriteFault => 4,
+            Status::Refused { .. } => 5,
             Status::NoMemory => 6,
+            Status::TooLong => 7,
             Status::NotBuilt => 12,
         }
     }

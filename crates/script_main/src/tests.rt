@@ -5,6 +5,7 @@ use crate::status::Status;
 use crate::top::plain_top;
 use crate::writing::write_all;
 use gpu_io::{MemorySink, MemorySource};
+use gpu_plan::Kind;
 use std::alloc::{AllocError, Global};
 use std::test::Fail;
 
@@ -134,7 +135,7 @@ fn the_program_ends_as_its_text_says(rt: HostRuntime) -> Result<(), Fail> {
         write_piece: 10,
         write_fails: 0,
     };
-    let cases: [(&str, &[u8], Status, &[u8]); 9] = [
+    let cases: [(&str, &[u8], Status, &[u8]); 12] = [
         ("run", TWO_TEXELS, Status::Ok, TWO_TEXELS_OUTPUT),
         (
             "run",
@@ -144,7 +145,37 @@ fn the_program_ends_as_its_text_says(rt: HostRuntime) -> Result<(), Fail> {
         ),
         ("check", TWO_TEXELS, Status::Usage, b""),
         ("run", b"gpu-script 1\n", Status::NotBuilt, b""),
-        ("run", b"", Status::NotBuilt, b""),
+        (
+            "run",
+            b"",
+            Status::Refused {
+                line: 1,
+                kind: Kind::Head,
+            },
+            b"",
+        ),
+        (
+            "run",
+            b"gpu-script 1\n# remark\nstream 1 low 15\n",
+            Status::Refused {
+                line: 3,
+                kind: Kind::Limit,
+            },
+            b"",
+        ),
+        // A memory, and a finish.
+        (
+            "run",
+            b"gpu-script 1\nstream 1 low 16\nresults 0 1\nflush 0\n",
+            Status::NotBuilt,
+            b"",
+        ),
+        (
+            "run",
+            b"gpu-script 1\nstream 1 low 16\nfinish\nflush 0\n",
+            Status::NotBuilt,
+            b"",
+        ),
         // A put at the ring's length, a Noop, an image that is there already, and a fence.
         (
             "run",

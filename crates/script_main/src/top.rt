@@ -1,12 +1,14 @@
-ghost use Rattle.std.specs.Prelude.{◌≡◌, ◌↔◌, ◌≤◌, ℕ, List, Some, true, false, length, map, string_bytes, IfOk, option_map};
+ghost use Rattle.std.specs.Prelude.{◌≡◌, ◌↔◌, ◌≤◌, ℕ, List, Some, true, false, length, map, string_bytes, IfOk, MatchResult, option_map};
 ghost use Rattle.std.specs.Io.KnownBytes.{Appends};
 ghost use Rattle.gpu_io.specs.Faults.{HasRisen};
 ghost use Rattle.gpu_journal.specs.Serial.{Ran, output};
-ghost use Rattle.script_main.specs.Whole.{most_bytes, ReadsAtMost, AppendsFront};
-ghost use Rattle.script_main.specs.Top.{is_run, built_of, ReadsBuilt, ReadsNotBuilt, Answers};
+ghost use Rattle.gpu_plan.specs.declared.fault.Kind.{Kind};
+ghost use Rattle.script_main.specs.Whole.{most_bytes, ReadsAtMost, ReadsMoreThan, AppendsFront};
+ghost use Rattle.script_main.specs.Top.{is_run, built_of, ReadsBuilt, ReadsRefused, ReadsNotBuilt, Stops, Answers};
 
 use crate::reading::{ReadError, read_all};
 use crate::status::Status;
+use crate::stop::Stop;
 use crate::writing::write_all;
 use gpu_io::{Sink, Source};
 use gpu_journal::{End, journal_text, picture_text, stream_text};
@@ -30,14 +32,19 @@ fn is_run(words: &[String]) -> bool
 
 // What the run of a text leaves, where the text is a script of the built form.
 #[tactic(auto, unfolding(crate::specs::Top::built_of))]
-fn run_text(alloc: Global, text: &[u8]) -> Result<Option<Report>, Memory>
+fn run_text(alloc: Global, text: &[u8]) -> Result<Report, Stop>
     requires { length text.now ≤ most_bytes }
-    ensures { IfOk result (λ report. report ≡ built_of text.now) }
+    ensures { MatchResult result (λ report. built_of text.now ≡ Some report) (λ stop. Stops stop text.now) }
 {
-    match parse(alloc, text) {
-        Ok(plans) => run_one(alloc, &plans),
-        Err(ScriptFault::Refused { .. }) => Ok(None),
-        Err(ScriptFault::Memory) => Err(Memory),
+    let plans = match parse(alloc, text) {
+        Ok(plans) => plans,
+        Err(ScriptFault::Refused { line, kind }) => return Err(Stop::Refused { line, kind }),
+        Err(ScriptFault::Memory) => return Err(Stop::Memory),
+    };
+    match run_one(alloc, &plans) {
+        Ok(Some(report)) => Ok(report),
+        Ok(None) => Err(Stop::NotBuilt),
+        Err(_) => Err(Stop::Memory),
     }
 }
 
@@ -55,20 +62,24 @@ fn output(alloc: Global, report: &Report) -> Result<Vec<u8>, Memory>
 }
 
 // The output of a text's run, where the text is a script of the built form.
-fn output_of(alloc: Global, text: &[u8]) -> Result<Option<Vec<u8>>, Memory>
+fn output_of(alloc: Global, text: &[u8]) -> Result<Vec<u8>, Stop>
     requires { length text.now ≤ most_bytes }
-    ensures { IfOk result (λ written. option_map (λ bytes. bytes.items) written ≡ option_map output (built_of text.now)) }
+    ensures { MatchResult result (λ bytes. option_map output (built_of text.now) ≡ Some bytes.items) (λ stop. Stops stop text.now) }
 {
-    match run_text(alloc, text)? {
-        Some(report) => Ok(Some(output(alloc, &report)?)),
-        None => Ok(None),
+    match run_text(alloc, text) {
+        Ok(report) => match output(alloc, &report) {
+            Ok(bytes) => Ok(bytes),
+            Err(_) => Err(Stop::Memory),
+        },
+        Err(stop) => Err(stop),
     }
 }
 
 /// The program without its threads: it reads a script from the source, runs it, and writes what the run gives to the sink.
 ///
-/// The script has to be of the built form: one stream, whose actions are puts and one last flush without fences, whose
-/// commands all create or clear images, each with the answer Done. It takes no Wait, and always returns.
+/// The script has to be of the built form: one stream with a ring alone, whose actions are puts and one last flush
+/// without fences, whose commands all create or clear images, each with the answer Done. It takes no Wait, and always
+/// returns.
 pub fn plain_top<S: Source, K: Sink>(
     alloc: Global,
     words: &[String],
@@ -80,6 +91,9 @@ pub fn plain_top<S: Source, K: Sink>(
         × ReadsBuilt (S.left source.old) (S.left source.new) ran
         × Appends (K.written sink.old) (K.written sink.new) (output ran) }
     ensures usage { result ≡ Status.Usage ↔ (is_run (map string_bytes words.now) ≡ false) }
+    ensures too_long { result ≡ Status.TooLong → ReadsMoreThan most_bytes (S.left source.old) (S.left source.new) }
+    ensures refused { (line : ℕ) → (kind : Kind) → result ≡ Status.Refused line kind
+        → ReadsRefused (S.left source.old) (S.left source.new) line kind }
     ensures not_built { result ≡ Status.NotBuilt → ReadsNotBuilt (S.left source.old) (S.left source.new) }
 
     // A fault of the source came before a byte past the limit.
@@ -105,13 +119,14 @@ pub fn plain_top<S: Source, K: Sink>(
     let text = match read_all(alloc, source) {
         Ok(text) => text,
         Err(ReadError::Fault) => return Status::ReadFault,
-        Err(ReadError::TooLong) => return Status::NotBuilt,
+        Err(ReadError::TooLong) => return Status::TooLong,
         Err(ReadError::Memory) => return Status::NoMemory,
     };
     let written = match output_of(alloc, &text) {
-        Ok(Some(written)) => written,
-        Ok(None) => return Status::NotBuilt,
-        Err(_) => return Status::NoMemory,
+        Ok(written) => written,
+        Err(Stop::Refused { line, kind }) => return Status::Refused { line, kind },
+        Err(Stop::NotBuilt) => return Status::NotBuilt,
+        Err(Stop::Memory) => return Status::NoMemory,
     };
     match write_all(sink, &written) {
         Ok(()) => Status::Ok,

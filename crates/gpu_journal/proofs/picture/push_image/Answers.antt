@@ -1,4 +1,4 @@
-use Rattle.std.proofs.Common.{◌≡◌, sym, ◌∙◌, arith}
+use Rattle.std.proofs.Common.{sym, ◌∙◌, arith}
 use Rattle.gpu_store.specs.Images.{picture_of}
 use Rattle.gpu_journal.proofs.Rows.{rows_more, image_done}
 use Rattle.gpu_journal.proofs.picture.push_image.Goals as goal

@@ -1,6 +1,6 @@
 use Rattle.std.proofs.Common.{◌≡◌, length}
 use Rattle.gpu_plan.specs.Text.{words_of}
-use Rattle.gpu_plan.specs.Script.{are_pairs}
+use Rattle.gpu_plan.specs.Said.{are_pairs}
 use Rattle.gpu_plan.proofs.line.are_pairs.Given as goal
 
 abbrev pub invariant-loop-words : goal.invariant-loop-words

@@ -1,6 +1,6 @@
 use Rattle.std.proofs.Common.{◌≡◌, length}
 use Rattle.gpu_plan.specs.Text.{words_of}
-use Rattle.gpu_plan.specs.Script.{pairs_of}
+use Rattle.gpu_plan.specs.Said.{pairs_of}
 use Rattle.gpu_plan.proofs.Pairs.{with_front}
 use Rattle.gpu_plan.proofs.line.pairs_of.Given as goal
 

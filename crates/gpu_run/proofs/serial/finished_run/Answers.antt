@@ -1,10 +1,8 @@
-use Rattle.std.proofs.Common.{◌≡◌, ◌≢◌, ℕ, suc, ◌+◌, ◌-◌, ◌≤◌, ◌<◌, true, false, List, [], ◌∷◌, length, Option, Some, None, Result, Ok, Err, refl, sym, ap, subst, ◌∙◌, arith}
+use Rattle.std.proofs.Common.{◌≡◌, ℕ, suc, ◌+◌, ◌-◌, ◌≤◌, ◌<◌, true, false, List, [], ◌∷◌, length, Result, refl, sym, ap, ◌∙◌, arith}
 use Rattle.std.specs.Prelude.{slice_index, IsOk}
-use Rattle.gpu_word.specs.Header.{size_of}
 use Rattle.gpu_cmd.specs.declared.areas.Areas.{Areas}
 use Rattle.gpu_plan.specs.declared.plan.Action.{Action}
-use Rattle.gpu_cmd.specs.declared.facts.StreamFacts.{StreamFacts}
-use Rattle.gpu_cmd.specs.Copied.{copied, fetched, value_in}
+use Rattle.gpu_cmd.specs.Copied.{fetched}
 use Rattle.gpu_cmd.specs.declared.error.CmdError.{CmdError}
 use Rattle.gpu_cmd.specs.declared.command.Command.{Command}
 use Rattle.gpu_cmd.specs.Lawful.{room}
@@ -13,8 +11,8 @@ use Rattle.gpu_store.specs.Images.{Pictures}
 use Rattle.gpu_journal.specs.declared.event.Event.{Event}
 use Rattle.gpu_journal.specs.declared.event.Event.TheVariants.{Order, Step, Finish}
 use Rattle.gpu_journal.specs.World.{world, drawing_of, images_after}
-use Rattle.gpu_journal.specs.Serial.{memory_of, is_drawn, draws, next, played, serial, Ran}
-use Rattle.gpu_run.proofs.Playing.{running, goes_on, stays, order_follows, order_world, step_follows, none_follows, step_world, finish_follows, finish_world, none_after_finish, is_stuck, is_finished, drawn_is_ok, words_of_plan, drawn_of_plan}
+use Rattle.gpu_journal.specs.Serial.{memory_of, draws, played, serial}
+use Rattle.gpu_run.proofs.Playing.{running, goes_on, stays, order_follows, order_world, step_follows, none_follows, step_world, finish_follows, none_after_finish, is_stuck, is_finished, drawn_is_ok, words_of_plan, drawn_of_plan}
 use Rattle.gpu_run.proofs.serial.finished_run.Goals as goal
 
 together : {g g' w w' : ℕ} {i i' : Pictures} → g ≡ g' → w ≡ w' → i ≡ i' → running g w i ≡ running g' w' i'

@@ -1,8 +1,8 @@
 use Rattle.std.proofs.Common.{◌≡◌, ◌+◌, ◌++◌, length, map}
 use Rattle.gpu_plan.specs.Text.{words_of}
 use Rattle.gpu_plan.specs.Numbers.{value_of}
-use Rattle.gpu_plan.specs.Script.{puts}
-use Rattle.gpu_plan.proofs.adding.add_puts.Given as goal
+use Rattle.gpu_plan.specs.Adding.{puts}
+use Rattle.gpu_plan.proofs.growing.add_puts.Given as goal
 
 abbrev pub invariant-loop-word : goal.invariant-loop-word
 invariant-loop-word l = record {

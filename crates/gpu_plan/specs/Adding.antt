@@ -1,0 +1,155 @@
+-- What a line adds to the streams before it.
+use Rattle.std.specs.Prelude.{ℕ, ◌+◌, Bool, not, is_none, ◌&&◌, ◌==◌, nat_le, nat_lt, List, [], ◌∷◌, ◌++◌, length, set, Option, Some, None, option_to_list, Result, Ok, Err}
+use Rattle.gpu_cmd.specs.declared.areas.Areas.{Areas}
+use Rattle.gpu_cmd.specs.declared.areas.Span.{Span}
+use Rattle.gpu_cmd.specs.Spans.{span_at, words_in}
+use Rattle.gpu_plan.specs.declared.fault.Kind.{Kind}
+use Rattle.gpu_plan.specs.declared.fault.Kind.TheVariants.{Word, Order, Double, Place, Limit}
+use Rattle.gpu_plan.specs.declared.plan.Action.{Action}
+use Rattle.gpu_plan.specs.declared.plan.Action.TheVariants.{Put, Flush, Finish, Token, Close}
+use Rattle.gpu_plan.specs.declared.keyword.Keyword.{Keyword}
+use Rattle.gpu_plan.specs.declared.keyword.Keyword.TheVariants.{StreamLine, MemoryLine, ResultsLine, PutLine, FillLine, FlushLine, FinishLine, TokenLine, CloseLine, DumpLine}
+use Rattle.gpu_plan.specs.Outcome.{◌>>=◌, or_kind, unless}
+use Rattle.gpu_plan.specs.Plans.{PlanData, is_closed, ring_alone}
+use Rattle.gpu_plan.specs.Said.{keyword_of, none_said, one_said, two_said, stream_said, put_said, fill_said, flush_said}
+
+-- the streams before, the stream begun last, and how many actions and flushes the script has so far
+pub record Draft : Type 0 where
+  pub done : List PlanData
+  pub last : Option PlanData
+  pub actions : ℕ
+  pub flushes : ℕ
+
+-- a script of which the head line alone was read
+abbrev pub no_stream : Draft
+no_stream = record { done = []; last = None; actions = 0; flushes = 0 }
+
+-- all streams of a draft
+abbrev pub streams : Draft → List PlanData
+streams d = d.done ++ option_to_list d.last
+
+-- the stream begun last, where it may still act
+unfoldable pub acting : Draft → Result PlanData Kind
+acting d = do
+  last ← or_kind Order d.last
+  _ ← unless (not (is_closed last.actions)) Order
+  Ok last
+
+-- the stream begun last, where it has not acted yet
+unfoldable pub fresh : Draft → Result PlanData Kind
+fresh d = do
+  last ← or_kind Order d.last
+  _ ← unless (length last.actions == 0) Order
+  Ok last
+
+-- the draft with some actions added to the stream begun last, whose plan this is
+unfoldable pub added : List Action → PlanData → Draft → Result Draft Kind
+added actions plan d = do
+  _ ← unless (nat_le (d.actions + length actions) 1000000) Limit
+  Ok (record d { last = Some (record plan { actions = plan.actions ++ actions }); actions = d.actions + length actions })
+
+-- values at places that follow one another
+abbrev pub puts : ℕ → List ℕ → List Action
+puts place [] = []
+puts place (value ∷ values) = Put place value ∷ puts (place + 1) values
+
+-- memories that count from a first place on, with one more of so many words behind those before
+unfoldable pub spans_with : ℕ → List (Option Span) → ℕ → ℕ → Result (List (Option Span)) Kind
+spans_with first spans memory words = do
+  _ ← unless (is_none (span_at spans memory)) Double
+  _ ← unless (nat_le memory 15 && nat_le 1 words && nat_le (words_in spans + words) 65536) Limit
+  Ok (set spans memory (Some (record { base = first + words_in spans; words = words })))
+
+-- a stream line begins the stream whose number is one more than those before
+unfoldable pub with_stream : List (List ℕ) → Draft → Result Draft Kind
+with_stream words d = do
+  said ← stream_said words
+  _ ← unless (said.0 == length (streams d) + 1) Order
+  _ ← unless (nat_le 16 said.2 && nat_le said.2 4096 && nat_le said.0 16) Limit
+  Ok (record d { done = streams d; last = Some (record { areas = ring_alone said.2; priority = said.1; actions = []; dumps = [] }) })
+
+-- a memory line declares a transfer memory, whose places follow those of the ring and of the memories before
+unfoldable pub with_memory : List (List ℕ) → Draft → Result Draft Kind
+with_memory words d = do
+  said ← two_said words
+  last ← fresh d
+  memories ← spans_with last.areas.ring last.areas.memories said.0 said.1
+  Ok (record d { last = Some (record last { areas = record last.areas { memories = memories } }) })
+
+-- a results line declares a result memory, whose places follow those of the result memories before
+unfoldable pub with_results : List (List ℕ) → Draft → Result Draft Kind
+with_results words d = do
+  said ← two_said words
+  last ← fresh d
+  results ← spans_with 0 last.areas.results said.0 said.1
+  Ok (record d { last = Some (record last { areas = record last.areas { results = results } }) })
+
+-- a put line puts its values into the ring
+unfoldable pub with_puts : List (List ℕ) → Draft → Result Draft Kind
+with_puts words d = do
+  said ← put_said words
+  last ← acting d
+  _ ← unless (nat_le (said.0 + length said.1) last.areas.ring) Place
+  added (puts said.0 said.1) last d
+
+-- a fill line puts its values into a transfer memory
+unfoldable pub with_fill : List (List ℕ) → Draft → Result Draft Kind
+with_fill words d = do
+  said ← fill_said words
+  last ← acting d
+  span ← or_kind Place (span_at last.areas.memories said.0)
+  _ ← unless (nat_le (said.1 + length said.2) span.words) Place
+  added (puts (span.base + said.1) said.2) last d
+
+-- a flush line adds one flush
+unfoldable pub with_flush : List (List ℕ) → Draft → Result Draft Kind
+with_flush words d = do
+  said ← flush_said words
+  last ← acting d
+  _ ← unless (nat_le (d.flushes + 1) 100000 && nat_le (length said.1) 16) Limit
+  added (Flush said.0 said.1 ∷ []) last (record d { flushes = d.flushes + 1 })
+
+unfoldable pub with_finish : List (List ℕ) → Draft → Result Draft Kind
+with_finish words d = do
+  _ ← none_said words
+  last ← acting d
+  added (Finish ∷ []) last d
+
+unfoldable pub with_token : List (List ℕ) → Draft → Result Draft Kind
+with_token words d = do
+  said ← one_said words
+  last ← acting d
+  added (Token said ∷ []) last d
+
+unfoldable pub with_close : List (List ℕ) → Draft → Result Draft Kind
+with_close words d = do
+  _ ← none_said words
+  last ← acting d
+  added (Close ∷ []) last d
+
+-- a dump line adds a Finish, and notes its place and the result place that is read behind it
+unfoldable pub with_dump : List (List ℕ) → Draft → Result Draft Kind
+with_dump words d = do
+  said ← two_said words
+  last ← acting d
+  span ← or_kind Place (span_at last.areas.results said.0)
+  _ ← unless (nat_lt said.1 span.words) Place
+  added (Finish ∷ []) (record last { dumps = last.dumps ++ (length last.actions, span.base + said.1) ∷ [] }) d
+
+-- what a line adds, by what its first word names
+abbrev pub with_keyword : Keyword → List (List ℕ) → Draft → Result Draft Kind
+with_keyword StreamLine words d = with_stream words d
+with_keyword MemoryLine words d = with_memory words d
+with_keyword ResultsLine words d = with_results words d
+with_keyword PutLine words d = with_puts words d
+with_keyword FillLine words d = with_fill words d
+with_keyword FlushLine words d = with_flush words d
+with_keyword FinishLine words d = with_finish words d
+with_keyword TokenLine words d = with_token words d
+with_keyword CloseLine words d = with_close words d
+with_keyword DumpLine words d = with_dump words d
+
+unfoldable pub with_line : List ℕ → List (List ℕ) → Draft → Result Draft Kind
+with_line name words d = do
+  keyword ← or_kind Word (keyword_of name)
+  with_keyword keyword words d

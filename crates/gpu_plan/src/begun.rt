@@ -1,0 +1,19 @@
+ghost use Rattle.std.specs.Prelude.{◌≡◌, ◌+◌, ◌≤◌, length, vec_len};
+ghost use Rattle.std.specs.List.{count_by};
+ghost use Rattle.gpu_plan.specs.Plans.{is_flush, actions_in, flushes_in};
+
+use crate::plan::Plan;
+
+/// A draft that has a stream: the streams before, the plan of the stream begun last, and how much the script has so far.
+#[derive(Debug, Drop)]
+pub(crate) struct Begun {
+    pub done: Vec<Plan>,
+    pub plan: Plan,
+    pub actions: usize,
+    pub flushes: usize,
+    ghost few: { vec_len done ≤ 15 },
+    ghost within: { actions ≤ 1000000 },
+    ghost flushed: { flushes ≤ 100000 },
+    ghost counted: { actions ≡ actions_in done.items + length plan.actions },
+    ghost counted_flushes: { flushes ≡ flushes_in done.items + count_by is_flush plan.actions },
+}
