@@ -1,0 +1,38 @@
+-- Laws of the state of a stream.
+use Rattle.std.specs.Prelude.{◌≡◌, ℕ, Ok, List, [], ◌∷◌, ◌++◌, map}
+use Rattle.std.specs.List.Sorted.{IsStrictlyIncreasing}
+use Rattle.gpu_word.specs.Header.{size_of}
+use Rattle.gpu_cmd.specs.declared.areas.Areas.{Areas}
+use Rattle.gpu_cmd.specs.Lawful.{IsLawfulAreas}
+use Rattle.stream_state.specs.Writes.{Writes, last_written}
+use Rattle.stream_state.specs.State.{State, IsBounded, result_of}
+use Rattle.stream_state.specs.Verdict.{checked_state}
+use Rattle.stream_state.specs.Steps.{header_in, command_in, writes, Step, stream_of}
+use Rattle.stream_state.specs.Accepted.{IsAccepted}
+
+-- the words of a step make a command that all checks accept in this state
+pub record IsTaken (areas : Areas) (words : List (ℕ × ℕ)) (state : State) : Type 0 where
+  pub accepted : IsAccepted areas words state (command_in words) (size_of (header_in words))
+  pub check : checked_state (command_in words) state ≡ Ok tt
+
+-- each of the steps was taken in the state that those before it left; the newest stands first
+abbrev pub AreTaken : Areas → List Step → Type 0
+AreTaken areas [] = Unit {0}
+AreTaken areas (step ∷ steps) = IsTaken areas step.words (stream_of areas steps) × AreTaken areas steps
+
+-- a stream stays within its quota of words, and each of its words stands for a ring of entries at most
+abbrev pub StatesAreBounded : Type 0
+StatesAreBounded = (areas : Areas) (steps : List Step) → IsLawfulAreas areas → AreTaken areas steps → IsBounded (stream_of areas steps)
+
+-- all that steps wrote to result places, the oldest first; of the steps the newest stands first
+unfoldable pub written : Areas → List Step → Writes
+written areas [] = []
+written areas (step ∷ steps) = written areas steps ++ writes areas step.words (stream_of areas steps)
+
+-- a result place has the last value that a step wrote there, and 0 where none did
+abbrev pub ResultsAreLastWritten : Type 0
+ResultsAreLastWritten = (areas : Areas) (steps : List Step) (place : ℕ) → result_of (stream_of areas steps) place ≡ last_written (written areas steps) place 0
+
+-- a step writes its places in rising order, so each once
+abbrev pub WritesRise : Type 0
+WritesRise = (areas : Areas) (words : List (ℕ × ℕ)) (state : State) → IsStrictlyIncreasing (map (λ write. write.0) (writes areas words state))

@@ -1,0 +1,7 @@
+pub mod Blocks
+pub mod Writes
+pub mod State
+pub mod Verdict
+pub mod Steps
+pub mod Accepted
+pub mod Laws

@@ -1,0 +1,22 @@
+//! The state of a stream: its buckets, buffers, counts and results, and what each command does to them.
+#![tactic(auto)]
+
+mod asks;
+mod block;
+mod blocks;
+mod changes;
+mod checks;
+mod effect;
+mod laws;
+mod ops;
+mod reads;
+mod results;
+mod state;
+mod step;
+mod words;
+mod writes;
+
+pub use effect::Effect;
+pub use laws::{results_are_the_last_written, states_are_bounded};
+pub use state::StreamState;
+pub use writes::Writes;

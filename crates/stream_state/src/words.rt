@@ -1,0 +1,82 @@
+//! The words of a step: its ring words, the header first, and then its transfer words.
+ghost use Rattle.std.specs.Prelude.{◌≡◌, ◌+◌, ◌-◌, ◌*◌, ◌≤◌, ◌<◌, length, take, drop, IfOk};
+ghost use Rattle.gpu_word.specs.Bytes.{bytes_of};
+ghost use Rattle.stream_state.specs.Accepted.{HasTransfer};
+ghost use Rattle.stream_state.specs.Steps.{values_of, ring_words_in, transfer_bytes, immediate_bytes};
+
+use gpu_word::{Memory, bytes_of, split};
+use std::alloc::Global;
+
+/// How many bytes a word has.
+const WORD_BYTES: u32 = 4;
+
+/// The ring words before the data entries of SetBucketDataImmediate: the header and three arguments.
+const WORDS_BEFORE_DATA: usize = 4;
+
+// The values of words.
+fn values_of(alloc: Global, words: &[(u32, u32)]) -> Result<Vec<u32>, Memory>
+    ensures { IfOk result (λ values. values.items ≡ values_of words.now) }
+{
+    let values = words.iter().map(|word| word.1).collect(alloc)?;
+    Ok(values)
+}
+
+// So many bytes from an offset on of values.
+#[tactic(auto, using(crate::proofs::Counts::bytes_counted))]
+fn some_bytes(alloc: Global, values: &[u32], from: usize, count: usize) -> Result<Vec<u8>, Memory>
+    requires { from + count ≤ 4 * length values.now }
+    ensures bytes { IfOk result (λ bytes. bytes.items ≡ take count (drop from (bytes_of values.now))) }
+    ensures count { IfOk result (λ bytes. length bytes.items ≡ count) }
+{
+    bytes_of(alloc, values, from, count)
+}
+
+// How many of the words are ring words: of a Noop, whose id is 0, its header alone.
+fn ring_words(words: &[(u32, u32)]) -> usize
+    requires { 0 < length words.now }
+    ensures { result ≡ ring_words_in words.now }
+{
+    let header = split(words[0].1);
+    if header.id == 0 {
+        1
+    } else {
+        header.size as usize
+    }
+}
+
+/// So many bytes of the transfer words of a step, which begin with the word that the offset lies in.
+#[tactic(auto, unfolding(crate::specs::Steps::transfer_bytes))]
+pub fn transfer_bytes(
+    alloc: Global,
+    words: &[(u32, u32)],
+    offset: u32,
+    count: u128,
+) -> Result<Vec<u8>, Memory>
+    requires { HasTransfer words.now offset count }
+    ensures bytes { IfOk result (λ bytes. bytes.items ≡ transfer_bytes words.now offset count) }
+    ensures count { IfOk result (λ bytes. length bytes.items ≡ count) }
+{
+    if count == 0 {
+        return Ok(Vec::new(alloc));
+    }
+    let (_, transfer) = words.split_at(ring_words(words));
+    let values = values_of(alloc, transfer)?;
+    some_bytes(
+        alloc,
+        &values,
+        (offset % WORD_BYTES) as usize,
+        count as usize,
+    )
+}
+
+/// The first bytes of the data entries of a SetBucketDataImmediate.
+#[tactic(auto, unfolding(crate::specs::Steps::immediate_bytes))]
+pub fn immediate_bytes(alloc: Global, words: &[(u32, u32)], count: usize) -> Result<Vec<u8>, Memory>
+    requires { count ≤ 4 * (length words.now - 4) }
+    ensures bytes { IfOk result (λ bytes. bytes.items ≡ immediate_bytes words.now count) }
+    ensures count { IfOk result (λ bytes. length bytes.items ≡ count) }
+{
+    let (_, data) = words.split_at(words.len().min(WORDS_BEFORE_DATA));
+    let values = values_of(alloc, data)?;
+    some_bytes(alloc, &values, 0, count)
+}
