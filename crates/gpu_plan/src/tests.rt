@@ -132,8 +132,24 @@ fn the_first_bad_line_is_named_with_its_first_kind(rt: HostRuntime) {
     }
 }
 
+// Whether the action at a place of the list puts this value at this place.
+fn puts(actions: &[Action], at: usize, place: u32, value: u32) -> bool {
+    match actions.get(at) {
+        Some(Action::Put { place: p, value: v }) => *p == place && *v == value,
+        _ => false,
+    }
+}
+
+// The put and the fences of a flush.
+fn flush(actions: &[Action], at: usize) -> Option<(u32, &[(u32, u64)])> {
+    match actions.get(at) {
+        Some(Action::Flush { put, fences }) => Some((*put, fences.as_slice())),
+        _ => None,
+    }
+}
+
 #[test]
-fn a_script_gives_its_plans(rt: HostRuntime) -> Result<(), Fail> {
+fn a_script_gives_its_plan(rt: HostRuntime) -> Result<(), Fail> {
     let text = b" # blanks, and a last line without a line feed
 gpu-script\t1\r
 stream 0000000001 normal 16
@@ -146,37 +162,37 @@ fill 15 65535 fFfFfFfF
 token 7
 dump 0 65534
 flush 11 2 7
-close
-stream 2 high 4096
-flush 4294967295 0 1 1 1 1 1 1 1 1 1 1 1 1 1 1 1 1 1 1 1 1 1 1 1 1 1 1 1 1 1 1 18446744073709551615";
+close";
     let plans = parse(rt.alloc(), text).ok().ok_or("a script")?;
-    assert_eq!(rt; plans.count(), 2);
+    assert_eq!(rt; plans.count(), 1);
     let plan = plans.plan(1);
     assert_eq!(rt; plan.priority(), Priority::Normal);
-    assert_eq!(rt; plan.areas().ring, 16);
     assert_eq!(rt; plan.areas().places(), 65_552);
-    let [
-        Action::Put { place: 0, .. },
-        Action::Put { place, value },
-        Action::Put {
-            place: last,
-            value: 0xffff_ffff,
-        },
-        Action::Token { token: 7 },
-        Action::Finish,
-        Action::Flush { put, fences },
-        Action::Close,
-    ] = plan.actions()
-    else {
-        return Err(Fail::from("all actions"));
-    };
-    assert_eq!(rt; (*place, *value, *last, *put), (1, 10, 65_551, 11));
-    assert_eq!(rt; fences.as_slice(), [(2, 7)].as_slice());
     assert_eq!(rt; plan.dumps(), [(4, 65_535)].as_slice());
-    let [Action::Flush { fences, .. }] = plans.plan(2).actions() else {
-        return Err(Fail::from("a flush"));
-    };
-    assert_eq!(rt; fences.as_slice().len(), 16);
-    assert_eq!(rt; fences.as_slice()[15], (1, u64::MAX));
+    let actions = plan.actions();
+    assert_eq!(rt; actions.len(), 7);
+    assert!(rt; puts(actions, 0, 0, 0x2040_0004));
+    assert!(rt; puts(actions, 1, 1, 10));
+    assert!(rt; puts(actions, 2, 65_551, u32::MAX));
+    assert!(rt; matches!(actions.get(3), Some(Action::Token { token: 7 })));
+    assert!(rt; matches!(actions.get(4), Some(Action::Finish)));
+    assert!(rt; matches!(actions.get(6), Some(Action::Close)));
+    let (put, fences) = flush(actions, 5).ok_or("a flush")?;
+    assert_eq!(rt; put, 11);
+    assert_eq!(rt; fences, [(2, 7)].as_slice());
+    Ok(())
+}
+
+#[test]
+fn a_flush_has_sixteen_fences(rt: HostRuntime) -> Result<(), Fail> {
+    let text = b"gpu-script 1
+stream 1 high 4096
+flush 4294967295 0 1 1 1 1 1 1 1 1 1 1 1 1 1 1 1 1 1 1 1 1 1 1 1 1 1 1 1 1 1 1 18446744073709551615";
+    let plans = parse(rt.alloc(), text).ok().ok_or("a script")?;
+    assert_eq!(rt; plans.count(), 1);
+    let (put, fences) = flush(plans.plan(1).actions(), 0).ok_or("a flush")?;
+    assert_eq!(rt; put, u32::MAX);
+    assert_eq!(rt; fences.len(), 16);
+    assert_eq!(rt; fences.last(), Some(&(1, u64::MAX)));
     Ok(())
 }
