@@ -10,7 +10,7 @@ use Rattle.gpu_cmd.specs.declared.error.CmdError.TheVariants.{OutOfBounds}
 use Rattle.gpu_cmd.specs.declared.facts.StreamFacts.{StreamFacts}
 use Rattle.gpu_cmd.specs.declared.shape.Shape.{Shape}
 use Rattle.gpu_cmd.specs.declared.decoded.Decoded.{Decoded}
-use Rattle.gpu_cmd.specs.Outcome.{◌>>=◌}
+use Rattle.gpu_word.specs.Outcome.{◌>>=◌}
 use Rattle.gpu_cmd.specs.Checks.{headed, decoded}
 use Rattle.gpu_cmd.specs.Copied.{copied, fetched_places, judged, places_read, places_headed, places_decoded, ring_places, value_in, words_at, places_listed, IsCopy}
 use Rattle.gpu_cmd.specs.Laws.{PutOutOfRange, HeaderRefused, EntriesRefused, CommandCopied}

@@ -7,7 +7,7 @@ use Rattle.gpu_cmd.specs.declared.command.Command.{Command}
 use Rattle.gpu_cmd.specs.declared.error.CmdError.TheVariants.{UnknownCommand, InvalidArguments, OutOfBounds, Quota}
 use Rattle.gpu_cmd.specs.declared.facts.StreamFacts.{StreamFacts}
 use Rattle.gpu_cmd.specs.declared.decoded.Decoded.{Decoded}
-use Rattle.gpu_cmd.specs.Outcome.{◌>>=◌, unless, or_error}
+use Rattle.gpu_word.specs.Outcome.{◌>>=◌, unless, or_error}
 use Rattle.gpu_cmd.specs.Table.{Row, row_of, argument}
 use Rattle.gpu_cmd.specs.Ranges.{transfer_places}
 use Rattle.gpu_cmd.specs.Checks.{checked, decoded, has_format, has_slot, has_data, has_aligned_results, has_memories, is_within_quota}

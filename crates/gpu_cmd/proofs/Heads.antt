@@ -9,7 +9,7 @@ use Rattle.gpu_cmd.specs.declared.error.CmdError.TheVariants.{InvalidSize, OutOf
 use Rattle.gpu_cmd.specs.declared.facts.StreamFacts.{StreamFacts}
 use Rattle.gpu_cmd.specs.declared.shape.Shape.{Shape}
 use Rattle.gpu_cmd.specs.Lawful.{room}
-use Rattle.gpu_cmd.specs.Outcome.{◌>>=◌, unless, or_error}
+use Rattle.gpu_word.specs.Outcome.{◌>>=◌, unless, or_error}
 use Rattle.gpu_cmd.specs.Table.{Row, row_of, fits, ring_words_of, argument}
 use Rattle.gpu_cmd.specs.Checks.{headed, checked, decoded, is_within_quota}
 

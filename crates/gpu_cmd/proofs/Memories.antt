@@ -8,7 +8,7 @@ use Rattle.std.proofs.lemmas.List.Elements.{recursion_from_All}
 use Rattle.gpu_cmd.specs.declared.error.CmdError.{CmdError}
 use Rattle.gpu_cmd.specs.declared.facts.StreamFacts.{StreamFacts}
 use Rattle.gpu_cmd.specs.declared.shape.Shape.{Shape}
-use Rattle.gpu_cmd.specs.Outcome.{◌>>=◌}
+use Rattle.gpu_word.specs.Outcome.{◌>>=◌}
 use Rattle.gpu_cmd.specs.Checks.{headed, decoded}
 use Rattle.gpu_cmd.specs.Copied.{copied, fetched_places, fetched, judged, places_read, places_headed, places_decoded, ring_places, value_in, places_listed}
 use Rattle.gpu_cmd.specs.Laws.{WordsOfMemory, MemoryCopied}

@@ -12,7 +12,7 @@ use Rattle.gpu_cmd.specs.declared.facts.StreamFacts.{StreamFacts}
 use Rattle.gpu_cmd.specs.declared.range.Range.{Range}
 use Rattle.gpu_cmd.specs.declared.shape.Shape.{Shape}
 use Rattle.gpu_cmd.specs.declared.decoded.Decoded.{Decoded}
-use Rattle.gpu_cmd.specs.Outcome.{◌>>=◌, unless, or_error}
+use Rattle.gpu_word.specs.Outcome.{◌>>=◌, unless, or_error}
 use Rattle.gpu_cmd.specs.Table.{row_of, fits, ring_words_of, argument}
 use Rattle.gpu_cmd.specs.Spans.{span_at}
 use Rattle.gpu_cmd.specs.Lawful.{most_fetched, room}

@@ -7,7 +7,7 @@ use Rattle.gpu_cmd.specs.declared.command.Command.{Command}
 use Rattle.gpu_cmd.specs.declared.facts.StreamFacts.{StreamFacts}
 use Rattle.gpu_cmd.specs.declared.shape.Shape.{Shape}
 use Rattle.gpu_cmd.specs.declared.decoded.Decoded.{Decoded}
-use Rattle.gpu_cmd.specs.Outcome.{◌>>=◌, unless}
+use Rattle.gpu_word.specs.Outcome.{◌>>=◌, unless}
 use Rattle.gpu_cmd.specs.Checks.{headed, decoded}
 
 -- the value that a list has at a place, or 0 where it has none

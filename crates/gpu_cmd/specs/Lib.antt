@@ -1,7 +1,6 @@
 pub use Rattle.gpu_word.specs.Header
 pub use Rattle.gpu_word.specs.Formats
 pub mod Errors
-pub mod Outcome
 pub mod Table
 pub mod Spans
 pub mod Lawful

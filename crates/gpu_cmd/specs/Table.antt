@@ -1,5 +1,6 @@
 -- The table of commands.
-use Rattle.std.specs.Prelude.{ℕ, Bool, true, false, List, [], ◌∷◌, Option, ◌==◌, nat_le, if◌then◌else◌, slice_index, find}
+use Rattle.std.specs.Prelude.{ℕ, Bool, true, false, List, [], ◌∷◌, Option, Some, None, length, ◌==◌, nat_le, if◌then◌else◌, slice_index, find, take}
+use Rattle.gpu_word.specs.Header.{id_of, size_of}
 use Rattle.gpu_cmd.specs.declared.command.Command.{Command}
 use Rattle.gpu_cmd.specs.declared.command.Command.TheVariants.{Noop, SetToken, SetBucketSize, SetBucketData, SetBucketDataImmediate, GetBucketStart, GetBucketData, InsertFence, WaitToken, CreateImage, DeleteImage, ClearRect, CopyRect, UploadRect, UploadBucket, CreateBuffer, DeleteBuffer, BufferData, UploadBuffer, WaitSyncToken}
 
@@ -59,3 +60,16 @@ ring_words_of id size = if id == 0 then 1 else size
 -- the argument at a place behind the header
 abbrev pub argument : List ℕ → ℕ → ℕ
 argument words place = slice_index words place
+
+-- the ring words that words begin with: as many as the header says
+abbrev pub ring_of : List ℕ → List ℕ
+ring_of words = take (ring_words_of (id_of (slice_index words 0)) (size_of (slice_index words 0))) words
+
+-- the command of ring words by a row, where it allows so many
+abbrev pub said_by : Option Row → List ℕ → Option Command
+said_by None ring = None
+said_by (Some row) ring = if fits row (length ring) then Some (row.command (argument ring)) else None
+
+-- the command that words say by the header and the arguments that they begin with
+abbrev pub command_said : List ℕ → Option Command
+command_said words = said_by (row_of (id_of (slice_index words 0))) (ring_of words)

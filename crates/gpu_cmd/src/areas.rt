@@ -32,15 +32,15 @@ pub struct Areas {
     pub results: [Option<Span>; 16],
 }
 
-// The span of a memory, where it is declared.
-pub(crate) fn span_at(spans: &[Option<Span>; 16], memory: u32) -> Option<Span>
+/// The span of a memory, where it is declared.
+pub fn span_at(spans: &[Option<Span>; 16], memory: u32) -> Option<Span>
     ensures { result ≡ span_at spans.now memory }
 {
     spans.get(memory as usize).copied().flatten()
 }
 
-// How many words the declared memories have in all.
-fn words_in(spans: &[Option<Span>; 16]) -> u64
+/// How many words the declared memories have in all.
+pub fn words_in(spans: &[Option<Span>; 16]) -> u64
     ensures { result ≡ words_in spans.now }
 {
     let mut words = 0;

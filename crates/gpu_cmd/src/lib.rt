@@ -15,7 +15,7 @@ mod range;
 mod shape;
 mod table;
 
-pub use areas::{Areas, Span};
+pub use areas::{Areas, Span, span_at, words_in};
 pub use command::Command;
 pub use decoded::{Decoded, decode};
 pub use error::CmdError;
@@ -23,6 +23,7 @@ pub use facts::StreamFacts;
 pub use laws::{accepted_commands, command_places, copied_words, fetched_words};
 pub use name::Name;
 pub use shape::{Shape, head};
+pub use table::command_of;
 
 #[cfg(test)]
 mod tests;

@@ -1,9 +1,10 @@
-ghost use Rattle.std.specs.Prelude.{◌≡◌, length, IfSome, IsSomeAnd, IsTrue};
+ghost use Rattle.std.specs.Prelude.{◌≡◌, ◌<◌, length, take, IfSome, IsSomeAnd, IsTrue};
 ghost use Rattle.std.specs.Option.{option_map};
-ghost use Rattle.gpu_cmd.specs.Table.{row_of, fits, ring_words_of, argument};
+ghost use Rattle.gpu_cmd.specs.Table.{row_of, fits, ring_words_of, argument, command_said};
 
 use crate::command::Command;
 use crate::{arguments, ids};
+use gpu_word::split;
 
 // Whether a command of this id may have so many entries, or `None` where no command has this id.
 #[tactic(auto, unfolding(crate::specs::Table::row_of))]
@@ -71,5 +72,31 @@ pub(crate) fn command(id: u32, words: &[u32]) -> Command
         ids::UPLOAD_BUFFER => arguments::upload_buffer(words),
         ids::WAIT_SYNC_TOKEN => arguments::wait_sync_token(words),
         _ => unreachable!(),
+    }
+}
+
+// The first so many words, or all where there are fewer.
+fn first(words: &[u32], count: usize) -> &[u32]
+    ensures { result.now ≡ take count words.now }
+{
+    if words.len() <= count {
+        return words;
+    }
+    let (front, _) = words.split_at(count);
+    front
+}
+
+/// The command that words say by the header and the arguments that they begin with, without a check on these; words
+/// behind its ring words are not looked at. `None` where no command has the header's id, or none of that id has so many
+/// ring words.
+pub fn command_of(words: &[u32]) -> Option<Command>
+    requires { 0 < length words.now }
+    ensures { result ≡ command_said words.now }
+{
+    let header = split(words[0]);
+    let ring = first(words, ring_words(header.id, header.size) as usize);
+    match fits(header.id, ring.len() as u32) {
+        Some(true) => Some(command(header.id, ring)),
+        _ => None,
     }
 }

@@ -1,7 +1,9 @@
 ghost use Rattle.std.specs.Prelude.{◌≢◌, ◌<◌};
 ghost use Rattle.gpu_cmd.specs.Lawful.{IsLawfulFacts};
 
-use crate::{Areas, CmdError, Decoded, Shape, Span, StreamFacts, decode, head};
+use crate::{
+    Areas, CmdError, Command, Decoded, Shape, Span, StreamFacts, command_of, decode, head,
+};
 use CmdError::{InvalidArguments, InvalidSize, OutOfBounds, Quota, UnknownCommand};
 use std::process::Abort;
 
@@ -212,4 +214,19 @@ fn commands_are_judged(rt: HostRuntime) {
     let areas = areas();
     assert!(rt; areas.is_lawful());
     assert_eq!(rt; areas.places(), 65_552);
+}
+
+#[test]
+fn words_say_their_command(rt: HostRuntime) {
+    // Words behind the ring words are not looked at, nor are checks made: no image has a side of 0.
+    let words = [0x2040_0004, 7, 0, 9, 5];
+    let create = Command::CreateImage {
+        image: 7,
+        width: 0,
+        height: 9,
+    };
+    assert_eq!(rt; command_of(&words), Some(create));
+    assert_eq!(rt; command_of(&words[..3]), None);
+    assert_eq!(rt; command_of(&[0x0000_0005]), Some(Command::Noop));
+    assert_eq!(rt; command_of(&[0x7000_0001]), None);
 }

@@ -1,9 +1,10 @@
 -- The images, and what an operation does to them.
-use Rattle.std.specs.Prelude.{◌≡◌, ◌≤◌, ℕ, ◌+◌, ◌*◌, Bool, true, false, ◌&&◌, nat_le, Option, Some, None, is_none, Result, Ok, Err, List, length, slice_index}
+use Rattle.std.specs.Prelude.{◌≡◌, ◌≤◌, ℕ, ◌+◌, ◌*◌, Bool, ◌&&◌, nat_le, Option, Some, None, is_none, Result, Ok, Err, List, length, slice_index}
 use Rattle.std.specs.Ordering.{nat_cmp}
 use Rattle.std.specs.Map.{lookup, set_value, remove_entry, keys_of, values_of}
 use Rattle.std.specs.BTreeMap.{is_at, insert_entry}
 use Rattle.std.specs.List.{sum_by, All}
+use Rattle.gpu_word.specs.Outcome.{◌>>=◌, unless}
 use Rattle.gpu_store.specs.declared.op.Op.{Op}
 use Rattle.gpu_store.specs.declared.op.Op.TheVariants.{Create, Delete, Clear, Copy, Upload}
 use Rattle.gpu_store.specs.declared.op.Answer.{Answer}
@@ -64,17 +65,6 @@ IsCreate (Upload image rect texels) = ⊥
 -- an image may have a side of 1 to 4,096 texels
 abbrev pub is_side : ℕ → Bool
 is_side side = nat_le 1 side && nat_le side 4096
-
--- the first step that is refused gives its answer, and else the next goes on with its value
-infixl 10 ◌>>=◌
-abbrev pub ◌>>=◌ : {A B : Type 0} → Result A Answer → (A → Result B Answer) → Result B Answer
-(Ok x) >>= f = f x
-(Err answer) >>= f = Err answer
-
--- refused with this answer unless the test holds
-abbrev pub unless : Bool → Answer → Result (Unit {0}) Answer
-unless true answer = Ok tt
-unless false answer = Err answer
 
 -- the picture that was found, or refused where there is none
 abbrev pub present : Option Picture → Result Picture Answer

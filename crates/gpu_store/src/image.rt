@@ -81,6 +81,7 @@ impl Image {
         requires { y < self.now.height }
         ensures row { result.now ≡ row_of self.now y }
         ensures len { length result.now ≡ self.now.width }
+        ensures narrow { length result.now ≤ 4096 }
     {
         let start = y as usize * self.width as usize;
         &self.texels[start..start + self.width as usize]

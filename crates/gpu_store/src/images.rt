@@ -1,10 +1,12 @@
-ghost use Rattle.std.specs.Prelude.{◌≡◌, ◌&&◌, ◌≤◌, ◌<◌, ◌*◌, ◌≢◌, [], length, slice_get, IsErr, IsSomeAnd, IfOk, IfSome, OnOk, OnErr, option_map};
+ghost use Rattle.std.specs.Prelude.{◌≡◌, ◌&&◌, ◌≤◌, ◌<◌, ◌*◌, ◌≢◌, [], length, slice_get, IsErr, IsSome, IsSomeAnd, IfOk, IfSome, OnOk, OnErr, option_map};
 ghost use Rattle.std.specs.Ordering.{nat_cmp};
+ghost use Rattle.std.specs.List.{All};
 ghost use Rattle.std.specs.List.Sorted.{IsStrictlyIncreasing, IsStrictlySortedBy};
 ghost use Rattle.gpu_store.specs.Images.{picture_of, numbers, total, apply, is_side, HasItsTexels, IsCreate};
 ghost use Rattle.gpu_store.specs.Picture.{row_of, IsWhole};
 
 use crate::image::Image;
+use crate::numbers::Numbers;
 use crate::op::{Answer, Op};
 use crate::rect::Rect;
 use gpu_word::Memory;
@@ -255,6 +257,15 @@ impl Images {
         *self.images.keys().nth(index).unwrap()
     }
 
+    /// The numbers of all images, in rising order: one walk over the map, where `id` looks each place up anew.
+    pub fn numbers(&self) -> Numbers<'_>
+        ensures numbers { result ≡ numbers self.now }
+        ensures sorted { IsStrictlySortedBy nat_cmp (numbers self.now) }
+        ensures found { All (λ image. IsSome (picture_of self.now image)) result }
+    {
+        Numbers::over(self.images.keys())
+    }
+
     /// The width and the height of an image, or `None` where it is missing.
     pub fn size(&self, image: u32) -> Option<(u32, u32)>
         ensures size { result ≡ option_map (λ picture. (picture.width, picture.height)) (picture_of self.now image) }
@@ -269,6 +280,7 @@ impl Images {
         requires { IsSomeAnd (picture_of self.now image) (λ picture. y < picture.height) }
         ensures row { IfSome (picture_of self.now image) (λ picture. result.now ≡ row_of picture y) }
         ensures len { IfSome (picture_of self.now image) (λ picture. length result.now ≡ picture.width) }
+        ensures narrow { length result.now ≤ MOST_SIDE }
     {
         self.images.get(&image).unwrap().row(y)
     }

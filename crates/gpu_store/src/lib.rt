@@ -4,6 +4,7 @@
 mod conversion;
 mod image;
 mod images;
+mod numbers;
 mod op;
 mod rect;
 mod rows;
@@ -11,6 +12,7 @@ mod texels;
 
 pub use conversion::unpack;
 pub use images::Images;
+pub use numbers::Numbers;
 pub use op::{Answer, Op};
 pub use rect::Rect;
 pub use texels::Texels;

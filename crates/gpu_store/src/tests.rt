@@ -138,3 +138,17 @@ fn answers_come_in_their_order(rt: HostRuntime) -> Result<(), Fail> {
     assert_eq!(rt; images.size(7), None);
     Ok(())
 }
+
+#[test]
+fn images_are_walked_in_rising_order(rt: HostRuntime) -> Result<(), Fail> {
+    let mut images = Images::make(rt.alloc());
+    create(&mut images, 9, 1, 1)?;
+    create(&mut images, 2, 1, 1)?;
+    create(&mut images, 5, 1, 1)?;
+    let mut walk = images.numbers();
+    assert_eq!(rt; walk.next(), Some(2));
+    assert_eq!(rt; walk.next(), Some(5));
+    assert_eq!(rt; walk.next(), Some(9));
+    assert_eq!(rt; walk.next(), None);
+    Ok(())
+}

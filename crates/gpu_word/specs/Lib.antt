@@ -1,3 +1,5 @@
 pub mod Header
 pub mod Formats
 pub mod Bytes
+pub mod Outcome
+pub mod Results
