@@ -6,8 +6,8 @@ use Rattle.std.proofs.lemmas.List.Sums.{sum_by-append}
 use Rattle.std.proofs.lemmas.Bool.Decides.{nat_tests}
 use Rattle.std.proofs.lemmas.List.{length-map}
 use Rattle.gpu_plan.specs.declared.plan.Action.{Action}
-use Rattle.gpu_plan.specs.declared.fault.Kind.TheVariants.{Limit}
-use Rattle.gpu_plan.specs.Numbers.{value_of}
+use Rattle.script_lines.specs.declared.fault.Kind.TheVariants.{Limit}
+use Rattle.script_words.specs.Numbers.{value_of}
 use Rattle.gpu_plan.specs.Plans.{PlanData, is_flush}
 use Rattle.gpu_plan.specs.Adding.{Draft, puts, added}
 use Rattle.gpu_plan.proofs.Lawful.{length-puts}

@@ -1,19 +1,18 @@
 -- What a line adds to a lawful plan leaves it lawful.
-use Rattle.std.proofs.Common.{◌≡◌, ℕ, suc, ◌+◌, ◌≤◌, ◌<◌, ◌^◌, ◌-◌, ◌&&◌, Bool, true, false, cond, List, [], ◌∷◌, ◌++◌, length, map, take, Some, None, refl, sym, ap, subst, ◌∙◌, arith, lit<, length-append}
-use Rattle.std.specs.Prelude.{not, unwrap_or, nat_lt, replicate, slice_get, zero, Option}
+use Rattle.std.proofs.Common.{◌≡◌, ℕ, suc, ◌+◌, ◌≤◌, ◌<◌, ◌^◌, ◌-◌, Bool, true, false, cond, List, [], ◌∷◌, ◌++◌, length, map, take, Some, None, refl, ap, subst, arith, lit<, length-append}
+use Rattle.std.specs.Prelude.{not, unwrap_or, nat_lt, replicate, zero}
 use Rattle.std.specs.Str.Parse.{digits_value}
 use Rattle.std.proofs.lemmas.Bool.{ltb-true, and_parts}
 use Rattle.std.proofs.lemmas.List.{length-map, take_at, length_push}
 use Rattle.std.proofs.lemmas.List.Folds.{list_all-append}
 use Rattle.std.specs.List.{All, AllByRecursion, list_all}
-use Rattle.std.proofs.lemmas.List.Elements.{All-append, All-cons, All-nil, All-push, All-from_recursion}
+use Rattle.std.proofs.lemmas.List.Elements.{All-append, All-nil, All-push, All-from_recursion}
 use Rattle.gpu_cmd.specs.declared.areas.Areas.{Areas}
 use Rattle.gpu_cmd.specs.Lawful.{IsLawfulAreas, places_of}
 use Rattle.gpu_cmd.specs.Spans.{AreTiles, span_at}
 use Rattle.gpu_cmd.specs.declared.areas.Span.{Span}
 use Rattle.gpu_plan.specs.declared.plan.Action.{Action}
-use Rattle.gpu_plan.specs.declared.plan.Action.TheVariants.{Put}
-use Rattle.gpu_plan.specs.Numbers.{number_of, value_of}
+use Rattle.script_words.specs.Numbers.{number_of, value_of}
 use Rattle.gpu_plan.specs.Plans.{IsWithin, HasFewFences, stays_open, is_closed, IsLawfulPlan, ring_alone}
 use Rattle.gpu_plan.specs.Adding.{puts}
 

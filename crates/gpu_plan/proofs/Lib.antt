@@ -1,9 +1,9 @@
 pub mod Counts
-pub mod Cuts
-pub mod Digits
 pub mod Dumps
-pub mod Few
 pub mod Lawful
-pub mod Pairs
 pub mod Tiled
 pub mod Whole
+pub mod Holding
+pub mod Passing
+pub mod Apart
+pub mod Named

@@ -1,12 +1,12 @@
 -- One more memory behind those before leaves tiles.
-use Rattle.std.proofs.Common.{◌≡◌, ℕ, zero, suc, ◌+◌, ◌<◌, ◌≤◌, ◌⊎◌, inl, inr, ⊎_elim, List, [], ◌∷◌, length, get_or, set, Option, Some, None, refl, sym, ap, ◌∙◌, arith}
+use Rattle.std.proofs.Common.{◌≡◌, ℕ, ◌+◌, ◌≤◌, ◌⊎◌, inl, inr, ⊎_elim, List, length, get_or, set, Option, Some, None, sym, ap, ◌∙◌, arith}
 use Rattle.std.specs.Option.{option_map_or}
 use Rattle.std.proofs.lemmas.Bool.{cases_eq}
 use Rattle.std.proofs.lemmas.Option.{unwrap_or-slice_get}
 use Rattle.std.proofs.lemmas.List.{get_or-set_same, get_or-set_other}
 use Rattle.std.proofs.lemmas.List.Sums.{sum_by-set}
 use Rattle.gpu_cmd.specs.declared.areas.Span.{Span}
-use Rattle.gpu_cmd.specs.Spans.{span_at, words_in, AreApart, AreTiles}
+use Rattle.gpu_cmd.specs.Spans.{span_at, words_in, AreTiles}
 
 words_of_span : Option Span → ℕ
 words_of_span span = option_map_or (λ (s : Span). s.words) span 0

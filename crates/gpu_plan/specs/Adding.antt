@@ -1,17 +1,19 @@
 -- What a line adds to the streams before it.
-use Rattle.std.specs.Prelude.{ℕ, ◌+◌, Bool, not, is_none, ◌&&◌, ◌==◌, nat_le, nat_lt, List, [], ◌∷◌, ◌++◌, length, set, Option, Some, None, option_to_list, Result, Ok, Err}
-use Rattle.gpu_cmd.specs.declared.areas.Areas.{Areas}
+use Rattle.std.specs.Prelude.{ℕ, ◌+◌, not, is_none, ◌&&◌, ◌||◌, ◌==◌, nat_le, nat_lt, List, [], ◌∷◌, ◌++◌, length, set, Option, Some, None, option_to_list, Result, Ok}
+use Rattle.std.specs.List.{list_any}
 use Rattle.gpu_cmd.specs.declared.areas.Span.{Span}
 use Rattle.gpu_cmd.specs.Spans.{span_at, words_in}
-use Rattle.gpu_plan.specs.declared.fault.Kind.{Kind}
-use Rattle.gpu_plan.specs.declared.fault.Kind.TheVariants.{Word, Order, Double, Place, Limit}
+use Rattle.gpu_cmd.specs.declared.name.Name.{Name}
+use Rattle.script_lines.specs.declared.fault.Kind.{Kind}
+use Rattle.script_lines.specs.declared.fault.Kind.TheVariants.{Word, Order, Double, Place, Limit}
 use Rattle.gpu_plan.specs.declared.plan.Action.{Action}
 use Rattle.gpu_plan.specs.declared.plan.Action.TheVariants.{Put, Flush, Finish, Token, Close}
-use Rattle.gpu_plan.specs.declared.keyword.Keyword.{Keyword}
-use Rattle.gpu_plan.specs.declared.keyword.Keyword.TheVariants.{StreamLine, MemoryLine, ResultsLine, PutLine, FillLine, FlushLine, FinishLine, TokenLine, CloseLine, DumpLine}
-use Rattle.gpu_plan.specs.Outcome.{◌>>=◌, or_kind, unless}
-use Rattle.gpu_plan.specs.Plans.{PlanData, is_closed, ring_alone}
-use Rattle.gpu_plan.specs.Said.{keyword_of, none_said, one_said, two_said, stream_said, put_said, fill_said, flush_said}
+use Rattle.script_lines.specs.declared.priority.Priority.{Priority}
+use Rattle.script_lines.specs.declared.keyword.Keyword.{Keyword}
+use Rattle.script_lines.specs.declared.keyword.Keyword.TheVariants.{StreamLine, MemoryLine, ResultsLine, PutLine, FillLine, FlushLine, FinishLine, TokenLine, CloseLine, DumpLine}
+use Rattle.script_lines.specs.Outcome.{◌>>=◌, or_kind, unless}
+use Rattle.gpu_plan.specs.Plans.{PlanData, is_closed, is_of, ring_alone}
+use Rattle.script_lines.specs.Said.{keyword_of, none_said, one_said, two_said, stream_said, put_said, fill_said, flush_said}
 
 -- the streams before, the stream begun last, and how many actions and flushes the script has so far
 pub record Draft : Type 0 where
@@ -60,13 +62,23 @@ spans_with first spans memory words = do
   _ ← unless (nat_le memory 15 && nat_le 1 words && nat_le (words_in spans + words) 65536) Limit
   Ok (set spans memory (Some (record { base = first + words_in spans; words = words })))
 
--- a stream line begins the stream whose number is one more than those before
-unfoldable pub with_stream : List (List ℕ) → Draft → Result Draft Kind
-with_stream words d = do
-  said ← stream_said words
-  _ ← unless (said.0 == length (streams d) + 1) Order
-  _ ← unless (nat_le 16 said.2 && nat_le said.2 4096 && nat_le said.0 16) Limit
-  Ok (record d { done = streams d; last = Some (record { areas = ring_alone said.2; priority = said.1; actions = []; dumps = [] }) })
+-- whether a stream of this name may follow these streams, with a ring of this length; in version 1 its id is its number
+unfoldable pub may_follow : ℕ → List PlanData → Name → ℕ → Result (Unit {0}) Kind
+may_follow version before name ring = do
+  _ ← unless (version == 2 || name.id == length before + 1) Order
+  _ ← unless (not (list_any (is_of name) before)) Double
+  unless (nat_le 16 ring && nat_le ring 4096 && nat_le name.namespace 255 && nat_lt (length before) 16) Limit
+
+-- a stream that has a ring and no memory, and has not acted
+abbrev pub fresh_plan : Name → Priority → ℕ → PlanData
+fresh_plan name priority ring = record { name = name; areas = ring_alone ring; priority = priority; actions = []; dumps = [] }
+
+-- a stream line begins the next stream
+unfoldable pub with_stream : ℕ → List (List ℕ) → Draft → Result Draft Kind
+with_stream version words d = do
+  said ← stream_said version words
+  _ ← may_follow version (streams d) said.0 said.2
+  Ok (record d { done = streams d; last = Some (fresh_plan said.0 said.1 said.2) })
 
 -- a memory line declares a transfer memory, whose places follow those of the ring and of the memories before
 unfoldable pub with_memory : List (List ℕ) → Draft → Result Draft Kind
@@ -102,9 +114,9 @@ with_fill words d = do
   added (puts (span.base + said.1) said.2) last d
 
 -- a flush line adds one flush
-unfoldable pub with_flush : List (List ℕ) → Draft → Result Draft Kind
-with_flush words d = do
-  said ← flush_said words
+unfoldable pub with_flush : ℕ → List Name → List (List ℕ) → Draft → Result Draft Kind
+with_flush version names words d = do
+  said ← flush_said version names words
   last ← acting d
   _ ← unless (nat_le (d.flushes + 1) 100000 && nat_le (length said.1) 16) Limit
   added (Flush said.0 said.1 ∷ []) last (record d { flushes = d.flushes + 1 })
@@ -136,20 +148,20 @@ with_dump words d = do
   _ ← unless (nat_lt said.1 span.words) Place
   added (Finish ∷ []) (record last { dumps = last.dumps ++ (length last.actions, span.base + said.1) ∷ [] }) d
 
--- what a line adds, by what its first word names
-abbrev pub with_keyword : Keyword → List (List ℕ) → Draft → Result Draft Kind
-with_keyword StreamLine words d = with_stream words d
-with_keyword MemoryLine words d = with_memory words d
-with_keyword ResultsLine words d = with_results words d
-with_keyword PutLine words d = with_puts words d
-with_keyword FillLine words d = with_fill words d
-with_keyword FlushLine words d = with_flush words d
-with_keyword FinishLine words d = with_finish words d
-with_keyword TokenLine words d = with_token words d
-with_keyword CloseLine words d = with_close words d
-with_keyword DumpLine words d = with_dump words d
+-- what a line adds in a version, by what its first word names; these are the names that fences may speak of
+abbrev pub with_keyword : ℕ → List Name → Keyword → List (List ℕ) → Draft → Result Draft Kind
+with_keyword version names StreamLine words d = with_stream version words d
+with_keyword version names MemoryLine words d = with_memory words d
+with_keyword version names ResultsLine words d = with_results words d
+with_keyword version names PutLine words d = with_puts words d
+with_keyword version names FillLine words d = with_fill words d
+with_keyword version names FlushLine words d = with_flush version names words d
+with_keyword version names FinishLine words d = with_finish words d
+with_keyword version names TokenLine words d = with_token words d
+with_keyword version names CloseLine words d = with_close words d
+with_keyword version names DumpLine words d = with_dump words d
 
-unfoldable pub with_line : List ℕ → List (List ℕ) → Draft → Result Draft Kind
-with_line name words d = do
+unfoldable pub with_line : ℕ → List Name → List ℕ → List (List ℕ) → Draft → Result Draft Kind
+with_line version names name words d = do
   keyword ← or_kind Word (keyword_of name)
-  with_keyword keyword words d
+  with_keyword version names keyword words d

@@ -1,16 +1,21 @@
 -- What the streams of a script do.
-use Rattle.std.specs.Prelude.{◌≡◌, ℕ, ◌^◌, ◌-◌, ◌<◌, ◌≤◌, Bool, true, false, not, List, length, replicate, take, slice_get, sum_by, Some, None, Option, IsTrue}
+use Rattle.std.specs.Prelude.{◌≡◌, ℕ, zero, suc, [], position, slice_index_or, ◌^◌, ◌-◌, ◌<◌, ◌≤◌, Bool, true, false, not, List, length, replicate, take, slice_get, sum_by, Some, None, Option, IsTrue}
 use Rattle.std.specs.List.{All, list_all, count_by}
+use Rattle.std.specs.Option.{option_map_or}
 use Rattle.gpu_cmd.specs.declared.areas.Areas.{Areas}
 use Rattle.gpu_cmd.specs.declared.areas.Span.{Span}
 use Rattle.gpu_cmd.specs.Lawful.{IsLawfulAreas, places_of}
 use Rattle.gpu_cmd.specs.Spans.{words_in}
+use Rattle.gpu_cmd.specs.declared.name.Name.{Name}
+use Rattle.stream_names.specs.Names.{is_name}
 use Rattle.gpu_plan.specs.declared.plan.Action.{Action}
 use Rattle.gpu_plan.specs.declared.plan.Action.TheVariants.{Put, Flush, Finish, Token, Close}
-use Rattle.gpu_plan.specs.declared.plan.Priority.{Priority}
+use Rattle.script_lines.specs.declared.priority.Priority.{Priority}
+use Rattle.script_lines.specs.declared.priority.Priority.TheVariants.{Normal}
 
--- what one stream has and does; a dump is the place of an action, and the result place that is read behind it
+-- what one stream is called, has and does; a dump is the place of an action, and the result place that is read behind it
 pub record PlanData : Type 0 where
+  pub name : Name
   pub areas : Areas
   pub priority : Priority
   pub actions : List Action
@@ -81,6 +86,24 @@ pub record IsLawfulScript (plans : List PlanData) : Type 0 where
   pub actions : actions_in plans ≤ 1000000
   pub flushes : flushes_in plans ≤ 100000
 
--- a script: its streams, in the order of their lines
+-- a script: its version, and its streams in the order of their lines
 pub record PlansData : Type 0 where
+  pub version : ℕ
   pub plans : List PlanData
+
+-- the plan of a stream that no script has
+abbrev pub no_plan : PlanData
+no_plan = record { name = record { namespace = 0; id = 0 }; areas = ring_alone 0; priority = Normal; actions = []; dumps = [] }
+
+-- the plan of stream s of a script; streams count from 1
+abbrev pub plan_of : PlansData → ℕ → PlanData
+plan_of script zero = no_plan
+plan_of script (suc k) = slice_index_or script.plans k no_plan
+
+-- a plan is that of the stream with this name
+abbrev pub is_of : Name → PlanData → Bool
+is_of name plan = is_name name plan.name
+
+-- the number of the stream that has a name, counted from 1 in the order of the plans, or 0 where none has it
+abbrev pub number_of : List PlanData → Name → ℕ
+number_of plans name = option_map_or suc (position (is_of name) plans) 0

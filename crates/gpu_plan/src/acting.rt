@@ -1,20 +1,20 @@
 ghost use Rattle.std.specs.Prelude.{◌≡◌, ◌+◌, ◌<◌, ◌≤◌, ◌++◌, [], ◌∷◌, false, length, map, IfOk};
 ghost use Rattle.gpu_cmd.specs.Lawful.{places_of};
 ghost use Rattle.gpu_cmd.specs.Spans.{words_in};
-ghost use Rattle.gpu_plan.specs.Text.{words_of};
-ghost use Rattle.gpu_plan.specs.Numbers.{value_of};
+ghost use Rattle.script_words.specs.Text.{words_of};
+ghost use Rattle.script_words.specs.Numbers.{value_of};
 ghost use Rattle.gpu_plan.specs.Plans.{IsWithin, HasFewFences, is_closed, is_flush};
-ghost use Rattle.gpu_plan.specs.Outcome.{Gives, or_kind};
-ghost use Rattle.gpu_plan.specs.declared.fault.Kind.TheVariants.{Order};
+ghost use Rattle.script_lines.specs.Outcome.{Gives, or_kind};
+ghost use Rattle.script_lines.specs.declared.fault.Kind.TheVariants.{Order};
 ghost use Rattle.gpu_plan.specs.declared.plan.Action.TheVariants.{Flush, Finish};
 ghost use Rattle.gpu_plan.specs.Adding.{puts, acting, fresh, added};
 ghost use Rattle.gpu_plan.specs.Drafts.{shown, begun};
 
 use crate::begun::Begun;
 use crate::draft::Draft;
-use crate::fault::{Kind, LineError};
 use crate::plan::{Action, Fences};
-use crate::text::Words;
+use script_lines::{Kind, LineError};
+use script_words::Words;
 
 /// The most actions of a script.
 const MOST_ACTIONS: usize = 1_000_000;

@@ -1,20 +1,34 @@
-ghost use Rattle.std.specs.Prelude.{◌≡◌, IfOk};
-ghost use Rattle.gpu_plan.specs.Text.{words_of};
-ghost use Rattle.gpu_plan.specs.Plans.{IsLawfulScript, actions_in, flushes_in};
-ghost use Rattle.gpu_plan.specs.Outcome.{Gives};
-ghost use Rattle.gpu_plan.specs.Adding.{streams, with_stream, with_memory, with_results, with_puts, with_fill, with_flush, with_finish, with_token, with_close, with_dump, with_line};
+ghost use Rattle.std.specs.Prelude.{◌≡◌, ◌≤◌, ◌<◌, length, IfOk};
+ghost use Rattle.std.specs.List.{list_any};
+ghost use Rattle.script_words.specs.Text.{words_of};
+ghost use Rattle.gpu_plan.specs.Plans.{IsLawfulScript, actions_in, flushes_in, is_of};
+ghost use Rattle.script_lines.specs.Outcome.{Gives};
+ghost use Rattle.gpu_plan.specs.Adding.{streams, may_follow, with_stream, with_memory, with_results, with_puts, with_fill, with_flush, with_finish, with_token, with_close, with_dump, with_line};
 ghost use Rattle.gpu_plan.specs.Drafts.{shown};
 
 use crate::acting::{acting, fresh};
 use crate::begun::Begun;
 use crate::draft::Draft;
-use crate::fault::{Kind, LineError};
-use crate::keyword::{Keyword, keyword_of};
-use crate::line::{fill_said, flush_said, none_said, one_said, put_said, stream_said, two_said};
 use crate::plan::{Action, Fences, Plan};
-use crate::spans::{span_at, spans_with};
-use crate::text::Words;
+use crate::spans::spans_with;
+use gpu_cmd::{Name, span_at};
+use script_lines::{
+    Keyword, Kind, Known, LineError, fill_said, flush_said, keyword_of, none_said, one_said,
+    put_said, stream_said, two_said,
+};
+use script_words::Words;
 use std::alloc::{AllocError, Global};
+
+/// The fewest and the most entries of a ring.
+const LEAST_RING: u32 = 16;
+
+const MOST_RING: u32 = 4096;
+
+/// The greatest namespace of a stream's name.
+const LAST_NAMESPACE: u32 = 255;
+
+/// The most streams of a script.
+const MOST_STREAMS: usize = 16;
 
 /// The most flushes of a script.
 const MOST_FLUSHES: usize = 100_000;
@@ -22,23 +36,49 @@ const MOST_FLUSHES: usize = 100_000;
 /// The most fences of a flush.
 const MOST_FENCES: usize = 16;
 
-#[tactic(auto, unfolding(crate::specs::Adding::with_stream))]
-fn with_stream(alloc: Global, words: Words<'_>, draft: Draft) -> Result<Draft, LineError>
-    ensures { Gives shown result (with_stream (words_of words.entry.rest.now) (shown draft)) }
+// Whether a stream of this name has a plan.
+fn has_plan(plans: &[Plan], name: Name) -> bool
+    ensures { result ≡ list_any (is_of name) plans.now }
 {
-    let (stream, priority, ring) = stream_said(words)?;
+    plans.iter().any(|plan| name == plan.name())
+}
+
+// Whether a stream of this name may follow these streams, with a ring of this length.
+#[tactic(auto, unfolding(crate::specs::Adding::may_follow))]
+fn may_follow(version: u32, before: &[Plan], name: Name, ring: u32) -> Result<(), LineError>
+    ensures follows { Gives (λ allowed. tt) result (may_follow version before.now name ring) }
+    ensures ring { IfOk result (λ allowed. (16 ≤ ring) × (ring ≤ 4096) × (length before.now < 16)) }
+{
+    if version != 2 && name.id != before.len() as u64 + 1 {
+        return Err(LineError::Refused(Kind::Order));
+    }
+    if has_plan(before, name) {
+        return Err(LineError::Refused(Kind::Double));
+    }
+    let long = ring >= LEAST_RING && ring <= MOST_RING;
+    if !long || name.namespace > LAST_NAMESPACE || before.len() >= MOST_STREAMS {
+        return Err(LineError::Refused(Kind::Limit));
+    }
+    Ok(())
+}
+
+#[tactic(auto, unfolding(crate::specs::Adding::with_stream))]
+fn with_stream(
+    alloc: Global,
+    version: u32,
+    words: Words<'_>,
+    draft: Draft,
+) -> Result<Draft, LineError>
+    ensures { Gives shown result (with_stream version (words_of words.entry.rest.now) (shown draft)) }
+{
+    let (name, priority, ring) = stream_said(version, words)?;
     let actions = draft.actions;
     let flushes = draft.flushes;
     let done = streams(draft)?;
-    if stream as usize != done.len() + 1 {
-        return Err(LineError::Refused(Kind::Order));
-    }
-    if ring < 16 || ring > 4096 || stream > 16 {
-        return Err(LineError::Refused(Kind::Limit));
-    }
+    may_follow(version, &done, name, ring)?;
     Ok(Draft {
         done,
-        last: Some(Plan::start(alloc, ring, priority)),
+        last: Some(Plan::start(alloc, name, priority, ring)),
         actions,
         flushes,
     })
@@ -114,15 +154,20 @@ fn with_fill(words: Words<'_>, draft: Draft) -> Result<Draft, LineError>
 }
 
 #[tactic(auto, unfolding(crate::specs::Adding::with_flush))]
-fn with_flush(alloc: Global, words: Words<'_>, draft: Draft) -> Result<Draft, LineError>
-    ensures { Gives shown result (with_flush (words_of words.entry.rest.now) (shown draft)) }
+fn with_flush(
+    alloc: Global,
+    known: &Known,
+    words: Words<'_>,
+    draft: Draft,
+) -> Result<Draft, LineError>
+    ensures { Gives shown result (with_flush known.now.version known.now.names (words_of words.entry.rest.now) (shown draft)) }
 {
-    let (put, pairs) = flush_said(alloc, words)?;
+    let (put, fences) = flush_said(alloc, known, words)?;
     let begun = acting(draft)?;
-    if begun.flushes >= MOST_FLUSHES || pairs.len() > MOST_FENCES {
+    if begun.flushes >= MOST_FLUSHES || fences.len() > MOST_FENCES {
         return Err(LineError::Refused(Kind::Limit));
     }
-    begun.flush(put, Fences::of(pairs))
+    begun.flush(put, Fences::of(fences))
 }
 
 #[tactic(auto, unfolding(crate::specs::Adding::with_finish))]
@@ -171,22 +216,23 @@ fn with_dump(words: Words<'_>, draft: Draft) -> Result<Draft, LineError>
 #[tactic(auto, unfolding(crate::specs::Adding::with_line))]
 pub(crate) fn with_line(
     alloc: Global,
+    known: &Known,
     name: &[u8],
     words: Words<'_>,
     draft: Draft,
 ) -> Result<Draft, LineError>
-    ensures { Gives shown result (with_line name.now (words_of words.entry.rest.now) (shown draft)) }
+    ensures { Gives shown result (with_line known.now.version known.now.names name.now (words_of words.entry.rest.now) (shown draft)) }
 {
     let Some(keyword) = keyword_of(name) else {
         return Err(LineError::Refused(Kind::Word));
     };
     match keyword {
-        Keyword::StreamLine => with_stream(alloc, words, draft),
+        Keyword::StreamLine => with_stream(alloc, known.version, words, draft),
         Keyword::MemoryLine => with_memory(words, draft),
         Keyword::ResultsLine => with_results(words, draft),
         Keyword::PutLine => with_puts(words, draft),
         Keyword::FillLine => with_fill(words, draft),
-        Keyword::FlushLine => with_flush(alloc, words, draft),
+        Keyword::FlushLine => with_flush(alloc, known, words, draft),
         Keyword::FinishLine => with_finish(words, draft),
         Keyword::TokenLine => with_token(words, draft),
         Keyword::CloseLine => with_close(words, draft),

@@ -2,16 +2,16 @@ ghost use Rattle.std.specs.Prelude.{◌≡◌, ◌+◌, ◌<◌, ◌≤◌, ◌^
 ghost use Rattle.std.specs.List.{All};
 ghost use Rattle.gpu_cmd.specs.Lawful.{places_of};
 ghost use Rattle.gpu_cmd.specs.Spans.{AreTiles, words_in};
-ghost use Rattle.gpu_plan.specs.Text.{words_of};
-ghost use Rattle.gpu_plan.specs.Numbers.{value_of};
+ghost use Rattle.script_words.specs.Text.{words_of};
+ghost use Rattle.script_words.specs.Numbers.{value_of};
 ghost use Rattle.gpu_plan.specs.Plans.{IsWithin, HasFewFences, is_closed, ring_alone};
-ghost use Rattle.gpu_plan.specs.Adding.{puts};
+ghost use Rattle.gpu_plan.specs.Adding.{fresh_plan, puts};
 ghost use Rattle.gpu_plan.specs.declared.plan.Action.TheVariants.{Finish};
 
-use crate::line::value_of;
-use crate::plan::{Action, Plan, Priority};
-use crate::text::Words;
-use gpu_cmd::{Areas, Span};
+use crate::plan::{Action, Plan};
+use gpu_cmd::{Areas, Name, Span};
+use script_lines::{Priority, value_of};
+use script_words::Words;
 use std::alloc::{AllocError, Global};
 
 // Adds a put for each word, at places that follow one another.
@@ -42,12 +42,13 @@ fn ring_alone(ring: u32) -> Areas
 impl Plan {
     /// The plan of a stream that has a ring and no memory, and has not acted.
     #[tactic(auto, using(crate::proofs::Lawful::lawful_start))]
-    pub(crate) fn start(alloc: Global, ring: u32, priority: Priority) -> Plan
+    pub(crate) fn start(alloc: Global, name: Name, priority: Priority, ring: u32) -> Plan
         requires least { 16 ≤ ring }
         requires most { ring ≤ 4096 }
-        ensures { result ≡ record { areas = ring_alone ring; priority = priority; actions = []; dumps = [] } }
+        ensures { result ≡ fresh_plan name priority ring }
     {
         Plan {
+            name,
             areas: ring_alone(ring),
             priority,
             actions: Vec::new(alloc),
@@ -71,6 +72,7 @@ impl Plan {
         ensures { IfOk result (λ plan. plan ≡ record self { actions = self.actions ++ action ∷ [] }) }
     {
         let Plan {
+            name,
             areas,
             priority,
             mut actions,
@@ -78,6 +80,7 @@ impl Plan {
         } = self;
         actions.push(action)?;
         Ok(Plan {
+            name,
             areas,
             priority,
             actions,
@@ -93,6 +96,7 @@ impl Plan {
         ensures { IfOk result (λ plan. plan ≡ record self { actions = self.actions ++ puts place (map value_of (words_of values.entry.rest.now)) }) }
     {
         let Plan {
+            name,
             areas,
             priority,
             mut actions,
@@ -100,6 +104,7 @@ impl Plan {
         } = self;
         add_puts(&mut actions, place, values)?;
         Ok(Plan {
+            name,
             areas,
             priority,
             actions,
@@ -115,6 +120,7 @@ impl Plan {
         ensures { IfOk result (λ plan. plan ≡ record self { actions = self.actions ++ Finish ∷ []; dumps = self.dumps ++ (length self.actions, place) ∷ [] }) }
     {
         let Plan {
+            name,
             areas,
             priority,
             mut actions,
@@ -124,6 +130,7 @@ impl Plan {
         actions.push(Action::Finish)?;
         dumps.push((at, place))?;
         Ok(Plan {
+            name,
             areas,
             priority,
             actions,
@@ -138,12 +145,14 @@ impl Plan {
         ensures { result ≡ record self { areas = record self.areas { memories = memories } } }
     {
         let Plan {
+            name,
             areas,
             priority,
             actions,
             dumps,
         } = self;
         Plan {
+            name,
             areas: Areas { memories, ..areas },
             priority,
             actions,
@@ -158,12 +167,14 @@ impl Plan {
         ensures { result ≡ record self { areas = record self.areas { results = results } } }
     {
         let Plan {
+            name,
             areas,
             priority,
             actions,
             dumps,
         } = self;
         Plan {
+            name,
             areas: Areas { results, ..areas },
             priority,
             actions,

@@ -4,20 +4,23 @@
 mod acting;
 mod adding;
 mod begun;
+mod copies;
 mod draft;
-mod fault;
 mod growing;
-mod keyword;
-mod line;
-mod number;
+mod laws;
 mod plan;
 mod script;
 mod spans;
-mod text;
 
-pub use fault::{Kind, ScriptFault};
-pub use plan::{Action, Fences, Plan, Plans, Priority};
+pub use laws::{bound_is_first, bound_never_falls, held_values, one_further};
+pub use plan::{Action, Fences, Plan, Plans};
 pub use script::parse;
+pub use script_generator::generate;
+pub use script_lines::{Kind, Priority, ScriptFault};
 
+#[cfg(test)]
+mod limit_tests;
+#[cfg(test)]
+mod naming_tests;
 #[cfg(test)]
 mod tests;

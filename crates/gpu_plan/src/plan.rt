@@ -1,18 +1,13 @@
-ghost use Rattle.std.specs.Prelude.{◌≡◌, ◌-◌, ◌≤◌, length, slice_get};
+ghost use Rattle.std.specs.Prelude.{◌≡◌, ◌-◌, ◌<◌, ◌≤◌, length, slice_get, position, Some, IfSome};
 ghost use Rattle.std.specs.List.{All};
 ghost use Rattle.gpu_cmd.specs.Lawful.{IsLawfulAreas};
-ghost use Rattle.gpu_plan.specs.Plans.{IsLawfulPlan, IsLawfulScript, IsDump};
+ghost use Rattle.std.specs.Option.{option_map};
+ghost use Rattle.gpu_plan.specs.Plans.{IsLawfulPlan, IsLawfulScript, IsDump, is_of, number_of};
+ghost use Rattle.gpu_plan.specs.Named.{names_in, AreLawfulNames};
 
-use gpu_cmd::Areas;
+use gpu_cmd::{Areas, Name};
+use script_lines::Priority;
 use std::marker::Model;
-
-/// How soon a stream is chosen among those that can run.
-#[derive(Clone, Copy, Debug, PartialEq, Eq)]
-pub enum Priority {
-    High,
-    Normal,
-    Low,
-}
 
 /// What a flush waits for, seen as a list of pairs: a stream's number and a release.
 ///
@@ -60,9 +55,10 @@ pub enum Action {
     Close,
 }
 
-/// What one stream has and does.
+/// What one stream is called, has and does.
 #[derive(Debug, Drop)]
 pub struct Plan {
+    pub(crate) name: Name,
     pub(crate) areas: Areas,
     pub(crate) priority: Priority,
     pub(crate) actions: Vec<Action>,
@@ -75,7 +71,7 @@ impl Model for Plan {
 
     ghost Value = { PlanData };
 
-    ghost view = { λ p. record { areas = p.areas; priority = p.priority; actions = p.actions.items; dumps = p.dumps.items } };
+    ghost view = { λ p. record { name = p.name; areas = p.areas; priority = p.priority; actions = p.actions.items; dumps = p.dumps.items } };
 
     ghost invariant = { λ p. IsLawfulPlan p.areas p.actions.items × All (IsDump p.areas.results p.actions.items) p.dumps.items };
 }
@@ -97,6 +93,13 @@ impl Plan {
         &self.areas
     }
 
+    /// The stream's name.
+    pub fn name(&self) -> Name
+        ensures { result ≡ self.now.name }
+    {
+        self.name
+    }
+
     /// The stream's priority.
     pub fn priority(&self) -> Priority
         ensures { result ≡ self.now.priority }
@@ -114,34 +117,45 @@ impl Plan {
     }
 }
 
-/// The plans of one script, at most 16, in the order of their stream lines.
+/// The plans of one script, at most 16, in the order of their stream lines. No two streams have the same name.
 #[derive(Debug, Drop)]
 pub struct Plans {
+    version: u32,
     plans: Vec<Plan>,
 }
 
 impl Model for Plans {
     ghost use Rattle.gpu_plan.specs.Plans.{PlansData, IsLawfulScript};
+    ghost use Rattle.gpu_plan.specs.Named.{names_in, AreLawfulNames};
 
     ghost Value = { PlansData };
 
-    ghost view = { λ p. record { plans = p.plans.items } };
+    ghost view = { λ p. record { version = p.version; plans = p.plans.items } };
 
-    ghost invariant = { λ p. IsLawfulScript p.plans.items };
+    ghost invariant = { λ p. IsLawfulScript p.plans.items × AreLawfulNames p.version (names_in p.plans.items) };
 }
 
 impl Plans {
-    pub(crate) fn of(plans: Vec<Plan>) -> Plans
-        requires { IsLawfulScript plans.items }
-        ensures { result ≡ record { plans = plans.items } }
+    pub(crate) fn of(version: u32, plans: Vec<Plan>) -> Plans
+        requires lawful { IsLawfulScript plans.items }
+        requires named { AreLawfulNames version (names_in plans.items) }
+        ensures { result ≡ record { version = version; plans = plans.items } }
     {
-        Plans { plans }
+        Plans { version, plans }
     }
 
-    /// How many streams there are.
+    /// The version of the script: 1 or 2.
+    pub fn version(&self) -> u32
+        ensures { result ≡ self.now.version }
+    {
+        self.version
+    }
+
+    /// How many streams there are. They and their names are lawful.
     pub fn count(&self) -> u32
         ensures count { result ≡ length self.now.plans }
         ensures lawful { IsLawfulScript self.now.plans }
+        ensures named { AreLawfulNames self.now.version (names_in self.now.plans) }
         ensures few { result ≤ 16 }
     {
         self.plans.len() as u32
@@ -154,5 +168,34 @@ impl Plans {
         ensures { slice_get self.now.plans (stream - 1) ≡ Some result.now }
     {
         &self.plans[stream as usize - 1]
+    }
+
+    /// The name of a stream, counted from 1. No other stream has it. In version 1 stream S has the name (0, S).
+    pub fn name(&self, stream: u32) -> Name
+        requires first { 1 ≤ stream }
+        requires last { stream ≤ length self.now.plans }
+        ensures value { option_map (λ plan. plan.name) (slice_get self.now.plans (stream - 1)) ≡ Some result }
+        ensures numbered { self.now.version ≡ 1 → result ≡ record { namespace = 0; id = stream } }
+        ensures own { number_of self.now.plans result ≡ stream }
+    {
+        self.plans[stream as usize - 1].name()
+    }
+
+    /// The number of the stream that has a name, or 0 where none has it.
+    pub fn number(&self, name: Name) -> u32
+        ensures { result ≡ number_of self.now.plans name }
+    {
+        match self.place_of(name) {
+            Some(at) => at as u32 + 1,
+            None => 0,
+        }
+    }
+
+    // The place of the plan of the stream that has a name.
+    fn place_of(&self, name: Name) -> Option<usize>
+        ensures place { result ≡ position (is_of name) self.now.plans }
+        ensures within { IfSome result (λ at. at < 16) }
+    {
+        self.plans.iter().position(|plan| name == plan.name)
     }
 }

@@ -1,14 +1,15 @@
 ghost use Rattle.std.specs.Prelude.{◌≡◌, ◌+◌, ◌<◌, ◌≤◌, ◌^◌, length, map};
-ghost use Rattle.gpu_plan.specs.Text.{lines_of, words_of};
-ghost use Rattle.gpu_plan.specs.Outcome.{GivesScript};
-ghost use Rattle.gpu_plan.specs.Script.{is_remark, is_skipped, is_head, numbered, from_body, from_head, script_of};
+ghost use Rattle.script_words.specs.Text.{lines_of, words_of};
+ghost use Rattle.script_lines.specs.Outcome.{GivesScript};
+ghost use Rattle.gpu_plan.specs.Script.{is_remark, is_skipped, version_named, version_of, numbered, from_body, from_version, from_head, script_of};
+ghost use Rattle.gpu_plan.specs.Adding.{no_stream};
 ghost use Rattle.gpu_plan.specs.Drafts.{shown};
 
 use crate::adding::{streams, with_line};
 use crate::draft::Draft;
-use crate::fault::{Kind, LineError, ScriptFault};
 use crate::plan::Plans;
-use crate::text::{Lines, Words, all_lines};
+use script_lines::{Kind, Known, LineError, ScriptFault, names_of};
+use script_words::{Lines, Words, all_lines};
 use std::alloc::Global;
 
 fn is_remark(word: &[u8]) -> bool
@@ -26,19 +27,40 @@ fn is_skipped(mut words: Words<'_>) -> bool
     }
 }
 
-fn is_head(mut words: Words<'_>) -> bool
-    ensures { result ≡ is_head (words_of words.entry.rest.now) }
+fn version_named(word: &[u8]) -> Option<u32>
+    ensures { result ≡ version_named word.now }
+{
+    if word == b"1".as_slice() {
+        Some(1)
+    } else if word == b"2".as_slice() {
+        Some(2)
+    } else {
+        None
+    }
+}
+
+fn version_of(mut words: Words<'_>) -> Option<u32>
+    ensures { result ≡ version_of (words_of words.entry.rest.now) }
 {
     let (Some(name), Some(version), None) = (words.next(), words.next(), words.next()) else {
-        return false;
+        return None;
     };
-    name == b"gpu-script".as_slice() && version == b"1".as_slice()
+    if name != b"gpu-script".as_slice() {
+        return None;
+    }
+    version_named(version)
 }
 
 // What the line of this number does to the draft.
 #[tactic(auto, unfolding(crate::specs::Script::numbered))]
-fn numbered(alloc: Global, number: u32, line: &[u8], draft: Draft) -> Result<Draft, ScriptFault>
-    ensures { GivesScript shown result (numbered number (words_of line.now) (shown draft)) }
+fn numbered(
+    alloc: Global,
+    known: &Known,
+    number: u32,
+    line: &[u8],
+    draft: Draft,
+) -> Result<Draft, ScriptFault>
+    ensures { GivesScript shown result (numbered known.now.version known.now.names number (words_of line.now) (shown draft)) }
 {
     let mut words = Words { rest: line };
     let Some(name) = words.next() else {
@@ -47,31 +69,69 @@ fn numbered(alloc: Global, number: u32, line: &[u8], draft: Draft) -> Result<Dra
     if is_remark(name) {
         return Ok(draft);
     }
-    match with_line(alloc, name, words, draft) {
+    match with_line(alloc, known, name, words, draft) {
         Ok(next) => Ok(next),
         Err(LineError::Refused(kind)) => Err(ScriptFault::Refused { line: number, kind }),
         Err(LineError::Memory) => Err(ScriptFault::Memory),
     }
 }
 
-// The plans of a draft and the lines behind it, the first of which has this number.
+// A draft without a stream.
+fn no_stream(alloc: Global) -> Draft
+    ensures { shown result ≡ no_stream }
+{
+    Draft {
+        done: Vec::new(alloc),
+        last: None,
+        actions: 0,
+        flushes: 0,
+    }
+}
+
+// The plans of the lines behind the head line, the first of which has this number.
 fn from_body(
     alloc: Global,
+    known: &Known,
     first: u32,
     lines: Lines<'_>,
-    draft: Draft,
 ) -> Result<Plans, ScriptFault>
     requires { first + length (lines_of lines.rest.now) < 2 ^ 32 }
-    ensures { GivesScript (λ plans. plans) result (from_body first (shown draft) (map words_of (lines_of lines.entry.rest.now))) }
+    ensures { GivesScript (λ plans. plans) result (from_body known.now.version known.now.names first no_stream (map words_of (lines_of lines.entry.rest.now))) }
 {
     let mut number = first;
-    let mut draft = draft;
+    let mut draft = no_stream(alloc);
     for line in lines {
-        draft = numbered(alloc, number, line, draft)?;
+        draft = numbered(alloc, known, number, line, draft)?;
         number += 1;
     }
     match streams(draft) {
-        Ok(plans) => Ok(Plans::of(plans)),
+        Ok(plans) => Ok(Plans::of(known.version, plans)),
+        Err(_) => Err(ScriptFault::Memory),
+    }
+}
+
+// The plans of the lines behind a line of this number, which says this version or is no head line.
+#[tactic(auto, unfolding(crate::specs::Script::from_version))]
+fn from_version(
+    alloc: Global,
+    version: Option<u32>,
+    number: u32,
+    lines: Lines<'_>,
+) -> Result<Plans, ScriptFault>
+    requires { number + 1 + length (lines_of lines.rest.now) < 2 ^ 32 }
+    ensures { GivesScript (λ plans. plans) result (from_version version number (map words_of (lines_of lines.entry.rest.now))) }
+{
+    let Some(version) = version else {
+        return Err(ScriptFault::Refused {
+            line: number,
+            kind: Kind::Head,
+        });
+    };
+    match names_of(alloc, version, lines) {
+        Ok(names) => {
+            let known = Known { version, names };
+            from_body(alloc, &known, number + 1, lines)
+        }
         Err(_) => Err(ScriptFault::Memory),
     }
 }
@@ -94,19 +154,7 @@ fn from_head(alloc: Global, text: Lines<'_>) -> Result<Plans, ScriptFault>
             Some(line) => {
                 let words = Words { rest: line };
                 if !is_skipped(words) {
-                    if !is_head(words) {
-                        return Err(ScriptFault::Refused {
-                            line: number,
-                            kind: Kind::Head,
-                        });
-                    }
-                    let draft = Draft {
-                        done: Vec::new(alloc),
-                        last: None,
-                        actions: 0,
-                        flushes: 0,
-                    };
-                    return from_body(alloc, number + 1, lines, draft);
+                    return from_version(alloc, version_of(words), number, lines);
                 }
                 number += 1;
             }

@@ -1,36 +1,16 @@
-ghost use Rattle.std.specs.Prelude.{◌≡◌, ◌≤◌, IfOk};
-ghost use Rattle.gpu_cmd.specs.Spans.{AreTiles, span_at, words_in};
-ghost use Rattle.gpu_plan.specs.Outcome.{Gives};
+ghost use Rattle.std.specs.Prelude.{◌≤◌, IfOk};
+ghost use Rattle.gpu_cmd.specs.Spans.{AreTiles};
+ghost use Rattle.script_lines.specs.Outcome.{Gives};
 ghost use Rattle.gpu_plan.specs.Adding.{spans_with};
 
-use crate::fault::{Kind, LineError};
-use gpu_cmd::Span;
+use gpu_cmd::{Span, span_at, words_in};
+use script_lines::{Kind, LineError};
 
 /// The greatest number of a memory.
 const LAST_MEMORY: u32 = 15;
 
 /// The most words that the transfer memories, or the result memories, of a stream have.
 const MOST_WORDS: u64 = 65_536;
-
-/// The span of a memory, where it is declared.
-pub(crate) fn span_at(spans: &[Option<Span>; 16], memory: u32) -> Option<Span>
-    ensures { result ≡ span_at spans.now memory }
-{
-    spans.get(memory as usize).copied().flatten()
-}
-
-// How many words the declared memories have in all.
-fn words_in(spans: &[Option<Span>; 16]) -> u64
-    ensures { result ≡ words_in spans.now }
-{
-    let mut words = 0;
-    for span in spans {
-        if let Some(span) = span {
-            words += u64::from(span.words);
-        }
-    }
-    words
-}
 
 /// Memories that count from a first place on, with one more behind those before.
 #[tactic(auto, unfolding(crate::specs::Adding::spans_with))]

@@ -1,6 +1,6 @@
 use Rattle.std.proofs.Common.{◌≡◌, ◌+◌, ◌++◌, length, map}
-use Rattle.gpu_plan.specs.Text.{words_of}
-use Rattle.gpu_plan.specs.Numbers.{value_of}
+use Rattle.script_words.specs.Text.{words_of}
+use Rattle.script_words.specs.Numbers.{value_of}
 use Rattle.gpu_plan.specs.Adding.{puts}
 use Rattle.gpu_plan.proofs.growing.add_puts.Given as goal
 

@@ -1,11 +1,14 @@
 use Rattle.std.proofs.Common.{◌≡◌, ◌+◌, length, map}
-use Rattle.gpu_plan.specs.Text.{words_of, lines_of}
+use Rattle.script_words.specs.Text.{words_of, lines_of}
+use Rattle.gpu_plan.specs.Named.{names_in, AreLawfulNames}
+use Rattle.gpu_plan.specs.Adding.{no_stream, streams}
 use Rattle.gpu_plan.specs.Script.{from_body}
 use Rattle.gpu_plan.specs.Drafts.{shown}
 use Rattle.gpu_plan.proofs.script.from_body.Given as goal
 
 abbrev pub invariant-loop-line : goal.invariant-loop-line
 invariant-loop-line l = record {
-  said : from_body l.number (shown l.draft) (map words_of (lines_of l.line-iterator.rest.now)) ≡ from_body l.first (shown l.fn.draft) (map words_of (lines_of l.fn.lines.rest.now));
+  said : from_body l.known.version l.known.names l.number (shown l.draft) (map words_of (lines_of l.line-iterator.rest.now)) ≡ from_body l.known.version l.known.names l.first no_stream (map words_of (lines_of l.fn.lines.rest.now));
   numbers : l.number + length (lines_of l.line-iterator.rest.now) ≡ l.first + length (lines_of l.fn.lines.rest.now);
+  named : AreLawfulNames l.known.version (names_in (streams (shown l.draft)));
 }

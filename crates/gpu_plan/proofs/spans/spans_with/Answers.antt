@@ -1,4 +1,4 @@
-use Rattle.std.proofs.Common.{◌+◌, ap, sym, arith, rules}
+use Rattle.std.proofs.Common.{◌+◌, arith, rules}
 use Rattle.gpu_plan.proofs.Tiled.{tiles_grow}
 use Rattle.gpu_plan.proofs.spans.spans_with.Goals as goal
 

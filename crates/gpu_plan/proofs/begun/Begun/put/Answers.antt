@@ -1,5 +1,5 @@
 use Rattle.std.proofs.Common.{arith}
-use Rattle.gpu_plan.specs.Text.{words_of}
+use Rattle.script_words.specs.Text.{words_of}
 use Rattle.gpu_plan.specs.Drafts.{begun}
 use Rattle.gpu_plan.proofs.Counts.{too_many}
 use Rattle.gpu_plan.proofs.begun.Begun.put.Goals as goal

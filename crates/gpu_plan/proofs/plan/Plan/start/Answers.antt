@@ -1,5 +1,3 @@
-use Rattle.std.proofs.Common.{arith}
-use Rattle.std.specs.List.{All}
 use Rattle.std.proofs.lemmas.List.Elements.{All-nil}
 use Rattle.gpu_plan.specs.Plans.{IsDump}
 use Rattle.gpu_plan.proofs.Lawful.{lawful_start}

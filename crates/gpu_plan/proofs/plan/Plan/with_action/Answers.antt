@@ -1,4 +1,4 @@
-use Rattle.std.proofs.Common.{◌≡◌, ◌<◌, false, ◌∷◌, [], length, ap, arith}
+use Rattle.std.proofs.Common.{◌≡◌, false, ◌∷◌, [], length, ap, arith}
 use Rattle.gpu_plan.specs.Plans.{PlanData, is_closed}
 use Rattle.gpu_plan.proofs.Lawful.{lawful_action}
 use Rattle.gpu_plan.proofs.Dumps.{dumps_stay}

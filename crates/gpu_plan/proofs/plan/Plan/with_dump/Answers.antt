@@ -1,4 +1,4 @@
-use Rattle.std.proofs.Common.{◌≡◌, ◌<◌, false, length, ap, arith, refl, sym}
+use Rattle.std.proofs.Common.{◌≡◌, false, length, ap, arith, refl}
 use Rattle.gpu_cmd.specs.Spans.{words_in}
 use Rattle.gpu_plan.specs.declared.plan.Action.TheVariants.{Finish}
 use Rattle.gpu_plan.specs.Plans.{PlanData, is_closed}

@@ -1,0 +1,19 @@
+-- How the streams of a script are named.
+use Rattle.std.specs.Prelude.{◌≡◌, ℕ, ◌+◌, List, Some, map, slice_get}
+use Rattle.std.specs.List.{IsDistinct}
+use Rattle.gpu_cmd.specs.declared.name.Name.{Name}
+use Rattle.stream_names.specs.Names.{is_name}
+use Rattle.gpu_plan.specs.Plans.{PlanData}
+
+-- the names of the streams, in their order
+abbrev pub names_in : List PlanData → List Name
+names_in plans = map (λ plan. plan.name) plans
+
+-- stream S has the name (0, S)
+abbrev pub AreNumbered : List Name → Type 0
+AreNumbered names = (k : ℕ) (name : Name) → slice_get names k ≡ Some name → name ≡ record { namespace = 0; id = k + 1 }
+
+-- no two streams have the same name, and in version 1 the names are the numbers
+pub record AreLawfulNames (version : ℕ) (names : List Name) : Type 0 where
+  pub apart : IsDistinct is_name names
+  pub numbered : version ≡ 1 → AreNumbered names

@@ -1,0 +1,52 @@
+-- Rounds written one after the other.
+use Rattle.std.proofs.Common.{◌≡◌, ℕ, zero, suc, ◌+◌, ◌*◌, List, [], ◌∷◌, ◌++◌, refl, sym, ap, ◌∙◌, arith, append_assoc}
+use Rattle.std.specs.Prelude.{codes}
+use Rattle.std.proofs.lemmas.List.{append-nil}
+use Rattle.script_generator.specs.Draws.{drawn, after_draws}
+use Rattle.script_generator.specs.Generator.{block, round_lines, round_text, rounds, start_text, stream_lines, streams, generated}
+
+pub rounds_one : (left more stream round state : ℕ) → left ≡ more + 1 → rounds left stream round state ≡ round_text stream round state ++ rounds more stream (round + 1) (after_draws 7 state)
+unfolding rounds
+rounds_one left more stream round state is = ap (λ n. rounds n stream round state) {x = left} {y = suc more} (omega arith)
+
+draws_add : (m n state : ℕ) → after_draws (m + n) state ≡ after_draws n (after_draws m state)
+draws_add zero n state = ap (λ k. after_draws k state) {x = 0 + n} {y = n} (omega arith)
+draws_add (suc m) n state = ap (λ k. after_draws k state) {x = suc m + n} {y = suc (m + n)} (omega arith) ∙ draws_add m n (drawn state)
+
+pub draws_one : (left more state : ℕ) → left ≡ more + 1 → after_draws (7 * left) state ≡ after_draws (7 * more) (after_draws 7 state)
+draws_one left more state is = ap (λ n. after_draws n state) {x = 7 * left} {y = 7 + 7 * more} (omega arith) ∙ draws_add 7 (7 * more) state
+
+-- one round written, the rest follows it
+pub rounds_go : (out new all : List ℕ) (left more stream round state next : ℕ) → left ≡ more + 1 → new ≡ out ++ round_text stream round state → next ≡ after_draws 7 state
+    → out ++ rounds left stream round state ≡ all → new ++ rounds more stream (round + 1) next ≡ all
+rounds_go out new all left more stream round state next is written drawn so_far =
+    rw (written, drawn) (let one = rounds_one left more stream round state is in let joined : (out ++ round_text stream round state) ++ rounds more stream (round + 1) (after_draws 7 state) ≡ out ++ rounds left stream round state = rw one (simp append_assoc) in joined ∙ so_far)
+
+pub rounds_none : (out all : List ℕ) (left stream round state : ℕ) → left ≡ 0 → out ++ rounds left stream round state ≡ all → out ++ [] ≡ all
+unfolding rounds
+rounds_none out all left stream round state none so_far =
+    let same : out ++ rounds left stream round state ≡ out ++ [] = ap (λ n. out ++ rounds n stream round state) none in
+    sym same ∙ so_far
+
+pub round_said : (out new : List ℕ) (stream round state : ℕ) (words : List ℕ) (uploaded : ℕ) → words ≡ block stream round state → uploaded ≡ after_draws 7 state → new ≡ out ++ round_lines round words uploaded → new ≡ out ++ round_text stream round state
+unfolding round_text
+round_said out new stream round state words uploaded is behind written = written ∙ rw (is, behind) refl
+
+low : 108 ∷ 111 ∷ 119 ∷ [] ≡ codes "low"
+low = refl
+
+normal : 110 ∷ 111 ∷ 114 ∷ 109 ∷ 97 ∷ 108 ∷ [] ≡ codes "normal"
+normal = refl
+
+high : 104 ∷ 105 ∷ 103 ∷ 104 ∷ [] ≡ codes "high"
+high = refl
+
+join : (h p q r s t u v w : List ℕ) → (((h ++ (p ++ q)) ++ (r ++ s)) ++ (t ++ u)) ++ (v ++ w) ≡ h ++ ((p ++ q) ++ ((r ++ s) ++ ((t ++ u) ++ ((v ++ w) ++ []))))
+join h p q r s t u v w = simp (append_assoc, append-nil)
+
+pub whole : (size seed s t u : ℕ) (a b c d e : List ℕ) → a ≡ codes "gpu-script 1\n" → b ≡ a ++ stream_lines (108 ∷ 111 ∷ 119 ∷ []) size 1 seed → s ≡ after_draws (7 * size) seed
+    → c ≡ b ++ stream_lines (108 ∷ 111 ∷ 119 ∷ []) size 2 s → t ≡ after_draws (7 * size) s → d ≡ c ++ stream_lines (110 ∷ 111 ∷ 114 ∷ 109 ∷ 97 ∷ 108 ∷ []) size 3 t → u ≡ after_draws (7 * size) t
+    → e ≡ d ++ stream_lines (104 ∷ 105 ∷ 103 ∷ 104 ∷ []) size 4 u → e ≡ generated size seed
+unfolding generated streams
+whole size seed s t u a b c d e head one after_one two after_two three after_three four =
+    rw (four, three, two, one, head, low, normal, high, after_three, after_two, after_one) (join (codes "gpu-script 1\n") (start_text (codes "low") 1) (rounds size 1 1 seed) (start_text (codes "low") 2) (rounds size 2 1 (after_draws (7 * size) seed)) (start_text (codes "normal") 3) (rounds size 3 1 (after_draws (7 * size) (after_draws (7 * size) seed))) (start_text (codes "high") 4) (rounds size 4 1 (after_draws (7 * size) (after_draws (7 * size) (after_draws (7 * size) seed)))))

@@ -1,0 +1,20 @@
+use Rattle.std.proofs.Common.{◌∙◌, ◌+◌, ◌-◌, ◌≤◌, ◌*◌, ap, sym, arith}
+use Rattle.std.proofs.lemmas.List.{append-nil}
+use Rattle.script_generator.specs.Draws.{after_draws}
+use Rattle.script_generator.proofs.Rounds.{rounds_go, rounds_none, round_said, draws_one}
+use Rattle.script_generator.proofs.script.push_rounds.Goals as goal
+
+pub loop-round-preserved : goal.loop-round-preserved
+loop-round-preserved c =
+    let within : c.loop-round.round ≤ c.args.size = omega arith in
+    let left = c.args.size + 1 - c.loop-round.round in
+    let more = c.args.size + 1 - (c.loop-round.round + 1) in
+    record {
+      first = omega arith;
+      last = omega arith;
+      text = rounds_go c.loop-round.out.items c.push_round.new.out.items _ left more c.args.stream c.loop-round.round c.loop-round.next c.block-behind.result.1 (omega arith) (round_said c.loop-round.out.items c.push_round.new.out.items c.args.stream c.loop-round.round c.loop-round.next c.block-behind.result.0 c.block-behind.result.1 c.block-behind.ensures.block c.block-behind.ensures.state c.in_ok-push_round.ensures) c.block-behind.ensures.state c.loop-round.invariant.text;
+      draws = ap (after_draws (7 * more)) c.block-behind.ensures.state ∙ sym (draws_one left more c.loop-round.next (omega arith)) ∙ c.loop-round.invariant.draws;
+    }
+
+pub returns-clause-text : goal.returns-clause-text
+returns-clause-text c = sym (append-nil c.loop-round.out.items) ∙ rounds_none c.loop-round.out.items _ (c.args.size + 1 - c.loop-round.round) c.args.stream c.loop-round.round c.loop-round.next (omega arith) c.loop-round.invariant.text

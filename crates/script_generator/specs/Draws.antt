@@ -1,0 +1,15 @@
+-- The draws of a generator of scripts.
+use Rattle.std.specs.Prelude.{ℕ, zero, suc, ◌+◌, ◌*◌, ◌/◌, ◌%◌, ◌^◌}
+
+-- the state behind a draw, which is also what the draw gives
+abbrev pub drawn : ℕ → ℕ
+drawn state = (1664525 * state + 1013904223) % 2 ^ 32
+
+-- the state behind so many draws
+abbrev pub after_draws : ℕ → ℕ → ℕ
+after_draws zero state = state
+after_draws (suc count) state = after_draws count (drawn state)
+
+-- a small draw below a bound: the draw's high half, cut to the bound
+abbrev pub below : ℕ → ℕ → ℕ
+below bound draw = draw / 65536 % bound

@@ -1,0 +1,62 @@
+-- The scripts that are generated from a size and a seed.
+use Rattle.std.specs.Prelude.{ℕ, zero, suc, false, ◌+◌, ◌-◌, ◌*◌, ◌%◌, List, [], ◌∷◌, ◌++◌, codes, decimal}
+use Rattle.std.specs.Fmt.{digits}
+use Rattle.std.specs.List.{flat_map}
+use Rattle.script_generator.specs.Draws.{after_draws, below}
+
+-- a space and a number in decimal digits
+abbrev pub number_text : ℕ → List ℕ
+number_text number = codes " " ++ decimal number
+
+-- a space and a value in hexadecimal digits of lower case, without leading zeros
+abbrev pub value_text : ℕ → List ℕ
+value_text value = codes " " ++ digits 16 false value
+
+-- the first place of a round's block: the second half of the ring in odd rounds, and the first in even ones
+abbrev pub base_of : ℕ → ℕ
+base_of round = 32 * (round % 2)
+
+-- the block of a round of a stream, where the state before it is this: WaitToken, ClearRect, CopyRect, UploadRect and
+-- InsertFence. The draws are in order the other stream, a place, a texel, and a place to upload to.
+abbrev pub block : ℕ → ℕ → ℕ → List ℕ
+block stream round state =
+    0x20200004 ∷ (1 + below 4 (after_draws 1 state)) ∷ round ∷ 0
+    ∷ 0x20800007 ∷ stream ∷ below 16 (after_draws 2 state) ∷ below 16 (after_draws 3 state) ∷ 1 ∷ 1 ∷ after_draws 4 state
+    ∷ 0x20a00009 ∷ (1 + below 4 (after_draws 1 state)) ∷ 0 ∷ 0 ∷ stream ∷ 8 ∷ 8 ∷ 4 ∷ 4
+    ∷ 0x20c00009 ∷ stream ∷ below 16 (after_draws 5 state) ∷ below 16 (after_draws 6 state) ∷ 1 ∷ 1 ∷ 1 ∷ 0 ∷ 0
+    ∷ 0x20000003 ∷ round ∷ 0 ∷ []
+
+-- the lines of a round: its block, the word that is uploaded, a flush of the block, and an await
+abbrev pub round_lines : ℕ → List ℕ → ℕ → List ℕ
+round_lines round words uploaded =
+    codes "put" ++ number_text (base_of round) ++ flat_map value_text words
+    ++ codes "\nfill 0 0" ++ value_text uploaded
+    ++ codes "\nflush" ++ number_text (32 - base_of round) ++ codes "\nfinish\n"
+
+-- the same of a round of a stream, where the state before it is this; the word is the seventh draw
+unfoldable pub round_text : ℕ → ℕ → ℕ → List ℕ
+round_text stream round state = round_lines round (block stream round state) (after_draws 7 state)
+
+-- the lines of so many rounds from one on, where the state before them is this
+unfoldable pub rounds : ℕ → ℕ → ℕ → ℕ → List ℕ
+rounds zero stream round state = []
+rounds (suc more) stream round state = round_text stream round state ++ rounds more stream (round + 1) (after_draws 7 state)
+
+-- the lines of a stream before its rounds: it creates its image
+unfoldable pub start_text : List ℕ → ℕ → List ℕ
+start_text priority stream =
+    codes "stream" ++ number_text stream ++ codes " " ++ priority ++ codes " 64\nmemory 0 16\nput 0"
+    ++ flat_map value_text (0x20400004 ∷ stream ∷ 16 ∷ 16 ∷ 28 ∷ []) ++ codes "\nflush 32\nfinish\n"
+
+-- the lines of a stream with so many rounds
+abbrev pub stream_lines : List ℕ → ℕ → ℕ → ℕ → List ℕ
+stream_lines priority size stream state = start_text priority stream ++ rounds size stream 1 state
+
+-- the lines of streams with these priorities from one on, with so many rounds each
+unfoldable pub streams : List (List ℕ) → ℕ → ℕ → ℕ → List ℕ
+streams [] size stream state = []
+streams (priority ∷ priorities) size stream state = stream_lines priority size stream state ++ streams priorities size (stream + 1) (after_draws (7 * size) state)
+
+-- the script of a size and a seed
+unfoldable pub generated : ℕ → ℕ → List ℕ
+generated size seed = codes "gpu-script 1\n" ++ streams (codes "low" ∷ codes "low" ∷ codes "normal" ∷ codes "high" ∷ []) size 1 seed

@@ -1,0 +1,72 @@
+ghost use Rattle.std.specs.Prelude.{◌≡◌, ◌<◌, ◌≤◌, ◌++◌, drop, false, OnOk, decimal};
+ghost use Rattle.std.specs.Fmt.{digits, digit_glyph};
+ghost use Rattle.std.specs.List.{flat_map};
+ghost use Rattle.script_generator.specs.Generator.{number_text, value_text};
+
+use itoa::Buffer;
+use std::alloc::AllocError;
+
+/// Appends a space and a number in decimal digits.
+pub(crate) fn push_number(out: &mut Vec<u8>, number: u32) -> Result<(), AllocError>
+    ensures { OnOk result (out.new.items ≡ out.old.items ++ number_text number) }
+{
+    let mut buffer = Buffer::new();
+    out.push(b' ')?;
+    out.extend_from_slice(buffer.format(u64::from(number)).as_bytes())
+}
+
+// A digit below 16, in lower case.
+fn hex_digit(digit: u32) -> u8
+    requires { digit < 16 }
+    ensures { result ≡ digit_glyph false digit }
+{
+    if digit < 10 {
+        b'0' + digit as u8
+    } else {
+        b'a' + (digit - 10) as u8
+    }
+}
+
+// A value in hexadecimal digits, without leading zeros: the digits stand from this place on.
+fn hex_text(value: u32) -> ([u8; 8], usize)
+    ensures text { drop result.1 result.0 ≡ digits 16 false value }
+    ensures place { result.1 ≤ 7 }
+{
+    let mut text = [0; 8];
+    let mut at = 7;
+    let mut left = value;
+    while left >= 16 {
+        text[at] = hex_digit(left % 16);
+        left /= 16;
+        at -= 1;
+    }
+    text[at] = hex_digit(left);
+    (text, at)
+}
+
+// Appends a value in hexadecimal digits, without leading zeros.
+fn push_hex(out: &mut Vec<u8>, value: u32) -> Result<(), AllocError>
+    ensures { OnOk result (out.new.items ≡ out.old.items ++ digits 16 false value) }
+{
+    let (text, at) = hex_text(value);
+    let (_, written) = text.split_at(at);
+    out.extend_from_slice(written)
+}
+
+/// Appends a space and a value in hexadecimal digits.
+pub(crate) fn push_value(out: &mut Vec<u8>, value: u32) -> Result<(), AllocError>
+    ensures { OnOk result (out.new.items ≡ out.old.items ++ value_text value) }
+{
+    out.push(b' ')?;
+    push_hex(out, value)
+}
+
+/// Appends each value behind a space.
+pub(crate) fn push_values(out: &mut Vec<u8>, values: &[u32]) -> Result<(), AllocError>
+    ensures { OnOk result (out.new.items ≡ out.old.items ++ flat_map value_text values.now) }
+{
+    for value in values {
+        push_value(out, *value)?;
+    }
+    Ok(())
+}

@@ -1,0 +1,10 @@
+pub mod Words
+pub mod Values
+pub mod Taken
+mod Lines
+mod RoundTexts
+mod Works
+mod Rounds
+mod Streams
+pub mod Script
+pub mod Names

@@ -1,0 +1,3 @@
+pub mod Namings
+pub mod Pairs
+pub mod Triples

@@ -1,0 +1,10 @@
+use Rattle.std.proofs.Common.{◌≡◌, length}
+use Rattle.script_words.specs.Text.{words_of}
+use Rattle.script_lines.specs.Said.{are_triples}
+use Rattle.script_lines.proofs.fences.are_triples.Given as goal
+
+abbrev pub invariant-loop-words : goal.invariant-loop-words
+invariant-loop-words l = are_triples (words_of l.words.rest.now) ≡ are_triples (words_of l.fn.words.rest.now)
+
+abbrev pub decreases-loop-words : goal.decreases-loop-words
+decreases-loop-words l = length (words_of l.words.rest.now)

@@ -1,0 +1,206 @@
+ghost use Rattle.std.specs.Prelude.{◌≡◌, ◌+◌, ◌≤◌, ◌<◌, ◌^◌, length, map, Some, None, if◌then◌else◌, IfOk, IfSome};
+ghost use Rattle.std.specs.List.{list_all};
+ghost use Rattle.script_words.specs.Text.{words_of};
+ghost use Rattle.script_words.specs.Numbers.{decimal_of, long_decimal_of, is_value, value_of};
+ghost use Rattle.script_lines.specs.Outcome.{Gives, or_kind};
+ghost use Rattle.script_lines.specs.Said.{priority_of, none_said, one_said, two_said, numbered_said, named_said, stream_said, put_said, fill_said};
+ghost use Rattle.script_lines.specs.declared.fault.Kind.TheVariants.{Number};
+
+use crate::fault::{Kind, LineError};
+use crate::priority::Priority;
+use gpu_cmd::Name;
+use script_words::{Words, decimal_u32, decimal_u64, hex_u32};
+
+fn priority_of(word: &[u8]) -> Option<Priority>
+    ensures { result ≡ priority_of word.now }
+{
+    if word == b"high".as_slice() {
+        Some(Priority::High)
+    } else if word == b"normal".as_slice() {
+        Some(Priority::Normal)
+    } else if word == b"low".as_slice() {
+        Some(Priority::Low)
+    } else {
+        None
+    }
+}
+
+/// A decimal number of 32 bits that a word says.
+pub(crate) fn decimal_at(word: &[u8]) -> Result<u32, LineError>
+    ensures { Gives (λ n. n) result (or_kind Number (decimal_of word.now)) }
+{
+    match decimal_u32(word) {
+        Some(number) => Ok(number),
+        None => Err(LineError::Refused(Kind::Number)),
+    }
+}
+
+/// A decimal number of 64 bits that a word says.
+pub(crate) fn long_decimal_at(word: &[u8]) -> Result<u64, LineError>
+    ensures { Gives (λ n. n) result (or_kind Number (long_decimal_of word.now)) }
+{
+    match decimal_u64(word) {
+        Some(number) => Ok(number),
+        None => Err(LineError::Refused(Kind::Number)),
+    }
+}
+
+/// The words behind `finish` and `close`: there is none.
+#[tactic(auto, unfolding(crate::specs::Said::none_said))]
+pub fn none_said(mut words: Words<'_>) -> Result<(), LineError>
+    ensures { Gives (λ said. tt) result (none_said (words_of words.entry.rest.now)) }
+{
+    match words.next() {
+        None => Ok(()),
+        Some(_) => Err(LineError::Refused(Kind::Word)),
+    }
+}
+
+/// The word behind `token`.
+#[tactic(auto, unfolding(crate::specs::Said::one_said))]
+pub fn one_said(mut words: Words<'_>) -> Result<u32, LineError>
+    ensures { Gives (λ said. said) result (one_said (words_of words.entry.rest.now)) }
+{
+    let (Some(n), None) = (words.next(), words.next()) else {
+        return Err(LineError::Refused(Kind::Word));
+    };
+    decimal_at(n)
+}
+
+/// The words behind `memory`, `results` and `dump`.
+#[tactic(auto, unfolding(crate::specs::Said::two_said))]
+pub fn two_said(mut words: Words<'_>) -> Result<(u32, u32), LineError>
+    ensures { Gives (λ said. said) result (two_said (words_of words.entry.rest.now)) }
+{
+    let (Some(m), Some(n), None) = (words.next(), words.next(), words.next()) else {
+        return Err(LineError::Refused(Kind::Word));
+    };
+    let first = decimal_at(m)?;
+    let second = decimal_at(n)?;
+    Ok((first, second))
+}
+
+// The words behind `stream` in version 1: stream S has the name (0, S).
+#[tactic(auto, unfolding(crate::specs::Said::numbered_said))]
+fn numbered_said(mut words: Words<'_>) -> Result<(Name, Priority, u32), LineError>
+    ensures { Gives (λ said. said) result (numbered_said (words_of words.entry.rest.now)) }
+{
+    let (Some(s), Some(p), Some(r), None) = (words.next(), words.next(), words.next(), words.next())
+    else {
+        return Err(LineError::Refused(Kind::Word));
+    };
+    let Some(priority) = priority_of(p) else {
+        return Err(LineError::Refused(Kind::Word));
+    };
+    let stream = decimal_at(s)?;
+    let ring = decimal_at(r)?;
+    let name = Name {
+        namespace: 0,
+        id: u64::from(stream),
+    };
+    Ok((name, priority, ring))
+}
+
+/// The words behind `stream` in version 2.
+#[tactic(auto, unfolding(crate::specs::Said::named_said))]
+pub(crate) fn named_said(mut words: Words<'_>) -> Result<(Name, Priority, u32), LineError>
+    ensures { Gives (λ said. said) result (named_said (words_of words.entry.rest.now)) }
+{
+    let (Some(n), Some(i), Some(p)) = (words.next(), words.next(), words.next()) else {
+        return Err(LineError::Refused(Kind::Word));
+    };
+    let (Some(r), None) = (words.next(), words.next()) else {
+        return Err(LineError::Refused(Kind::Word));
+    };
+    let Some(priority) = priority_of(p) else {
+        return Err(LineError::Refused(Kind::Word));
+    };
+    let namespace = decimal_at(n)?;
+    let id = long_decimal_at(i)?;
+    let ring = decimal_at(r)?;
+    Ok((Name { namespace, id }, priority, ring))
+}
+
+/// The words behind `stream`, by the version.
+pub fn stream_said(version: u32, words: Words<'_>) -> Result<(Name, Priority, u32), LineError>
+    ensures { Gives (λ said. said) result (stream_said version (words_of words.entry.rest.now)) }
+{
+    if version == 2 {
+        named_said(words)
+    } else {
+        numbered_said(words)
+    }
+}
+
+// How many words there are, where each of them is a value.
+#[tactic(auto, using(script_words::proofs::Few::few_words))]
+fn count_values(words: Words<'_>) -> Option<usize>
+    ensures counted { result ≡ (if list_all is_value (words_of words.entry.rest.now) then Some (length (words_of words.entry.rest.now)) else None) }
+    ensures few { IfSome result (λ count. count ≤ 2 ^ 63) }
+{
+    let mut count = 0;
+    for word in words {
+        hex_u32(word)?;
+        count += 1;
+    }
+    Some(count)
+}
+
+/// The value that a word says.
+pub fn value_of(word: &[u8]) -> u32
+    ensures { result ≡ value_of word.now }
+{
+    hex_u32(word).unwrap_or(0)
+}
+
+/// What a put line says: a place, and words that are values, so many.
+#[derive(Clone, Copy, Debug)]
+pub struct Putting<'a> {
+    pub place: u32,
+    pub values: Words<'a>,
+    pub count: usize,
+}
+
+/// The words behind `put`.
+#[tactic(auto, unfolding(crate::specs::Said::put_said))]
+pub fn put_said<'a>(mut words: Words<'a>) -> Result<Putting<'a>, LineError>
+    ensures said { Gives (λ said. (said.place, map value_of (words_of said.values.rest.now))) result (put_said (words_of words.entry.rest.now)) }
+    ensures counted { IfOk result (λ said. said.count ≡ length (words_of said.values.rest.now)) }
+    ensures few { IfOk result (λ said. said.count ≤ 2 ^ 63) }
+{
+    let Some(first) = words.next() else {
+        return Err(LineError::Refused(Kind::Word));
+    };
+    let values = words;
+    if words.next().is_none() {
+        return Err(LineError::Refused(Kind::Word));
+    }
+    let place = decimal_at(first)?;
+    match count_values(values) {
+        Some(count) => Ok(Putting {
+            place,
+            values,
+            count,
+        }),
+        None => Err(LineError::Refused(Kind::Number)),
+    }
+}
+
+/// The words behind `fill`: a memory, and what a put line says.
+#[tactic(auto, unfolding(crate::specs::Said::fill_said))]
+pub fn fill_said<'a>(mut words: Words<'a>) -> Result<(u32, Putting<'a>), LineError>
+    ensures said { Gives (λ said. (said.0, said.1.place, map value_of (words_of said.1.values.rest.now))) result (fill_said (words_of words.entry.rest.now)) }
+    ensures counted { IfOk result (λ said. said.1.count ≡ length (words_of said.1.values.rest.now)) }
+    ensures few { IfOk result (λ said. said.1.count ≤ 2 ^ 63) }
+{
+    let Some(first) = words.next() else {
+        return Err(LineError::Refused(Kind::Word));
+    };
+    let rest = words;
+    let (Some(_), Some(_)) = (words.next(), words.next()) else {
+        return Err(LineError::Refused(Kind::Word));
+    };
+    let memory = decimal_at(first)?;
+    let putting = put_said(rest)?;
+    Ok((memory, putting))
+}

@@ -1,0 +1,82 @@
+ghost use Rattle.std.specs.Prelude.{◌≡◌, ◌≤◌, length, Some, None, if◌then◌else◌};
+ghost use Rattle.std.specs.Char.{is_digit};
+ghost use Rattle.std.specs.List.{list_all};
+ghost use Rattle.std.specs.Str.Parse.{digits_value};
+ghost use Rattle.script_words.specs.Numbers.{decimal_of, hex_of, long_decimal_of};
+
+// The value of at most 15 digits.
+fn value_of(word: &[u8], radix: u32) -> Option<u64>
+    requires two { 2 ≤ radix }
+    requires sixteen { radix ≤ 16 }
+    requires short { length word.now ≤ 15 }
+    ensures { result ≡ (if list_all (λ c. is_digit c radix) word.now then Some (digits_value radix word.now) else None) }
+{
+    let mut value = 0;
+    for byte in word {
+        match char::from(*byte).to_digit(radix) {
+            Some(digit) => value = value * u64::from(radix) + u64::from(digit),
+            None => return None,
+        }
+    }
+    Some(value)
+}
+
+// The value of at most 20 decimal digits.
+fn long_value_of(word: &[u8]) -> Option<u128>
+    requires { length word.now ≤ 20 }
+    ensures { result ≡ (if list_all (λ c. is_digit c 10) word.now then Some (digits_value 10 word.now) else None) }
+{
+    let mut value = 0;
+    for byte in word {
+        match char::from(*byte).to_digit(10) {
+            Some(digit) => value = value * 10 + u128::from(digit),
+            None => return None,
+        }
+    }
+    Some(value)
+}
+
+/// The number below 2^64 that a word of one to twenty digits says.
+#[tactic(auto, unfolding(crate::specs::Numbers::number_of))]
+pub fn decimal_u64(word: &[u8]) -> Option<u64>
+    ensures { result ≡ long_decimal_of word.now }
+{
+    if word.is_empty() || word.len() > 20 {
+        return None;
+    }
+    let value = long_value_of(word)?;
+    if value > u128::from(u64::MAX) {
+        return None;
+    }
+    Some(value as u64)
+}
+
+/// The number below 2^32 that a word of one to ten digits says.
+#[tactic(auto, unfolding(crate::specs::Numbers::number_of))]
+pub fn decimal_u32(word: &[u8]) -> Option<u32>
+    ensures { result ≡ decimal_of word.now }
+{
+    if word.is_empty() || word.len() > 10 {
+        return None;
+    }
+    let value = value_of(word, 10)?;
+    if value > u64::from(u32::MAX) {
+        return None;
+    }
+    Some(value as u32)
+}
+
+/// The number that a word of one to eight hexadecimal digits says.
+#[tactic(auto, unfolding(crate::specs::Numbers::number_of))]
+pub fn hex_u32(word: &[u8]) -> Option<u32>
+    ensures { result ≡ hex_of word.now }
+{
+    if word.is_empty() || word.len() > 8 {
+        return None;
+    }
+    let value = value_of(word, 16)?;
+    if value > u64::from(u32::MAX) {
+        return None;
+    }
+    Some(value as u32)
+}
