@@ -1,6 +1,6 @@
 -- What an accepted command finds: its words are its ring words and then its transfer words, and say what it is.
-use Rattle.std.proofs.Common.{◌≡◌, ℕ, zero, suc, ◌+◌, ◌<◌, ◌≤◌, Bool, true, false, Option, Some, None, Result, Ok, Err, List, [], ◌∷◌, ◌++◌, length, map, take, refl, sym, ap, subst, ◌∙◌, ⊎_elim, arith, IsTrue, IsOkAnd, length-append}
-use Rattle.std.specs.Prelude.{◌==◌, ◌&&◌, nat_le, slice_index}
+use Rattle.std.proofs.Common.{◌≡◌, ℕ, zero, suc, ◌+◌, ◌<◌, ◌≤◌, Bool, true, false, Option, Some, None, Result, Ok, Err, List, [], ◌∷◌, ◌++◌, length, map, take, refl, sym, ap, subst, ◌∙◌, ⊎_elim, arith, IsTrue, IsOkAnd, IsSomeAnd, length-append}
+use Rattle.std.specs.Prelude.{◌==◌, ◌&&◌, nat_le, slice_index, if◌then◌else◌}
 use Rattle.std.specs.Option.{option_map_or}
 use Rattle.std.specs.List.{range_with_len, AllByRecursion}
 use Rattle.std.specs.List.Sorted.{IsStrictlyIncreasing}
@@ -19,12 +19,12 @@ use Rattle.gpu_cmd.specs.declared.facts.StreamFacts.{StreamFacts}
 use Rattle.gpu_cmd.specs.declared.shape.Shape.{Shape}
 use Rattle.gpu_cmd.specs.declared.decoded.Decoded.{Decoded}
 use Rattle.gpu_cmd.specs.Lawful.{IsLawfulFacts, room}
-use Rattle.gpu_cmd.specs.Outcome.{◌>>=◌, unless, or_error}
-use Rattle.gpu_cmd.specs.Table.{Row, row_of, fits, ring_words_of, argument}
+use Rattle.gpu_word.specs.Outcome.{◌>>=◌, unless, or_error}
+use Rattle.gpu_cmd.specs.Table.{Row, row_of, fits, ring_words_of, argument, ring_of, said_by, command_said}
 use Rattle.gpu_cmd.specs.Ranges.{transfer_places}
 use Rattle.gpu_cmd.specs.Checks.{headed, checked, decoded, has_format, has_slot, has_data, has_aligned_results, has_memories, is_within_quota}
 use Rattle.gpu_cmd.specs.Copied.{copied, fetched_places, judged, places_headed, places_decoded, ring_places, value_in, places_listed, IsCopy}
-use Rattle.gpu_cmd.proofs.Heads.{headed_some}
+use Rattle.gpu_cmd.proofs.Heads.{headed_some, headed_fits}
 use Rattle.gpu_cmd.proofs.Copies.{judged_out, places_in, judged_headed, judged_in}
 use Rattle.gpu_cmd.proofs.Rising.{places_rise}
 use Rattle.stream_state.specs.Steps.{values_of, header_in, ring_words_in, command_in}
@@ -149,6 +149,7 @@ pub record Told (words : List (ℕ × ℕ)) (facts : StreamFacts) (command : Com
   pub some : 0 < length ring
   pub ring_words : length ring ≡ ring_words_of (id_of (value_in words facts.get)) (size_of (value_in words facts.get))
   pub count : length transfer ≡ found.count
+  pub fitting : IsSomeAnd (row_of (id_of (value_in words facts.get))) (λ row. IsTrue (fits row (length ring)))
   pub passed : Passed (length ring) (command_by (row_of (id_of (slice_index ring 0))) ring) facts found
   pub same : found.command ≡ command
 
@@ -158,18 +159,21 @@ first_of_range m from (suc count) h = refl
 
 by_decoder : (words : List (ℕ × ℕ)) (facts : StreamFacts) (command : Command) (shape : Shape) (answer : Result Decoded CmdError)
     → decoded (map (value_in words) (ring_places facts shape)) facts ≡ answer → shape_of (value_in words facts.get) ≡ shape → 0 < shape.ring_words
+    → IsSomeAnd (row_of (id_of (value_in words facts.get))) (λ row. IsTrue (fits row shape.ring_words))
     → (answer >>= λ found. Ok found.command) ≡ Ok command → values_of words ≡ map (value_in words) (ring_places facts shape ++ places_decoded answer) → Told words facts command
-by_decoder words facts command shape (Err error) d s some j v = absurd (cc)
-by_decoder words facts command shape (Ok found) d s some j v =
+by_decoder words facts command shape (Err error) d s some f j v = absurd (cc)
+by_decoder words facts command shape (Ok found) d s some f j v =
     let m : ℕ → ℕ = value_in words in
+    let all : length (map m (ring_places facts shape)) ≡ shape.ring_words = length-map (ring_places facts shape) m ∙ length-range_with_len facts.get shape.ring_words in
     record {
       ring = map m (ring_places facts shape);
       transfer = map m (range_with_len found.from found.count);
       found = found;
       values = v ∙ map-append m (ring_places facts shape) (range_with_len found.from found.count);
       header = first_of_range m facts.get shape.ring_words some;
-      some = omega (arith, length-map (ring_places facts shape) m, length-range_with_len facts.get shape.ring_words);
-      ring_words = length-map (ring_places facts shape) m ∙ length-range_with_len facts.get shape.ring_words ∙ ap (λ (x : Shape). x.ring_words) (sym s);
+      some = omega (arith, all);
+      ring_words = all ∙ ap (λ (x : Shape). x.ring_words) (sym s);
+      fitting = subst (λ n. IsSomeAnd (row_of (id_of (value_in words facts.get))) (λ row. IsTrue (fits row n))) (sym all) f;
       count = length-map (range_with_len found.from found.count) m ∙ length-range_with_len found.from found.count;
       passed = decoded_passed (map m (ring_places facts shape)) facts found d;
       same = cc;
@@ -182,7 +186,8 @@ by_head words facts command (Err error) e j v = absurd (cc)
 by_head words facts command (Ok shape) e j v =
     let passed : IsOkAnd (headed (value_in words facts.get) facts) (λ s. shape.ring_words ≡ s.ring_words) = rw e refl in
     by_decoder words facts command shape (decoded (map (value_in words) (ring_places facts shape)) facts) refl (headed_told (value_in words facts.get) facts shape e)
-    (headed_some (value_in words facts.get) facts shape.ring_words passed) j v
+    (headed_some (value_in words facts.get) facts shape.ring_words passed)
+    (headed_fits (value_in words facts.get) facts shape.ring_words passed) j v
 
 pub told : (words : List (ℕ × ℕ)) (facts : StreamFacts) (command : Command) → IsLawfulFacts facts → IsCopy words facts (Ok command) → Told words facts command
 unfolding copied fetched_places
@@ -205,12 +210,22 @@ front_first : (xs ys : List ℕ) → 0 < length xs → slice_index (xs ++ ys) 0 
 front_first [] ys h = absurd (omega arith)
 front_first (x ∷ xs) ys h = refl
 
+-- what ring words say by a row is the command by it
+said_fitting : (row : Option Row) (ring : List ℕ) → IsSomeAnd row (λ row. IsTrue (fits row (length ring))) → said_by row ring ≡ Some (command_by row ring)
+said_fitting None ring h = absurd h
+said_fitting (Some row) ring h = by_test (fits row (length ring)) h
+  where
+    by_test : (b : Bool) → IsTrue b → (if b then Some (row.command (argument ring)) else None) ≡ Some (row.command (argument ring))
+    by_test true h = refl
+    by_test false h = absurd (cc)
+
 -- the words say their header, their number of ring words and their command
 pub record Says (words : List (ℕ × ℕ)) (facts : StreamFacts) (command : Command) : Type 0 where
   pub header : header_in words ≡ value_in words facts.get
   pub ring : ring_words_in words + (transfer_places facts.areas command).count ≡ length words
   pub some : 0 < ring_words_in words
   pub same : command_in words ≡ command
+  pub said : command_said (values_of words) ≡ Some command
   pub passed : (found : Decoded) × Passed (ring_words_in words) command facts found
 
 pub says : (words : List (ℕ × ℕ)) (facts : StreamFacts) (command : Command) → Told words facts command → Says words facts command
@@ -223,11 +238,16 @@ says words facts command t =
     let by_words : command_in words ≡ command_by (row_of (id_of (slice_index t.ring 0))) t.ring = ap (λ values. command_by (row_of (id_of (header_in words))) values) front ∙ ap (λ i. command_by (row_of i) t.ring) id in
     let same : command_by (row_of (id_of (slice_index t.ring 0))) t.ring ≡ command = sym t.passed.same ∙ t.same in
     let passed : Passed (ring_words_in words) command facts t.found = subst (λ n. Passed n command facts t.found) (sym ring) (subst (λ c. Passed (length t.ring) c facts t.found) same t.passed) in
+    let said : command_said (values_of words) ≡ Some command =
+    ap (said_by (row_of (id_of (header_in words)))) front ∙ ap (λ i. said_by (row_of i) t.ring) id
+    ∙ said_fitting (row_of (id_of (slice_index t.ring 0))) t.ring (subst (λ (i : ℕ). IsSomeAnd (row_of i) (λ row. IsTrue (fits row (length t.ring)))) (ap id_of (sym t.header)) t.fitting)
+    ∙ ap Some same in
     let all : length words ≡ length (t.ring ++ t.transfer) = sym (length-map words (λ word. word.1)) ∙ ap length t.values in
     record {
       header = header;
       ring = omega (arith, length-append t.ring t.transfer, t.count, passed.count);
       some = omega (arith, t.some);
       same = by_words ∙ same;
+      said = said;
       passed = (t.found, passed);
     }

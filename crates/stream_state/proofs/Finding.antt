@@ -12,21 +12,26 @@ use Rattle.gpu_cmd.specs.declared.areas.Span.{Span}
 use Rattle.gpu_cmd.specs.declared.range.Range.{Range}
 use Rattle.gpu_cmd.specs.Spans.{span_at}
 use Rattle.gpu_cmd.specs.Lawful.{IsLawfulAreas, IsLawfulFacts}
-use Rattle.gpu_cmd.specs.Outcome.{◌>>=◌, unless}
+use Rattle.gpu_word.specs.Outcome.{◌>>=◌, unless}
 use Rattle.gpu_cmd.specs.Ranges.{texel_bytes, places_from, places_in, transfer_places}
 use Rattle.gpu_cmd.specs.Checks.{has_format, has_slot, has_data, has_aligned_results, has_memories, lies_in}
 use Rattle.gpu_cmd.specs.Copied.{value_in}
 use Rattle.gpu_cmd.specs.Laws.{LeavesRoom}
 use Rattle.gpu_cmd.proofs.Fitting.{accepted_leaves_room}
-use Rattle.stream_state.specs.Steps.{header_in, ring_words_in, command_in, effect_of, acted, moved_on, effect, stepped}
+use Rattle.gpu_cmd.specs.Table.{command_said}
+use Rattle.stream_state.specs.Steps.{values_of, header_in, ring_words_in, command_in, effect_of, acted, moved_on, effect, stepped}
 use Rattle.stream_state.specs.State.{State, IsBounded, facts_of}
 use Rattle.stream_state.specs.Verdict.{has_block, has_bytes, checked_state}
 use Rattle.stream_state.specs.Accepted.{IsAccepted, HasTransfer, HasWords}
 use Rattle.stream_state.proofs.Accepting.{told, says}
 
-first_of : (a b : Bool) → IsTrue (a && b) → IsTrue a
+pub first_of : (a b : Bool) → IsTrue (a && b) → IsTrue a
 first_of true b h = refl
 first_of false b h = h
+
+pub second_of : (a b : Bool) → IsTrue (a && b) → IsTrue b
+second_of true b h = h
+second_of false b h = absurd (cc)
 
 -- the words of a range hold its bytes
 by_bytes : (b : Bool) (span : Span) (range : Range) → (range.bytes == 0) ≡ b → 0 < range.bytes → range.offset % 4 + range.bytes ≤ 4 * (places_from span range).count
@@ -61,10 +66,14 @@ words_held areas words _ some ring memories bytes = tt
 -- what a step finds in its words, and the room that it has in the counts
 pub record Finds (areas : Areas) (words : List (ℕ × ℕ)) (state : State) (command : Command) (size : ℕ) : Type 0 where
   pub same : command_in words ≡ command
+  pub said : command_said (values_of words) ≡ Some command
   pub sized : size ≡ size_of (header_in words)
   pub held : HasWords words command
   pub format : IsTrue (has_format command)
   pub slot : IsTrue (has_slot command)
+  pub memories : IsTrue (has_memories areas command)
+  pub aligned : IsTrue (has_aligned_results command)
+  pub entry : 1 ≤ size
   pub few : size ≤ 4096
   pub some : 1 ≤ length words
   pub quota : state.fetched + length words ≤ 1048576
@@ -85,10 +94,14 @@ finds areas words state command size lawful bounded accepted =
     let sized : size ≡ size_of (value_in words facts.get) = accepted.sized in
     record {
       same = s.same;
+      said = s.said;
       sized = sized ∙ ap size_of (sym s.header);
       held = words_held areas words command s.some s.ring s.passed.1.memories s.passed.1.bytes;
       format = s.passed.1.format;
       slot = s.passed.1.slot;
+      memories = s.passed.1.memories;
+      aligned = second_of (has_data (ring_words_in words) command) (has_aligned_results command) s.passed.1.bytes;
+      entry = omega (arith, room.some);
       few = omega arith;
       some = omega (arith, s.ring, s.some);
       quota = room.quota;

@@ -4,3 +4,6 @@ pub mod Counts
 pub mod Accepting
 pub mod Finding
 pub mod Runs
+pub mod Effects
+pub mod Telling
+pub mod Places

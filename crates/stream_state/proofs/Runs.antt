@@ -11,14 +11,13 @@ use Rattle.std.proofs.lemmas.List.FromFn.{get_or-map-range_with_len, length-map-
 use Rattle.gpu_cmd.specs.declared.areas.Areas.{Areas}
 use Rattle.gpu_cmd.specs.declared.command.Command.{Command}
 use Rattle.gpu_cmd.specs.declared.command.Command.TheVariants.{GetBucketStart, GetBucketData}
-use Rattle.gpu_cmd.specs.Lawful.{IsLawfulAreas}
 use Rattle.stream_state.specs.Blocks.{bytes_in, part}
 use Rattle.gpu_store.specs.declared.op.Answer.{Answer}
 use Rattle.gpu_word.specs.Header.{size_of}
 use Rattle.stream_state.specs.Writes.{Writes, word_from, first_words, with_write, last_written, end_of, after_writes}
 use Rattle.stream_state.specs.State.{State, IsBounded, first_state, noted}
 use Rattle.stream_state.specs.Steps.{header_in, command_in, place_at, writes_of, acted, stepped, writes, token_after, release_after, buckets_after, buffers_after, results_after, Step, stream_of}
-use Rattle.stream_state.specs.Laws.{IsTaken, StatesAreBounded, written, ResultsAreLastWritten, WritesRise}
+use Rattle.stream_state.specs.Laws.{StepIsBounded, StepsMoveOn, StatesAreBounded, written, ResultsAreLastWritten, WritesRise}
 use Rattle.stream_state.proofs.Writings.{last_past}
 use Rattle.stream_state.proofs.Finding.{finds}
 
@@ -69,8 +68,8 @@ stepped_results areas words state = refl
 noted_bounded : (answer : Answer) (state : State) → IsBounded state → IsBounded (noted answer state)
 noted_bounded answer state h = record { fetched = h.fetched; entries = h.entries }
 
-step_bounded : (areas : Areas) (words : List (ℕ × ℕ)) (state : State) → IsLawfulAreas areas → IsBounded state → IsTaken areas words state → IsBounded (stepped areas words state)
-step_bounded areas words state lawful bounded taken =
+pub step_is_bounded : StepIsBounded
+step_is_bounded areas words state lawful bounded taken =
     let f = finds areas words state (command_in words) (size_of (header_in words)) lawful bounded taken.accepted in
     let old : state.entries ≤ 4096 * state.fetched = bounded.entries in
     record {
@@ -78,10 +77,18 @@ step_bounded areas words state lawful bounded taken =
       entries = rw (stepped_fetched areas words state) (rw (stepped_entries areas words state) (omega (arith, f.few, f.some)));
     }
 
+pub steps_move_on : StepsMoveOn
+steps_move_on areas words state lawful bounded taken =
+    let f = finds areas words state (command_in words) (size_of (header_in words)) lawful bounded taken.accepted in
+    record {
+      entries = rw (stepped_entries areas words state) (omega (arith, f.entry));
+      fetched = rw (stepped_fetched areas words state) (omega (arith, f.some));
+    }
+
 pub states_are_bounded : StatesAreBounded
 unfolding stream_of
 states_are_bounded areas [] lawful taken = record { fetched = omega arith; entries = omega arith }
-states_are_bounded areas (step ∷ steps) lawful taken = noted_bounded step.answer (stepped areas step.words (stream_of areas steps)) (step_bounded areas step.words (stream_of areas steps) lawful (states_are_bounded areas steps lawful taken.1) taken.0)
+states_are_bounded areas (step ∷ steps) lawful taken = noted_bounded step.answer (stepped areas step.words (stream_of areas steps)) (step_is_bounded areas step.words (stream_of areas steps) lawful (states_are_bounded areas steps lawful taken.1) taken.0)
 
 -- ---- a result place has the last value that was written to it
 

@@ -5,3 +5,5 @@ pub mod Verdict
 pub mod Steps
 pub mod Accepted
 pub mod Laws
+pub mod Told
+pub mod Judged

@@ -107,13 +107,16 @@ plain_op command = either (image_op command) (rect_op command)
 abbrev pub uploaded : ℕ → Rect → ℕ → List ℕ → Op
 uploaded image rect format bytes = Upload image rect (texels_in format bytes)
 
--- the image operation of a command that uploads texels: of the transfer words, of the bucket's first bytes, or of the
--- buffer's bytes from an offset on
+-- the image operation of a command that uploads texels of a bucket's first bytes, or of a buffer's bytes from an offset on
+abbrev pub block_upload : Command → State → Option Op
+block_upload (UploadBucket image x y w h format bucket) state = Some (uploaded image (rectangle x y w h) format (part (bytes_in state.buckets bucket) 0 (w * h * texel_bytes format)))
+block_upload (UploadBuffer image x y w h format buffer offset) state = Some (uploaded image (rectangle x y w h) format (part (bytes_in state.buffers buffer) offset (w * h * texel_bytes format)))
+block_upload _ state = None
+
+-- the image operation of a command that uploads texels: of the transfer words, or of a bucket or a buffer
 abbrev pub upload_op : Command → List (ℕ × ℕ) → State → Option Op
 upload_op (UploadRect image x y w h format memory offset) words state = Some (uploaded image (rectangle x y w h) format (transfer_bytes words offset (w * h * texel_bytes format)))
-upload_op (UploadBucket image x y w h format bucket) words state = Some (uploaded image (rectangle x y w h) format (part (bytes_in state.buckets bucket) 0 (w * h * texel_bytes format)))
-upload_op (UploadBuffer image x y w h format buffer offset) words state = Some (uploaded image (rectangle x y w h) format (part (bytes_in state.buffers buffer) offset (w * h * texel_bytes format)))
-upload_op _ words state = None
+upload_op command words state = block_upload command state
 
 -- what a command that writes no results asks of the rest of the service
 unfoldable pub asked : Command → List (ℕ × ℕ) → State → Effect

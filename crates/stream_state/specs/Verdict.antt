@@ -5,7 +5,7 @@ use Rattle.gpu_cmd.specs.declared.error.CmdError.TheVariants.{InvalidArguments}
 use Rattle.gpu_cmd.specs.declared.command.Command.{Command}
 use Rattle.gpu_cmd.specs.declared.command.Command.TheVariants.{SetBucketData, SetBucketDataImmediate, GetBucketStart, GetBucketData, UploadBucket, CreateBuffer, DeleteBuffer, BufferData, UploadBuffer}
 use Rattle.gpu_cmd.specs.declared.facts.StreamFacts.{StreamFacts}
-use Rattle.gpu_cmd.specs.Outcome.{◌>>=◌, unless}
+use Rattle.gpu_word.specs.Outcome.{◌>>=◌, unless}
 use Rattle.gpu_cmd.specs.Ranges.{texel_bytes}
 use Rattle.gpu_cmd.specs.Copied.{copied}
 use Rattle.stream_state.specs.Blocks.{block_of, has_range}
@@ -25,16 +25,19 @@ has_block (BufferData buffer offset size memory memory_offset) state = is_some (
 has_block (UploadBuffer image x y w h format buffer offset) state = is_some (block_of state.buffers buffer)
 has_block _ state = true
 
--- check 12: the bucket or the buffer has the bytes that the command writes or reads; an upload from a bucket reads its
--- first bytes
+-- the bucket or the buffer has the bytes of all texels that are uploaded; an upload from a bucket reads its first bytes
+abbrev pub has_texels : Command → State → Bool
+has_texels (UploadBucket image x y w h format bucket) state = has_range state.buckets bucket 0 (w * h * texel_bytes format)
+has_texels (UploadBuffer image x y w h format buffer offset) state = has_range state.buffers buffer offset (w * h * texel_bytes format)
+has_texels _ state = true
+
+-- check 12: the bucket or the buffer has the bytes that the command writes or reads
 abbrev pub has_bytes : Command → State → Bool
 has_bytes (SetBucketData bucket offset size memory memory_offset) state = has_range state.buckets bucket offset size
 has_bytes (SetBucketDataImmediate bucket offset size) state = has_range state.buckets bucket offset size
 has_bytes (GetBucketData bucket offset size memory memory_offset) state = has_range state.buckets bucket offset size
-has_bytes (UploadBucket image x y w h format bucket) state = has_range state.buckets bucket 0 (w * h * texel_bytes format)
 has_bytes (BufferData buffer offset size memory memory_offset) state = has_range state.buffers buffer offset size
-has_bytes (UploadBuffer image x y w h format buffer offset) state = has_range state.buffers buffer offset (w * h * texel_bytes format)
-has_bytes _ state = true
+has_bytes command state = has_texels command state
 
 -- checks 11 and 12, in their order
 unfoldable pub checked_state : Command → State → Result (Unit {0}) CmdError

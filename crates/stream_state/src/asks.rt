@@ -3,7 +3,7 @@ ghost use Rattle.std.specs.Prelude.{◌≡◌, IsTrue, IsErr, IfOk, IfSome};
 ghost use Rattle.gpu_cmd.specs.Checks.{has_format};
 ghost use Rattle.gpu_store.specs.Images.{HasItsTexels};
 ghost use Rattle.stream_state.specs.Verdict.{has_bytes};
-ghost use Rattle.stream_state.specs.Steps.{joined, told, upload_op, asked};
+ghost use Rattle.stream_state.specs.Steps.{joined, told, block_upload, upload_op, asked};
 ghost use Rattle.stream_state.specs.Accepted.{HasWords, BringsItsTexels, takes_memory};
 
 use crate::checks::upload_bytes;
@@ -58,6 +58,47 @@ fn told(command: &Command) -> Option<Effect>
 }
 
 impl StreamState {
+    // The operation of a command that uploads texels of a bucket or of a buffer.
+    fn block_upload(&self, command: &Command) -> Result<Option<Op>, Memory>
+        requires bytes { IsTrue (has_bytes command.now self.now) }
+        requires format { IsTrue (has_format command.now) }
+        ensures op { IfOk result (λ op. op ≡ block_upload command.now self.now) }
+        ensures texels { IfOk result (λ op. IfSome op HasItsTexels) }
+        ensures free { IsErr result → IsTrue (takes_memory command.now) }
+    {
+        match *command {
+            Command::UploadBucket {
+                image,
+                x,
+                y,
+                w,
+                h,
+                format,
+                bucket,
+            } => {
+                let bytes = self.buckets.part(bucket, 0, upload_bytes(w, h, format));
+                let op = upload(self.alloc, image, Rect { x, y, w, h }, format, bytes)?;
+                Ok(Some(op))
+            }
+            Command::UploadBuffer {
+                image,
+                x,
+                y,
+                w,
+                h,
+                format,
+                buffer,
+                offset,
+            } => {
+                let count = upload_bytes(w, h, format);
+                let bytes = self.buffers.part(buffer, offset, count);
+                let op = upload(self.alloc, image, Rect { x, y, w, h }, format, bytes)?;
+                Ok(Some(op))
+            }
+            _ => Ok(None),
+        }
+    }
+
     // The operation of a command that uploads texels.
     fn upload_op(&self, command: &Command, words: &[(u32, u32)]) -> Result<Option<Op>, Memory>
         requires words { HasWords words.now command.now }
@@ -83,36 +124,7 @@ impl StreamState {
                 let op = upload(self.alloc, image, Rect { x, y, w, h }, format, &bytes)?;
                 Ok(Some(op))
             }
-            Command::UploadBucket {
-                image,
-                x,
-                y,
-                w,
-                h,
-                format,
-                bucket,
-            } => {
-                let bytes = self.buckets.part(bucket, 0, upload_bytes(w, h, format));
-                let op = upload(self.alloc, image, Rect { x, y, w, h }, format, bytes)?;
-                Ok(Some(op))
-            }
-            Command::UploadBuffer {
-                image,
-                x,
-                y,
-                w,
-                h,
-                format,
-                buffer,
-                offset,
-            } => {
-                let bytes = self
-                    .buffers
-                    .part(buffer, offset, upload_bytes(w, h, format));
-                let op = upload(self.alloc, image, Rect { x, y, w, h }, format, bytes)?;
-                Ok(Some(op))
-            }
-            _ => Ok(None),
+            _ => self.block_upload(command),
         }
     }
 

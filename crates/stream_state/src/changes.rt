@@ -43,11 +43,7 @@ impl StreamState {
     }
 
     // Changes the buckets, or else the buffers.
-    pub(crate) fn change_blocks(
-        &mut self,
-        command: &Command,
-        words: &[(u32, u32)],
-    ) -> Result<(), Memory>
+    pub(crate) fn change(&mut self, command: &Command, words: &[(u32, u32)]) -> Result<(), Memory>
         requires words { HasWords words.now command.now }
         requires bytes { IsTrue (has_bytes command.now self.old) }
         requires slot { IsTrue (has_slot command.now) }

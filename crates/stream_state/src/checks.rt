@@ -1,7 +1,7 @@
 //! Checks 11 and 12: what a command finds among the buckets and buffers of its stream.
 ghost use Rattle.std.specs.Prelude.{◌≡◌, ◌*◌, ◌<◌, ◌^◌};
 ghost use Rattle.gpu_cmd.specs.Ranges.{texel_bytes};
-ghost use Rattle.stream_state.specs.Verdict.{has_block, has_bytes, checked_state};
+ghost use Rattle.stream_state.specs.Verdict.{has_block, has_texels, has_bytes, checked_state};
 
 use crate::state::StreamState;
 use gpu_cmd::{CmdError, Command};
@@ -38,6 +38,36 @@ impl StreamState {
         }
     }
 
+    // Check 12 for uploads: whether the bucket or buffer has the bytes of all texels.
+    fn has_texels(&self, command: &Command) -> bool
+        ensures { result ≡ has_texels command.now self.now }
+    {
+        match *command {
+            Command::UploadBucket {
+                w,
+                h,
+                format,
+                bucket,
+                ..
+            } => {
+                self.buckets
+                    .has_range(bucket, 0, upload_bytes(w, h, format))
+            }
+            Command::UploadBuffer {
+                w,
+                h,
+                format,
+                buffer,
+                offset,
+                ..
+            } => {
+                self.buffers
+                    .has_range(buffer, offset, upload_bytes(w, h, format))
+            }
+            _ => true,
+        }
+    }
+
     // Check 12: whether the bucket or buffer has the bytes that are read or written.
     fn has_bytes(&self, command: &Command) -> bool
         ensures { result ≡ has_bytes command.now self.now }
@@ -60,34 +90,13 @@ impl StreamState {
                 size,
                 ..
             } => { self.buckets.has_range(bucket, offset, u128::from(size)) }
-            Command::UploadBucket {
-                w,
-                h,
-                format,
-                bucket,
-                ..
-            } => {
-                self.buckets
-                    .has_range(bucket, 0, upload_bytes(w, h, format))
-            }
             Command::BufferData {
                 buffer,
                 offset,
                 size,
                 ..
             } => { self.buffers.has_range(buffer, offset, u128::from(size)) }
-            Command::UploadBuffer {
-                w,
-                h,
-                format,
-                buffer,
-                offset,
-                ..
-            } => {
-                self.buffers
-                    .has_range(buffer, offset, upload_bytes(w, h, format))
-            }
-            _ => true,
+            _ => self.has_texels(command),
         }
     }
 

@@ -17,6 +17,11 @@ mod words;
 mod writes;
 
 pub use effect::Effect;
-pub use laws::{results_are_the_last_written, states_are_bounded};
+pub use laws::{
+    effects_tell_all, results_are_the_last_written, states_are_bounded, verdicts_follow_checks,
+};
 pub use state::StreamState;
 pub use writes::Writes;
+
+#[cfg(test)]
+mod tests;

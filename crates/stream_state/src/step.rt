@@ -36,7 +36,7 @@ impl StreamState {
             return Ok(Effect::Results(writes));
         }
         let effect = self.asked(command, words)?;
-        self.change_blocks(command, words)?;
+        self.change(command, words)?;
         self.count(command);
         Ok(effect)
     }
