@@ -1,0 +1,6 @@
+mod Seats
+mod ClientSteps
+mod ServiceSteps
+mod SeatSteps
+mod Keeping
+mod Answering

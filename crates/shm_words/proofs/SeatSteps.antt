@@ -1,0 +1,177 @@
+-- Seats that are cut and joined keep the rule.
+use Rattle.std.proofs.Common.{◌≡◌, ◌≢◌, ℕ, zero, suc, ◌+◌, ◌≤◌, ◌<◌, List, [], ◌∷◌, ◌++◌, length, set, get_or, replicate, inl, inr, ⊎_elim, refl, sym, ap, ◌∙◌, subst, arith}
+use Rattle.std.proofs.lemmas.List.{get_or-replicate, length-replicate}
+use Rattle.std.proofs.Math.Nat.{max-le}
+use mathlib.Core.Option.{some, some-injective, some-ne-none}
+use mathlib.Core.Logic.{dite}
+use native.Mathlib.Decide.{ℕ_discrete}
+use lib.ListN.{get_elem?}
+use Rattle.atomic_table.proofs.Lists.{at_set, at_snoc, at_longer, set_else, set_again}
+use Rattle.atomic_table.specs.Table.{Splits, Joins}
+use Rattle.gpu_cmd.specs.Lawful.{places_of}
+use Rattle.gpu_plan.specs.Plans.{PlanData}
+use Rattle.shm_words.specs.declared.view.ClientView.{ClientView}
+use Rattle.shm_words.specs.declared.view.ServiceView.{ServiceView}
+use Rattle.shm_words.specs.declared.view.View.{View}
+use Rattle.shm_words.specs.declared.view.View.TheVariants.{Whole, Client, Service, Note, Spent}
+use Rattle.shm_words.specs.Views.{Sat, client_of, service_of, mark_of, reach_of, fresh_client, fresh_service, met_one, note_part, joined}
+use Rattle.shm_words.specs.Rule.{Words, IsStoredNote, Fresh, InUse, Keeps}
+use Rattle.shm_words.specs.Seen.{IsClient, IsService, IsNote}
+use Rattle.shm_words.proofs.Seats.{not_fresh, client_is, service_is, ServiceMoves, service_moves}
+
+-- a new view behind the others, which is a note of the client's latest flush
+noted : (p : PlanData) (s : Words) (run : InUse p s) (m : ℕ) → m ≤ get_or s.words 0 0 → InUse p (record { words = s.words; homes = s.homes; views = s.views ++ Note m ∷ [] })
+noted p s run m low = record {
+  client_seat = run.client_seat;
+  service_seat = run.service_seat;
+  client = run.client;
+  service = run.service;
+  client_there = at_longer s.views (Note m ∷ []) run.client_seat (Client run.client) run.client_there;
+  service_there = at_longer s.views (Note m ∷ []) run.service_seat (Service run.service) run.service_there;
+  others = λ j u no no' at. ⊎_elim (λ (was : get_elem? s.views j ≡ some u). run.others j u no no' was) (λ (new : Note m ≡ u). subst (λ (v : View). IsStoredNote (get_or s.words 0 0) v) new low) (at_snoc s.views (Note m) u j at);
+  client_plan = run.client_plan;
+  service_plan = run.service_plan;
+  wide = run.wide;
+  values = run.values;
+  flush_mark = run.flush_mark;
+  client_mark = run.client_mark;
+  service_mark = run.service_mark;
+  finish_word = run.finish_word;
+  token_word = run.token_word;
+  bounded = run.bounded;
+}
+
+-- kind 4
+pub notes : (p : PlanData) (id : ℕ) (me : Sat) → IsClient me → Splits (Keeps p) id me.0 me.0 (note_part me.0)
+notes p id me is s kept at =
+    let c : ClientView = client_of me.0 in
+    let at' : get_elem? s.views id ≡ some (Client c) = at ∙ ap (λ (m : Sat). some m.0) is in
+    ⊎_elim
+    (λ (fresh : Fresh p s). let no : Client c ≡ Whole p = not_fresh p s id (Client c) fresh at' in absurd (cc))
+    (λ (run : InUse p s).
+    let who = client_is p s run id c at' in
+    inr (subst (λ (l : List View). InUse p (record { words = s.words; homes = s.homes; views = l ++ Note c.mark ∷ [] })) (sym (set_again s.views id me.0 at))
+    (noted p s run c.mark (subst (λ (k : ClientView). k.mark ≤ get_or s.words 0 0) (sym who.1) run.client_mark))))
+    kept
+
+-- kind 4, with no flush
+pub blanks : (p : PlanData) (id : ℕ) (me : Sat) → IsClient me → Splits (Keeps p) id me.0 me.0 (Note 0)
+blanks p id me is s kept at =
+    let c : ClientView = client_of me.0 in
+    let at' : get_elem? s.views id ≡ some (Client c) = at ∙ ap (λ (m : Sat). some m.0) is in
+    ⊎_elim
+    (λ (fresh : Fresh p s). let no : Client c ≡ Whole p = not_fresh p s id (Client c) fresh at' in absurd (cc))
+    (λ (run : InUse p s).
+    inr (subst (λ (l : List View). InUse p (record { words = s.words; homes = s.homes; views = l ++ Note 0 ∷ [] })) (sym (set_again s.views id me.0 at))
+    (noted p s run 0 (omega arith))))
+    kept
+
+-- a note is spent
+spends : (p : PlanData) (s : Words) (run : InUse p s) (id m : ℕ) → get_elem? s.views id ≡ some (Note m) → InUse p (record { words = s.words; homes = s.homes; views = set s.views id Spent })
+spends p s run id m at =
+    let not_client : run.client_seat ≢ id = λ e. (let same : Client run.client ≡ Note m = some-injective _ _ (sym run.client_there ∙ ap (get_elem? s.views) e ∙ at) in cc) in
+    let not_service : run.service_seat ≢ id = λ e. (let same : Service run.service ≡ Note m = some-injective _ _ (sym run.service_there ∙ ap (get_elem? s.views) e ∙ at) in cc) in record {
+      client_seat = run.client_seat;
+      service_seat = run.service_seat;
+      client = run.client;
+      service = run.service;
+      client_there = set_else s.views id run.client_seat Spent not_client ∙ run.client_there;
+      service_there = set_else s.views id run.service_seat Spent not_service ∙ run.service_there;
+      others = λ j u no no' there. ⊎_elim
+          (λ (new : (j ≡ id) × (Spent ≡ u)). subst (λ (v : View). IsStoredNote (get_or s.words 0 0) v) new.1 tt)
+          (λ (old : (j ≢ id) × (get_elem? s.views j ≡ some u)). run.others j u no no' old.1)
+          (at_set s.views id j Spent u there);
+      client_plan = run.client_plan;
+      service_plan = run.service_plan;
+      wide = run.wide;
+      values = run.values;
+      flush_mark = run.flush_mark;
+      client_mark = run.client_mark;
+      service_mark = run.service_mark;
+      finish_word = run.finish_word;
+      token_word = run.token_word;
+      bounded = run.bounded;
+    }
+
+-- kind 5
+pub joins : (p : PlanData) (id : ℕ) (me : Sat) (other : ℕ) (note : Sat) → IsService me → IsNote note → Joins (Keeps p) id me.0 other note.0 (joined me.0 note.0) Spent
+joins p id me other note is is_note s kept at ne there =
+    let v : ServiceView = service_of me.0 in
+    let m : ℕ = mark_of note.0 in
+    let w : View = joined me.0 note.0 in
+    let at' : get_elem? s.views id ≡ some (Service v) = at ∙ ap (λ (x : Sat). some x.0) is in
+    let there' : get_elem? (set s.views id w) other ≡ some (Note m) = there ∙ ap (λ (x : Sat). some x.0) is_note in
+    let was : get_elem? s.views other ≡ some (Note m) = sym (set_else s.views id other w ne) ∙ there' in
+    ⊎_elim
+    (λ (fresh : Fresh p s). let no : Service v ≡ Whole p = not_fresh p s id (Service v) fresh at' in absurd (cc))
+    (λ (run : InUse p s).
+    let who = service_is p s run id v at' in
+    let not_client : other ≢ run.client_seat = λ e. (let same : Client run.client ≡ Note m = some-injective _ _ (sym run.client_there ∙ ap (get_elem? s.views) (sym e) ∙ was) in cc) in
+    let low : m ≤ get_or s.words 0 0 = run.others other (Note m) not_client (λ e. ne (e ∙ sym who.0)) was in
+    let met : v.met ≤ get_or s.words 0 0 = subst (λ (x : ServiceView). x.met ≤ get_or s.words 0 0) (sym who.1) run.service_mark in
+    let moves : ServiceMoves p s run.client s.words (met_one m v) = record {
+      plan = ap (λ (x : ServiceView). x.plan) who.1 ∙ run.service_plan;
+      wide = refl;
+      values = λ j. refl;
+      flush_mark = refl;
+      service_mark = max-le met low;
+      finish_word = run.finish_word ∙ ap (λ (x : ServiceView). x.finished) (sym who.1);
+      token_word = run.token_word ∙ ap (λ (x : ServiceView). x.greatest) (sym who.1);
+      bounded = subst (λ (x : ServiceView). run.client.done ≤ reach_of x) (sym who.1) run.bounded;
+    } in
+    inr (spends p (record { words = s.words; homes = s.homes; views = set s.views id w }) (service_moves p s run id s.words (met_one m v) who.0 moves) other m there'))
+    kept
+
+-- a running table has no whole view
+no_whole : (p q : PlanData) (s : Words) (run : InUse p s) (id : ℕ) → get_elem? s.views id ≡ some (Whole q) → ⊥
+no_whole p q s run id at = dite (ℕ_discrete id run.client_seat)
+    (λ e. let same : Whole q ≡ Client run.client = some-injective _ _ (sym at ∙ ap (get_elem? s.views) e ∙ run.client_there) in cc)
+    (λ apart. dite (ℕ_discrete id run.service_seat)
+    (λ e. let same : Whole q ≡ Service run.service = some-injective _ _ (sym at ∙ ap (get_elem? s.views) e ∙ run.service_there) in cc)
+    (λ apart'. run.others id (Whole q) apart apart' at))
+
+no_more : (p : PlanData) (n j : ℕ) (u : View) → j ≢ 0 → j ≢ 1 → get_elem? (Client (fresh_client p) ∷ Service (fresh_service p) ∷ []) j ≡ some u → IsStoredNote n u
+no_more p n zero u a b e = absurd (a refl)
+no_more p n (suc zero) u a b e = absurd (b refl)
+no_more p n (suc (suc j)) u a b e = absurd (some-ne-none u (sym e))
+
+starts : (p : PlanData) (s : Words) → s.words ≡ replicate (3 + places_of p.areas) 0 → InUse p (record { words = s.words; homes = s.homes; views = Client (fresh_client p) ∷ Service (fresh_service p) ∷ [] })
+starts p s zeros =
+    let zero_at : (i : ℕ) → i < 3 + places_of p.areas → get_or s.words i 0 ≡ 0 = λ i h. ap (λ (ws : List ℕ). get_or ws i 0) zeros ∙ get_or-replicate (3 + places_of p.areas) i 0 0 h in
+    let zero_0 = zero_at 0 (omega arith) in record {
+      client_seat = 0;
+      service_seat = 1;
+      client = fresh_client p;
+      service = fresh_service p;
+      client_there = refl;
+      service_there = refl;
+      others = no_more p (get_or s.words 0 0);
+      client_plan = refl;
+      service_plan = refl;
+      wide = ap length zeros ∙ length-replicate (3 + places_of p.areas) 0;
+      values = λ i h. zero_at (3 + i) (omega arith);
+      flush_mark = omega arith;
+      client_mark = omega arith;
+      service_mark = omega arith;
+      finish_word = zero_at 1 (omega arith);
+      token_word = zero_at 2 (omega arith);
+      bounded = omega arith;
+    }
+
+first_seat : (p q : PlanData) (id : ℕ) → get_elem? (Whole p ∷ []) id ≡ some (Whole q) → (id ≡ 0) × (q ≡ p)
+first_seat p q zero e = let same : Whole p ≡ Whole q = some-injective _ _ e in let is : q ≡ p = cc in (refl, is)
+first_seat p q (suc id) e = absurd (some-ne-none (Whole q) (sym e))
+
+-- the first seat is cut in two
+pub parts : (p q : PlanData) (id : ℕ) → Splits (Keeps p) id (Whole q) (Client (fresh_client q)) (Service (fresh_service q))
+parts p q id s kept at = ⊎_elim
+    (λ (fresh : Fresh p s).
+    let who = first_seat p q id (subst (λ (l : List View). get_elem? l id ≡ some (Whole q)) fresh.alone at) in
+    let now : set s.views id (Client (fresh_client q)) ++ Service (fresh_service q) ∷ [] ≡ Client (fresh_client p) ∷ Service (fresh_service p) ∷ [] = λ i. set (fresh.alone i) (who.0 i) (Client (fresh_client (who.1 i))) ++ Service (fresh_service (who.1 i)) ∷ [] in
+    inr (subst (λ (l : List View). InUse p (record { words = s.words; homes = s.homes; views = l })) (sym now) (starts p s fresh.zeros)))
+    (λ (run : InUse p s). absurd (no_whole p q s run id at))
+    kept
+
+-- the table as it is made
+pub begins : (p : PlanData) (ws : List ℕ) → ws ≡ replicate (3 + places_of p.areas) 0 → Keeps p (record { words = ws; homes = []; views = Whole p ∷ [] })
+begins p ws is = inl (record { zeros = is; alone = refl })

@@ -1,0 +1,5 @@
+use Rattle.std.proofs.Common.{◌≡◌}
+use Rattle.shm_words.proofs.tests.act_all.Given as goal
+
+abbrev pub invariant-loop : goal.invariant-loop
+invariant-loop l = l.words ≡ l.client.table
