@@ -1,0 +1,5 @@
+pub mod Beside
+pub mod Storing
+pub mod Fetching
+pub mod Parts
+pub mod Stirring

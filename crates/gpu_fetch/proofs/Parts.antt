@@ -1,0 +1,177 @@
+-- What is fetched of a command, at each point where the fetching stops.
+use Rattle.std.proofs.Common.{◌≡◌, ℕ, zero, suc, ◌+◌, ◌-◌, ◌<◌, ◌≤◌, true, false, Result, Ok, Err, inr, List, [], ◌∷◌, ◌++◌, length, map, refl, sym, ap, ◌∙◌, subst, arith, append_assoc, IsOkAnd}
+use Rattle.std.specs.Prelude.{◌==◌, slice_index}
+use Rattle.std.specs.List.{range_with_len}
+use Rattle.std.proofs.lemmas.Bool.Decides.{nat_tests}
+use Rattle.std.proofs.lemmas.List.{map-append}
+use Rattle.gpu_cmd.specs.declared.error.CmdError.{CmdError}
+use Rattle.gpu_cmd.specs.declared.error.CmdError.TheVariants.{OutOfBounds}
+use Rattle.gpu_cmd.specs.declared.facts.StreamFacts.{StreamFacts}
+use Rattle.gpu_cmd.specs.declared.shape.Shape.{Shape}
+use Rattle.gpu_cmd.specs.declared.decoded.Decoded.{Decoded}
+use Rattle.gpu_cmd.specs.Checks.{headed, decoded}
+use Rattle.gpu_cmd.specs.Copied.{fetched_places, places_decoded, ring_places, value_in, words_at, places_listed, IsCopy}
+use Rattle.gpu_cmd.proofs.Copies.{put_out_of_range, header_refused, entries_refused, command_copied, header_goes_on, places_at}
+use Rattle.gpu_fetch.specs.Side.{SideData, Fetches}
+use Rattle.gpu_fetch.specs.Fetched.{FetchesSome, FetchesRow, FetchesRowInPart, FetchesRows}
+use Rattle.gpu_fetch.proofs.Fetching.{fetches_then}
+
+-- ---- words at places in a row
+
+first_value : (place value : ℕ) (words : List (ℕ × ℕ)) → value_in ((place, value) ∷ words) place ≡ value
+first_value place value words = let e : (place == place) ≡ true = grind (arith, nat_tests) in rw e refl
+
+later_value : (place value p : ℕ) (words : List (ℕ × ℕ)) → place < p → value_in ((place, value) ∷ words) p ≡ value_in words p
+later_value place value p words h = let e : (place == p) ≡ false = grind (arith, nat_tests) in rw e refl
+
+later_values : (place value p n : ℕ) (words : List (ℕ × ℕ)) → place < p → map (value_in ((place, value) ∷ words)) (range_with_len p n) ≡ map (value_in words) (range_with_len p n)
+later_values place value p zero words h = refl
+later_values place value p (suc n) words h =
+    let first = later_value place value p words h in
+    let rest = later_values place value (p + 1) n words (omega arith) in
+    cc
+
+-- the values of the places of a row that begins a list
+row_values : (place : ℕ) (values : List ℕ) (more : List (ℕ × ℕ)) → map (value_in (words_at place values ++ more)) (range_with_len place (length values)) ≡ values
+row_values place [] more = refl
+row_values place (value ∷ values) more =
+    let first = first_value place value (words_at (place + 1) values ++ more) in
+    let skip = later_values place value (place + 1) (length values) (words_at (place + 1) values ++ more) (omega arith) in
+    let rest = row_values (place + 1) values more in
+    cc
+
+-- the values of a row
+pub values_listed : (place : ℕ) (values : List ℕ) → map (λ word. word.1) (words_at place values) ≡ values
+values_listed place [] = refl
+values_listed place (value ∷ values) = ap (λ rest. value ∷ rest) (values_listed (place + 1) values)
+
+-- places that follow one another, cut in two
+range_cut : (place n m : ℕ) → range_with_len place (n + m) ≡ range_with_len place n ++ range_with_len (place + n) m
+range_cut place zero m = ap (λ k. range_with_len place k) (omega arith) ∙ ap (λ p. range_with_len p m) (omega arith)
+range_cut place (suc n) m =
+    let next : suc n + m ≡ suc (n + m) = omega arith in
+    let same : place + 1 + n ≡ place + suc n = omega arith in
+    ap (range_with_len place) next ∙ ap (λ rest. place ∷ rest) (range_cut (place + 1) n m ∙ ap (λ p. range_with_len (place + 1) n ++ range_with_len p m) same)
+
+-- a row of so many places begins with the places of any shorter one
+row_begins : (place most : ℕ) (values : List ℕ) → length values ≤ most → range_with_len place most ≡ places_listed (words_at place values) ++ range_with_len (place + length values) (most - length values)
+row_begins place most values few =
+    let n = length values in
+    let whole : most ≡ n + (most - n) = omega arith in
+    ap (range_with_len place) whole ∙ range_cut place n (most - n) ∙ ap (λ places. places ++ range_with_len (place + n) (most - n)) (sym (places_at place values))
+
+-- ---- where the fetching stops for want of memory
+
+-- within the ring places of a command
+pub some_ring : (s t : SideData) (facts : StreamFacts) (shape : Shape) (entry : ℕ) (values : List ℕ) → facts.put < facts.areas.ring → headed entry facts ≡ Ok shape → length (entry ∷ values) ≤ shape.ring_words → Fetches s t (words_at facts.get (entry ∷ values)) → FetchesSome s t facts
+unfolding fetched_places
+some_ring s t facts shape entry values put head few fetches =
+    let words : List (ℕ × ℕ) = words_at facts.get (entry ∷ values) in
+    let first : value_in words facts.get ≡ entry = first_value facts.get entry (words_at (facts.get + 1) values) in
+    let seen : List ℕ = map (value_in words) (ring_places facts shape) in
+    let read = header_goes_on words facts shape seen (decoded seen facts) put (ap (λ e. headed e facts) first ∙ head) refl refl in
+    let behind : List ℕ = range_with_len (facts.get + length (entry ∷ values)) (shape.ring_words - length (entry ∷ values)) in
+    record {
+      words = words;
+      rest = behind ++ places_decoded (decoded seen facts);
+      fetches = fetches;
+      first = read.1 ∙ ap (λ places. places ++ places_decoded (decoded seen facts)) (row_begins facts.get shape.ring_words (entry ∷ values) few) ∙ append_assoc (places_listed words) behind (places_decoded (decoded seen facts));
+    }
+
+-- within its transfer places
+pub some_transfer : (s t : SideData) (facts : StreamFacts) (shape : Shape) (entry : ℕ) (values : List ℕ) (found : Decoded) (more : List ℕ) → facts.put < facts.areas.ring → headed entry facts ≡ Ok shape → length (entry ∷ values) ≡ shape.ring_words → decoded (entry ∷ values) facts ≡ Ok found → length more ≤ found.count → Fetches s t (words_at facts.get (entry ∷ values) ++ words_at found.from more) → FetchesSome s t facts
+unfolding fetched_places
+some_transfer s t facts shape entry values found more put head all decoding few fetches =
+    let ring : List (ℕ × ℕ) = words_at facts.get (entry ∷ values) in
+    let transfer : List (ℕ × ℕ) = words_at found.from more in
+    let words : List (ℕ × ℕ) = ring ++ transfer in
+    let first : value_in words facts.get ≡ entry = first_value facts.get entry (words_at (facts.get + 1) values ++ transfer) in
+    let seen : map (value_in words) (ring_places facts shape) ≡ entry ∷ values = ap (λ n. map (value_in words) (range_with_len facts.get n)) (sym all) ∙ row_values facts.get (entry ∷ values) transfer in
+    let read = header_goes_on words facts shape (entry ∷ values) (Ok found) put (ap (λ e. headed e facts) first ∙ head) seen decoding in
+    let behind : List ℕ = range_with_len (found.from + length more) (found.count - length more) in
+    let front : ring_places facts shape ≡ places_listed ring = ap (range_with_len facts.get) (sym all) ∙ sym (places_at facts.get (entry ∷ values)) in
+    record {
+      words = words;
+      rest = behind;
+      fetches = fetches;
+      first = read.1 ∙ ap (λ places. places ++ range_with_len found.from found.count) front ∙ ap (λ places. places_listed ring ++ places) (row_begins found.from found.count more few) ∙ sym (append_assoc (places_listed ring) (places_listed transfer) behind) ∙ ap (λ places. places ++ behind) (sym (map-append (λ word. word.0) ring transfer));
+    }
+
+-- ---- the ring words of a command
+
+-- all ring words of a command were fetched, and stand in a list
+pub record RingFetched (s t : SideData) (facts : StreamFacts) (entry : ℕ) (shape : Shape) (list : List (ℕ × ℕ)) : Type 0 where
+  pub values : List ℕ
+  pub all : length (entry ∷ values) ≡ shape.ring_words
+  pub fetches : Fetches s t (words_at facts.get (entry ∷ values))
+  pub listed : list ≡ words_at facts.get (entry ∷ values)
+
+pub ring_fetched : (s m t : SideData) (facts : StreamFacts) (entry : ℕ) (shape : Shape) (list longer : List (ℕ × ℕ)) → Fetches s m ((facts.get, entry) ∷ []) → list ≡ (facts.get, entry) ∷ [] → 1 ≤ shape.ring_words → FetchesRow m t (facts.get + 1) (shape.ring_words - 1) list longer → RingFetched s t facts entry shape longer
+ring_fetched s m t facts entry shape list longer header is some row = record {
+  values = row.values;
+  all = (let n = row.all in omega arith);
+  fetches = fetches_then s m t ((facts.get, entry) ∷ []) (words_at (facts.get + 1) row.values) header row.fetches;
+  listed = row.appended ∙ ap (λ (l : List (ℕ × ℕ)). l ++ words_at (facts.get + 1) row.values) is;
+}
+
+-- the entries that the decoder is given
+pub ring_entries : (s t : SideData) (facts : StreamFacts) (entry : ℕ) (shape : Shape) (list : List (ℕ × ℕ)) (entries : List ℕ) (ring : RingFetched s t facts entry shape list) → entries ≡ map (λ word. word.1) list → entries ≡ entry ∷ ring.values
+ring_entries s t facts entry shape list entries ring are = are ∙ ap (map (λ word. word.1)) ring.listed ∙ values_listed facts.get (entry ∷ ring.values)
+
+pub ring_headed : (s t : SideData) (facts : StreamFacts) (entry : ℕ) (shape : Shape) (list : List (ℕ × ℕ)) (entries : List ℕ) → RingFetched s t facts entry shape list → entries ≡ map (λ word. word.1) list → headed entry facts ≡ Ok shape → IsOkAnd (headed (slice_index entries 0) facts) (λ found. length entries ≡ found.ring_words)
+ring_headed s t facts entry shape list entries ring are head =
+    let same = ring_entries s t facts entry shape list entries ring are in
+    rw same (rw head ring.all)
+
+pub ring_some : (s t u : SideData) (facts : StreamFacts) (entry : ℕ) (shape : Shape) (list : List (ℕ × ℕ)) → RingFetched s t facts entry shape list → u ≡ t → facts.put < facts.areas.ring → headed entry facts ≡ Ok shape → FetchesSome s u facts
+ring_some s t u facts entry shape list ring same put head =
+    let all = ring.all in
+    some_ring s u facts shape entry ring.values put head (omega arith) (subst (λ (x : SideData). Fetches s x (words_at facts.get (entry ∷ ring.values))) (sym same) ring.fetches)
+
+pub ring_part_some : (s m t : SideData) (facts : StreamFacts) (entry : ℕ) (shape : Shape) → Fetches s m ((facts.get, entry) ∷ []) → 1 ≤ shape.ring_words → FetchesRowInPart m t (facts.get + 1) (shape.ring_words - 1) → facts.put < facts.areas.ring → headed entry facts ≡ Ok shape → FetchesSome s t facts
+ring_part_some s m t facts entry shape header some part put head =
+    let few = part.some in
+    some_ring s t facts shape entry part.values put head (omega arith) (fetches_then s m t ((facts.get, entry) ∷ []) (words_at (facts.get + 1) part.values) header part.fetches)
+
+pub ring_refused : (s t : SideData) (facts : StreamFacts) (entry : ℕ) (shape : Shape) (list : List (ℕ × ℕ)) (entries : List ℕ) (error : CmdError) → RingFetched s t facts entry shape list → entries ≡ map (λ word. word.1) list → facts.put < facts.areas.ring → headed entry facts ≡ Ok shape → decoded entries facts ≡ Err error → IsCopy list facts (Err error)
+ring_refused s t facts entry shape list entries error ring are put head decoding =
+    let same = ring_entries s t facts entry shape list entries ring are in
+    rw ring.listed (entries_refused facts shape (entry ∷ ring.values) error put head ring.all (ap (λ values. decoded values facts) (sym same) ∙ decoding))
+
+-- ---- where the fetching stops between two rows
+
+pub rows_ring : (s t u : SideData) (facts : StreamFacts) (entry : ℕ) (shape : Shape) (list : List (ℕ × ℕ)) → RingFetched s t facts entry shape list → u ≡ t → headed entry facts ≡ Ok shape → FetchesRows s u facts
+rows_ring s t u facts entry shape list ring same head =
+    let words : List (ℕ × ℕ) = words_at facts.get (entry ∷ ring.values) in
+    let first : value_in words facts.get ≡ entry = first_value facts.get entry (words_at (facts.get + 1) ring.values) in
+    let places : places_listed words ≡ ring_places facts shape = places_at facts.get (entry ∷ ring.values) ∙ ap (range_with_len facts.get) ring.all in
+    record {
+      words = words;
+      fetches = subst (λ (x : SideData). Fetches s x words) (sym same) ring.fetches;
+      rows = inr (inr (subst (λ (r : Result Shape CmdError). IsOkAnd r (λ found. places_listed words ≡ ring_places facts found)) (sym (ap (λ e. headed e facts) first ∙ head)) places));
+    }
+
+-- ---- all words of a command
+
+pub command_fetched : (s t u : SideData) (facts : StreamFacts) (entry : ℕ) (shape : Shape) (list longer : List (ℕ × ℕ)) (found : Decoded) → RingFetched s t facts entry shape list → FetchesRow t u found.from found.count list longer → Fetches s u longer
+command_fetched s t u facts entry shape list longer found ring row =
+    let ringed = words_at facts.get (entry ∷ ring.values) in
+    let whole : longer ≡ ringed ++ words_at found.from row.values = row.appended ∙ ap (λ (l : List (ℕ × ℕ)). l ++ words_at found.from row.values) ring.listed in
+    subst (λ (l : List (ℕ × ℕ)). Fetches s u l) (sym whole) (fetches_then s t u ringed (words_at found.from row.values) ring.fetches row.fetches)
+
+pub command_accepted : (s t u : SideData) (facts : StreamFacts) (entry : ℕ) (shape : Shape) (list longer : List (ℕ × ℕ)) (entries : List ℕ) (found : Decoded) → RingFetched s t facts entry shape list → entries ≡ map (λ word. word.1) list → FetchesRow t u found.from found.count list longer → facts.put < facts.areas.ring → headed entry facts ≡ Ok shape → decoded entries facts ≡ Ok found → IsCopy longer facts (Ok found.command)
+command_accepted s t u facts entry shape list longer entries found ring are row put head decoding =
+    let same = ring_entries s t facts entry shape list entries ring are in
+    let whole : longer ≡ words_at facts.get (entry ∷ ring.values) ++ words_at found.from row.values = row.appended ∙ ap (λ (l : List (ℕ × ℕ)). l ++ words_at found.from row.values) ring.listed in
+    rw whole (command_copied facts shape (entry ∷ ring.values) found row.values put head ring.all (ap (λ values. decoded values facts) (sym same) ∙ decoding) row.all)
+
+pub transfer_some : (s t u : SideData) (facts : StreamFacts) (entry : ℕ) (shape : Shape) (list : List (ℕ × ℕ)) (entries : List ℕ) (found : Decoded) → RingFetched s t facts entry shape list → entries ≡ map (λ word. word.1) list → FetchesRowInPart t u found.from found.count → facts.put < facts.areas.ring → headed entry facts ≡ Ok shape → decoded entries facts ≡ Ok found → FetchesSome s u facts
+transfer_some s t u facts entry shape list entries found ring are part put head decoding =
+    let same = ring_entries s t facts entry shape list entries ring are in
+    some_transfer s u facts shape entry ring.values found part.values put head ring.all (ap (λ values. decoded values facts) (sym same) ∙ decoding) part.some (fetches_then s t u (words_at facts.get (entry ∷ ring.values)) (words_at found.from part.values) ring.fetches part.fetches)
+
+pub nothing_fetched : (facts : StreamFacts) (list : List (ℕ × ℕ)) → list ≡ [] → facts.areas.ring ≤ facts.put → IsCopy list facts (Err OutOfBounds)
+nothing_fetched facts list none far = let out = put_out_of_range [] facts far in rw none (record { places = sym out.1; verdict = out.0 })
+
+pub header_fetched : (facts : StreamFacts) (list : List (ℕ × ℕ)) (entry : ℕ) (error : CmdError) → list ≡ (facts.get, entry) ∷ [] → facts.put < facts.areas.ring → headed entry facts ≡ Err error → IsCopy list facts (Err error)
+header_fetched facts list entry error is put head = rw is (header_refused facts entry error put head)

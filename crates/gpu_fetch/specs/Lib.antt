@@ -1,0 +1,9 @@
+pub use Rattle.gpu_word.specs.Results
+pub use Rattle.gpu_cmd.specs.Copied
+pub use Rattle.gpu_plan.specs.Passes
+pub use Rattle.gpu_plan.specs.MayHold
+pub mod Side
+pub mod Shared
+pub mod Plain
+pub mod Fetched
+pub mod Stirred

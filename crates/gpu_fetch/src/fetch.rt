@@ -1,0 +1,97 @@
+ghost use Rattle.std.specs.Prelude.{◌≡◌, ◌≢◌, ℕ, ◌+◌, ◌≤◌, ◌<◌, ◌^◌, ◌⊎◌, map, IfOk, IfErr, OnOk};
+ghost use Rattle.std.specs.List.{All};
+ghost use Rattle.std.specs.List.Sorted.{IsStrictlyIncreasing};
+ghost use Rattle.gpu_cmd.specs.Copied.{copied, fetched_places, places_listed};
+ghost use Rattle.gpu_cmd.specs.Lawful.{IsLawfulFacts, places_of};
+ghost use Rattle.gpu_fetch.specs.Side.{Fetches};
+ghost use Rattle.gpu_fetch.specs.Fetched.{FetchesRow, FetchesRowInPart, FetchesSome, FetchesRows};
+
+use crate::fetched::Fetched;
+use crate::side::ServiceSide;
+use gpu_cmd::{CmdError, StreamFacts, decode, head};
+use gpu_word::Memory;
+use std::alloc::Global;
+
+// Fetches the words of so many places that follow one another, in rising order, and appends them to a list.
+fn fetch_row<P: ServiceSide>(
+    side: &mut P,
+    words: &P::Words,
+    list: &mut Vec<(u32, u32)>,
+    from: u32,
+    count: u32,
+) -> Result<(), Memory>
+    requires belongs { P.belongs side.old words.now }
+    requires within { from + count ≤ places_of (P.side side.old).plan.areas }
+    requires few { from + count < 2 ^ 32 }
+
+    ensures row { OnOk result (FetchesRow (P.side side.old) (P.side side.new) from count list.old.items list.new.items) }
+    ensures shows { OnOk result (All (P.shows words.now) list.old.items → All (P.shows words.now) list.new.items) }
+    ensures whole { IfErr result (λ _. P.wants ⊎ (P.side side.new ≡ P.side side.old)) }
+    ensures part { IfErr result (λ _. FetchesRowInPart (P.side side.old) (P.side side.new) from count) }
+    ensures belongs { P.belongs side.new words.now }
+    ensures notes { (n : P.Note) → P.note_belongs side.old words.now n → P.note_belongs side.new words.now n }
+{
+    list.reserve(count as usize)?;
+    for place in from..from + count {
+        let value = side.fetch(words, place)?;
+        list.push((place, value))?;
+    }
+    Ok(())
+}
+
+// The values of words.
+fn values_of(alloc: Global, words: &[(u32, u32)]) -> Result<Vec<u32>, Memory>
+    ensures { IfOk result (λ values. values.items ≡ map (λ word. word.1) words.now) }
+{
+    Ok(words.iter().map(|word| word.1).collect(alloc)?)
+}
+
+/// Fetches the next command of a stream: its header alone, then its other ring entries, then its transfer words, each
+/// place once and in order, as far as the checks let it come. No place is fetched for a put out of range.
+///
+/// # Errors
+///
+/// `Memory`: the side fetched the first of the places that were to be fetched. Where the side itself never wants memory,
+/// these are no place, the header's place, or all ring places of the command.
+pub fn fetch_command<P: ServiceSide>(
+    alloc: Global,
+    side: &mut P,
+    words: &P::Words,
+    facts: &StreamFacts,
+) -> Result<Fetched, Memory>
+    requires belongs { P.belongs side.old words.now }
+    requires lawful { IsLawfulFacts facts.now }
+    requires more { facts.now.get ≢ facts.now.put }
+    requires areas { facts.now.areas ≡ (P.side side.old).plan.areas }
+
+    ensures fetches { IfOk result (λ found. Fetches (P.side side.old) (P.side side.new) found.words) }
+    ensures shows { IfOk result (λ found. All (P.shows words.now) found.words) }
+    ensures places { IfOk result (λ found. places_listed found.words ≡ fetched_places found.words facts.now) }
+    ensures once { IfOk result (λ found. IsStrictlyIncreasing (places_listed found.words)) }
+    ensures verdict { IfOk result (λ found. copied found.words facts.now ≡ found.verdict) }
+    ensures facts { IfOk result (λ found. found.facts ≡ facts.now) }
+    ensures some { IfErr result (λ _. FetchesSome (P.side side.old) (P.side side.new) facts.now) }
+    ensures rows { IfErr result (λ _. P.wants ⊎ FetchesRows (P.side side.old) (P.side side.new) facts.now) }
+    ensures belongs { P.belongs side.new words.now }
+    ensures notes { (n : P.Note) → P.note_belongs side.old words.now n → P.note_belongs side.new words.now n }
+{
+    let mut list = Vec::with_capacity(alloc, 1)?;
+    if facts.put >= facts.areas.ring {
+        return Ok(Fetched::of(list, Err(CmdError::OutOfBounds), facts));
+    }
+    let entry = side.fetch(words, facts.get)?;
+    list.push((facts.get, entry))?;
+    let shape = match head(entry, facts) {
+        Ok(shape) => shape,
+        Err(error) => return Ok(Fetched::of(list, Err(error), facts)),
+    };
+    fetch_row(side, words, &mut list, facts.get + 1, shape.ring_words - 1)?;
+    let entries = values_of(alloc, &list)?;
+    match decode(&entries, facts) {
+        Ok(found) => {
+            fetch_row(side, words, &mut list, found.from, found.count)?;
+            Ok(Fetched::of(list, Ok(found.command), facts))
+        }
+        Err(error) => Ok(Fetched::of(list, Err(error), facts)),
+    }
+}

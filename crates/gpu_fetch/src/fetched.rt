@@ -1,0 +1,76 @@
+ghost use Rattle.std.specs.Prelude.{◌≡◌, ◌≢◌};
+ghost use Rattle.std.specs.List.Sorted.{IsStrictlyIncreasing};
+ghost use Rattle.gpu_cmd.specs.Lawful.{IsLawfulFacts};
+ghost use Rattle.gpu_cmd.specs.Copied.{IsCopy, copied, fetched_places, places_listed};
+
+use gpu_cmd::{CmdError, Command, StreamFacts};
+use std::marker::Model;
+
+/// What was fetched of a command: its words, each once and in order, the verdict of checks 1 to 10 on them, and the facts
+/// of the stream that the verdict rests on.
+#[derive(Debug, Drop)]
+pub struct Fetched {
+    words: Vec<(u32, u32)>,
+    verdict: Result<Command, CmdError>,
+    facts: StreamFacts,
+}
+
+impl Model for Fetched {
+    ghost use Rattle.gpu_fetch.specs.Fetched.{FetchedData, IsFetched};
+
+    ghost Value = { FetchedData };
+
+    ghost view = { λ f. record { words = f.words.items; verdict = f.verdict; facts = f.facts } };
+
+    ghost invariant = { λ f. IsFetched (record { words = f.words.items; verdict = f.verdict; facts = f.facts }) };
+}
+
+impl Fetched {
+    // The words of a command with the verdict on them.
+    pub(crate) fn of(
+        words: Vec<(u32, u32)>,
+        verdict: Result<Command, CmdError>,
+        facts: &StreamFacts,
+    ) -> Fetched
+        requires lawful { IsLawfulFacts facts.now }
+        requires more { facts.now.get ≢ facts.now.put }
+        requires copy { IsCopy words.items facts.now verdict }
+
+        ensures is { result ≡ record { words = words.items; verdict = verdict; facts = facts.now } }
+        ensures places { places_listed result.words ≡ fetched_places result.words facts.now }
+        ensures once { IsStrictlyIncreasing (places_listed result.words) }
+        ensures verdict { copied result.words facts.now ≡ result.verdict }
+    {
+        Fetched {
+            words,
+            verdict,
+            facts: *facts,
+        }
+    }
+
+    /// The words fetched, as pairs of a place and its value: the ring places of the command and then its transfer places,
+    /// as far as the checks let it come.
+    pub fn words(&self) -> &[(u32, u32)]
+        ensures value { result.now ≡ self.now.words }
+        ensures copy { IsCopy result.now self.now.facts self.now.verdict }
+    {
+        &self.words
+    }
+
+    /// The command, or the first check that fails on these words.
+    pub fn verdict(&self) -> Result<Command, CmdError>
+        ensures value { result ≡ self.now.verdict }
+        ensures copy { IsCopy self.now.words self.now.facts result }
+    {
+        self.verdict
+    }
+
+    /// The facts of the stream. They are lawful, and `get` is not `put`.
+    pub fn facts(&self) -> &StreamFacts
+        ensures value { result.now ≡ self.now.facts }
+        ensures lawful { IsLawfulFacts result.now }
+        ensures more { result.now.get ≢ result.now.put }
+    {
+        &self.facts
+    }
+}

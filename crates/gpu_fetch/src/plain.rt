@@ -1,0 +1,6 @@
+mod list;
+mod pass;
+mod words;
+
+pub use pass::PlainPass;
+pub use words::{PlainNote, PlainWords};
