@@ -2,7 +2,7 @@
 use Rattle.std.proofs.Common.{◌≡◌, ℕ, zero, suc, ◌+◌, ◌<◌, ◌≤◌, List, [], ◌∷◌, ◌++◌, length, get_or, take, drop, map, Option, Some, None, inl, inr, sym, ap, subst, ◌∙◌, append_assoc, arith}
 use Rattle.std.specs.Prelude.{IfSome, option_map, slice_get, unwrap_or, codes}
 use Rattle.std.specs.List.{flat_map, join_with_byte, range_with_len}
-use Rattle.std.proofs.lemmas.List.{append-nil, take_more, flat_map_more}
+use Rattle.std.proofs.lemmas.List.{append-nil, length-map, take_more, flat_map_more}
 use Rattle.std.proofs.lemmas.Option.{slice_get-map, slice_get_cases}
 use Rattle.gpu_store.specs.Picture.{Picture, row_of}
 use Rattle.gpu_store.specs.Images.{Pictures, picture_of, numbers}
@@ -72,3 +72,6 @@ images_more images index image old new lt number found pushed so_far =
           ∙ ap (λ (entries : List (ℕ × Picture)). flat_map image_text entries) (sym (take_more images index entry lt))
       | inr past ↦ absurd (omega arith)
     ]
+
+pub length-numbers : (images : Pictures) → length (numbers images) ≡ length images
+length-numbers images = length-map images (λ (entry : ℕ × Picture). entry.0)

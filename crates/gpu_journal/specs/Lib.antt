@@ -2,5 +2,16 @@ pub mod Past
 pub mod Digits
 pub mod Text
 pub mod Picture
+pub mod Lines
 pub mod World
+pub mod Waits
+pub mod Facts
+pub mod Legal
+pub mod Complete
 pub mod Serial
+pub mod Written
+pub mod Folds
+pub mod Output
+pub mod Dumps
+pub mod Replaying
+pub mod Laws

@@ -1,59 +1,70 @@
-ghost use Rattle.std.specs.Prelude.{◌≡◌, ◌<◌, ◌++◌, OnOk, decimal};
+ghost use Rattle.std.specs.Prelude.{◌≡◌, ◌+◌, ◌/◌, ◌%◌, ◌<◌, ◌≤◌, ◌∷◌, ◌++◌, length, vec_len, vec_capacity};
 ghost use Rattle.std.specs.Char.{digit_char};
-ghost use Rattle.gpu_journal.specs.Digits.{hex8, number_text};
+ghost use Rattle.gpu_journal.specs.Digits.{numeral, hex8, number_text};
 
+use crate::put::put;
 use itoa::Buffer;
-use std::alloc::AllocError;
 
-// Appends a number in decimal digits.
-fn push_decimal(out: &mut Vec<u8>, number: u64) -> Result<(), AllocError>
-    ensures { OnOk result (out.new.items ≡ out.old.items ++ decimal number) }
+/// The most bytes of a space and a number: one, and the twenty digits of 2^64 - 1.
+pub(crate) const NUMBER: usize = 21;
+
+/// The bytes of a number of 32 bits in hexadecimal digits.
+pub(crate) const HEX: usize = 8;
+
+/// Appends a number in decimal digits.
+#[tactic(auto, using(crate::proofs::Numerals::numeral_decimal))]
+pub(crate) fn put_decimal(out: &mut Vec<u8>, number: u64)
+    requires { vec_len out.old + length (numeral number) ≤ vec_capacity out.old }
+    ensures items { out.new.items ≡ out.old.items ++ numeral number }
+    ensures len { vec_len out.new ≡ vec_len out.old + length (numeral number) }
+    ensures room { vec_capacity out.old ≤ vec_capacity out.new }
 {
     let mut buffer = Buffer::new();
-    out.extend_from_slice(buffer.format(number).as_bytes())
+    put(out, buffer.format(number).as_bytes());
 }
 
 /// Appends a space and a number.
-pub(crate) fn push_number(out: &mut Vec<u8>, number: u64) -> Result<(), AllocError>
-    ensures { OnOk result (out.new.items ≡ out.old.items ++ number_text number) }
+#[tactic(auto, using(crate::proofs::Lengths::numeral_few))]
+pub(crate) fn put_number(out: &mut Vec<u8>, number: u64)
+    requires { vec_len out.old + NUMBER ≤ vec_capacity out.old }
+    ensures items { out.new.items ≡ out.old.items ++ number_text number }
+    ensures few { vec_len out.new ≤ vec_len out.old + NUMBER }
+    ensures room { vec_capacity out.old ≤ vec_capacity out.new }
 {
-    out.push(b' ')?;
-    push_decimal(out, number)
+    out.push_reserved(b' ');
+    put_decimal(out, number);
 }
 
-// A digit below 16, in lower case.
-fn hex_digit(digit: u32) -> u8
-    requires { digit < 16 }
-    ensures { result ≡ digit_char digit }
+// The two digits of each byte, one byte after the other.
+static PAIRS: [u8; 512] =
+    *b"000102030405060708090a0b0c0d0e0f101112131415161718191a1b1c1d1e1f202122232425262728292a2b2c2d2e2f303132333435363738393a3b3c3d3e3f404142434445464748494a4b4c4d4e4f505152535455565758595a5b5c5d5e5f606162636465666768696a6b6c6d6e6f707172737475767778797a7b7c7d7e7f808182838485868788898a8b8c8d8e8f909192939495969798999a9b9c9d9e9fa0a1a2a3a4a5a6a7a8a9aaabacadaeafb0b1b2b3b4b5b6b7b8b9babbbcbdbebfc0c1c2c3c4c5c6c7c8c9cacbcccdcecfd0d1d2d3d4d5d6d7d8d9dadbdcdddedfe0e1e2e3e4e5e6e7e8e9eaebecedeeeff0f1f2f3f4f5f6f7f8f9fafbfcfdfeff";
+
+// The two digits of a byte, in lower case.
+fn pair(byte: u32) -> (u8, u8)
+    requires { byte < 256 }
+    ensures { result ≡ (digit_char (byte / 16), digit_char (byte % 16)) }
 {
-    if digit < 10 {
-        b'0' + digit as u8
-    } else {
-        b'a' + (digit - 10) as u8
-    }
+    let from = byte as usize * 2;
+    (PAIRS[from], PAIRS[from + 1])
+}
+
+/// A space and a number as eight hexadecimal digits, which come two at a time.
+pub(crate) fn spaced_hex(number: u32) -> [u8; 9]
+    ensures { result ≡ 32 ∷ hex8 number }
+{
+    let (a, b) = pair(number / 0x100_0000);
+    let (c, d) = pair(number / 0x1_0000 % 0x100);
+    let (e, f) = pair(number / 0x100 % 0x100);
+    let (g, h) = pair(number % 0x100);
+    [b' ', a, b, c, d, e, f, g, h]
 }
 
 /// Appends a number as eight hexadecimal digits.
-#[tactic(auto, unfolding(crate::specs::Digits::hex8))]
-pub(crate) fn push_hex(out: &mut Vec<u8>, number: u32) -> Result<(), AllocError>
-    ensures { OnOk result (out.new.items ≡ out.old.items ++ hex8 number) }
+pub(crate) fn put_hex(out: &mut Vec<u8>, number: u32)
+    requires { vec_len out.old + HEX ≤ vec_capacity out.old }
+    ensures items { out.new.items ≡ out.old.items ++ hex8 number }
+    ensures len { vec_len out.new ≡ vec_len out.old + HEX }
+    ensures room { vec_capacity out.old ≤ vec_capacity out.new }
 {
-    let n1 = number / 16;
-    let n2 = n1 / 16;
-    let n3 = n2 / 16;
-    let n4 = n3 / 16;
-    let n5 = n4 / 16;
-    let n6 = n5 / 16;
-    let n7 = n6 / 16;
-    let digits = [
-        hex_digit(n7 % 16),
-        hex_digit(n6 % 16),
-        hex_digit(n5 % 16),
-        hex_digit(n4 % 16),
-        hex_digit(n3 % 16),
-        hex_digit(n2 % 16),
-        hex_digit(n1 % 16),
-        hex_digit(number % 16),
-    ];
-    out.extend_from_slice(&digits)
+    put(out, &spaced_hex(number)[1..]);
 }

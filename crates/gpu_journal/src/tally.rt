@@ -1,3 +1,8 @@
+ghost use Rattle.std.specs.Prelude.{◌≡◌};
+ghost use Rattle.gpu_journal.specs.Text.{tally_of};
+
+use stream_state::StreamState;
+
 /// What a stream counted in its run.
 #[derive(Clone, Copy, Debug, PartialEq, Eq)]
 pub struct Tally {
@@ -11,4 +16,19 @@ pub struct Tally {
     pub words: u32,
     /// How many image operations were answered InvalidValue, InvalidOperation and OutOfTexels.
     pub errors: (u32, u32, u32),
+}
+
+impl Tally {
+    /// What the state of a stream says of it.
+    pub fn of(state: &StreamState) -> Tally
+        ensures { result ≡ tally_of state.now }
+    {
+        Tally {
+            entries: state.entries(),
+            release: state.release(),
+            token: state.token(),
+            words: state.fetched(),
+            errors: state.errors(),
+        }
+    }
 }

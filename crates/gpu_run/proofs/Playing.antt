@@ -13,8 +13,8 @@ use Rattle.gpu_plan.specs.Plans.{PlanData}
 use Rattle.gpu_store.specs.Images.{Pictures}
 use Rattle.gpu_journal.specs.declared.event.Event.{Event}
 use Rattle.gpu_journal.specs.declared.event.Event.TheVariants.{Order, Step, Finish}
-use Rattle.gpu_journal.specs.World.{World, world, moved, facts_of, drawing_of, images_after}
-use Rattle.gpu_journal.specs.Serial.{memory_of, is_drawn, draws, step_event, event_after, next, played, serial, finished_run}
+use Rattle.gpu_run.specs.BuiltWorld.{World, world, moved, facts_of, drawing_of, images_after}
+use Rattle.gpu_run.specs.Built.{memory_of, is_drawn, draws, step_event, event_after, next, played, serial, finished_run}
 
 -- a history goes on by the event that follows it
 pub goes_on : (more : ℕ) (plan : PlanData) (put : ℕ) (past : List Event) (event : Event) → next plan put past ≡ Some event → played (suc more) plan put past ≡ played more plan put (event ∷ past)

@@ -1,0 +1,2 @@
+pub mod BuiltWorld
+pub mod Built

@@ -1,7 +1,7 @@
 ghost use Rattle.std.specs.Prelude.{◌≡◌, IfOk, OnOk};
 ghost use Rattle.gpu_cmd.specs.declared.command.Command.{Command};
-ghost use Rattle.gpu_journal.specs.World.{drawing, drawing_of, images_after};
-ghost use Rattle.gpu_journal.specs.Serial.{is_drawn};
+ghost use Rattle.gpu_run.specs.BuiltWorld.{drawing, drawing_of, images_after};
+ghost use Rattle.gpu_run.specs.Built.{is_drawn};
 
 use gpu_cmd::{CmdError, Command};
 use gpu_store::{Answer, Images, Op, Rect};

@@ -13,7 +13,7 @@ pub struct Report {
 }
 
 impl Model for Report {
-    ghost use Rattle.gpu_journal.specs.Serial.{Ran};
+    ghost use Rattle.gpu_run.specs.Built.{Ran};
 
     ghost Value = { Ran };
 

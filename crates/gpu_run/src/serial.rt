@@ -1,7 +1,7 @@
 ghost use Rattle.std.specs.Prelude.{◌≡◌, ◌<◌, ◌≤◌, length, Some, IfOk, is_none};
 ghost use Rattle.std.specs.List.{list_all};
 ghost use Rattle.gpu_plan.specs.Plans.{PlanData};
-ghost use Rattle.gpu_journal.specs.Serial.{only_flush, has_ring_alone, finished_run, run_of};
+ghost use Rattle.gpu_run.specs.Built.{only_flush, has_ring_alone, finished_run, run_of};
 
 use crate::copy::read_command;
 use crate::drawing::draw;
@@ -16,6 +16,9 @@ use std::alloc::Global;
 
 /// The one stream of a script of the built form, and its one order.
 const FIRST: u32 = 1;
+
+/// The version of a script of the built form.
+const BUILT_VERSION: u32 = 1;
 
 /// The events of a run beside its steps: the order and the finish.
 const ENDS: usize = 2;
@@ -104,12 +107,12 @@ fn finished_run(alloc: Global, plan: &Plan, put: u32) -> Result<Option<Report>, 
     }))
 }
 
-/// Runs a script by the one-thread rule, where it is of the built form: one stream with a ring alone, whose actions are
+/// Runs a script by the one-thread rule, where it is of the built form: version 1, and one stream with a ring alone, whose actions are
 /// puts and one last flush without fences, and whose commands all draw. Every other script gives `None`.
 pub fn run_one(alloc: Global, plans: &Plans) -> Result<Option<Report>, Memory>
-    ensures { IfOk result (λ report. report ≡ run_of plans.now.plans) }
+    ensures { IfOk result (λ report. report ≡ run_of plans.now) }
 {
-    if plans.count() != FIRST {
+    if plans.version() != BUILT_VERSION || plans.count() != FIRST {
         return Ok(None);
     }
     let plan = plans.plan(FIRST);

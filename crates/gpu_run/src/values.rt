@@ -3,7 +3,7 @@ ghost use Rattle.std.specs.List.{All};
 ghost use Rattle.gpu_cmd.specs.Lawful.{places_of};
 ghost use Rattle.gpu_plan.specs.Plans.{IsWithin};
 ghost use Rattle.gpu_plan.specs.Values.{after, last_put};
-ghost use Rattle.gpu_journal.specs.Serial.{memory_of};
+ghost use Rattle.gpu_run.specs.Built.{memory_of};
 
 use gpu_plan::{Action, Plan};
 use gpu_word::Memory;

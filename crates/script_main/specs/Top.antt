@@ -1,9 +1,9 @@
 -- What the program does.
 use Rattle.std.specs.Prelude.{◌≡◌, ℕ, ◌<◌, ◌≤◌, Bool, false, List, [], ◌∷◌, length, Option, Some, None, Result, Ok, Err, codes, bytes_eq, IsSome, IsOk}
-use Rattle.gpu_plan.specs.declared.fault.Kind.{Kind}
+use Rattle.script_lines.specs.declared.fault.Kind.{Kind}
 use Rattle.gpu_plan.specs.Plans.{PlansData}
 use Rattle.gpu_plan.specs.Script.{script_of}
-use Rattle.gpu_journal.specs.Serial.{Ran, run_of}
+use Rattle.gpu_run.specs.Built.{Ran, run_of}
 use Rattle.script_main.specs.declared.status.Status.{Status}
 use Rattle.script_main.specs.declared.status.Status.TheVariants as status
 use Rattle.script_main.specs.declared.stop.Stop.{Stop}
@@ -28,7 +28,7 @@ is_run _ = false
 
 -- the run of what was read of a text, where that is a script of the built form
 abbrev pub built : Result PlansData (ℕ × Kind) → Option Ran
-built (Ok plans) = run_of plans.plans
+built (Ok plans) = run_of plans
 built (Err refusal) = None
 
 -- the run of a text, where it is a script of the built form

@@ -1,8 +1,8 @@
 ghost use Rattle.std.specs.Prelude.{◌≡◌, ◌↔◌, ◌≤◌, ℕ, List, Some, true, false, length, map, string_bytes, IfOk, MatchResult, option_map};
 ghost use Rattle.std.specs.Io.KnownBytes.{Appends};
 ghost use Rattle.gpu_io.specs.Faults.{HasRisen};
-ghost use Rattle.gpu_journal.specs.Serial.{Ran, output};
-ghost use Rattle.gpu_plan.specs.declared.fault.Kind.{Kind};
+ghost use Rattle.gpu_run.specs.Built.{Ran, output};
+ghost use Rattle.script_lines.specs.declared.fault.Kind.{Kind};
 ghost use Rattle.script_main.specs.Whole.{most_bytes, ReadsAtMost, ReadsMoreThan, AppendsFront};
 ghost use Rattle.script_main.specs.Top.{is_run, built_of, ReadsBuilt, ReadsRefused, ReadsNotBuilt, Stops, Answers};
 
@@ -11,7 +11,7 @@ use crate::status::Status;
 use crate::stop::Stop;
 use crate::writing::write_all;
 use gpu_io::{Sink, Source};
-use gpu_journal::{End, journal_text, picture_text, stream_text};
+use gpu_journal::{End, journal_text, picture_text, tally_text};
 use gpu_plan::{ScriptFault, parse};
 use gpu_run::{Report, run_one};
 use gpu_word::Memory;
@@ -49,13 +49,13 @@ fn run_text(alloc: Global, text: &[u8]) -> Result<Report, Stop>
 }
 
 // The output of a run.
-#[tactic(auto, unfolding(gpu_journal::specs::Serial::output))]
+#[tactic(auto, unfolding(gpu_run::specs::Built::output))]
 fn output(alloc: Global, report: &Report) -> Result<Vec<u8>, Memory>
     ensures { IfOk result (λ text. text.items ≡ output report.now) }
 {
     let mut text = journal_text(alloc, report.journal().events())?;
     let picture = picture_text(alloc, report.images())?;
-    let stream = stream_text(alloc, FIRST, report.tally(), End::Done)?;
+    let stream = tally_text(alloc, FIRST, report.tally(), End::Done)?;
     text.extend_from_slice(&picture)?;
     text.extend_from_slice(&stream)?;
     Ok(text)

@@ -10,8 +10,8 @@ use Rattle.std.proofs.lemmas.Bool.{lt-ltb}
 use Rattle.gpu_store.specs.Images.{Pictures}
 use Rattle.gpu_journal.specs.declared.event.Event.{Event}
 use Rattle.gpu_journal.specs.declared.event.Event.TheVariants.{Order, Step, Finish}
-use Rattle.gpu_journal.specs.World.{world, drawing_of, images_after}
-use Rattle.gpu_journal.specs.Serial.{memory_of, draws, played, serial}
+use Rattle.gpu_run.specs.BuiltWorld.{world, drawing_of, images_after}
+use Rattle.gpu_run.specs.Built.{memory_of, draws, played, serial}
 use Rattle.gpu_run.proofs.Playing.{running, goes_on, stays, order_follows, order_world, step_follows, none_follows, step_world, finish_follows, none_after_finish, is_stuck, is_finished, drawn_is_ok, words_of_plan, drawn_of_plan}
 use Rattle.gpu_run.proofs.serial.finished_run.Goals as goal
 

@@ -1,7 +1,7 @@
 use Rattle.std.proofs.Common.{◌≡◌, ◌≤◌, ◌<◌, ◌+◌, ◌-◌, length}
 use Rattle.gpu_cmd.specs.Lawful.{IsLawfulAreas}
-use Rattle.gpu_journal.specs.World.{world}
-use Rattle.gpu_journal.specs.Serial.{played, serial}
+use Rattle.gpu_run.specs.BuiltWorld.{world}
+use Rattle.gpu_run.specs.Built.{played, serial}
 use Rattle.gpu_run.proofs.Playing.{running}
 use Rattle.gpu_run.proofs.serial.finished_run.Given as goal
 

@@ -1,5 +1,5 @@
 use Rattle.std.proofs.Common.{◌≡◌, length}
-use Rattle.gpu_journal.specs.Serial.{only_flush}
+use Rattle.gpu_run.specs.Built.{only_flush}
 use Rattle.gpu_run.proofs.serial.only_flush.Given as goal
 
 abbrev pub invariant-loop-rest : goal.invariant-loop-rest
