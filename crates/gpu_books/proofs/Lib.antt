@@ -1,0 +1,2 @@
+mod Weights
+mod Keeping

@@ -1,0 +1,21 @@
+use Rattle.std.proofs.Common.{◌≡◌, Some, sym, ap, ◌∙◌, subst, arith}
+use Rattle.gpu_books.specs.Views.{Sat, numbers_of}
+use Rattle.gpu_books.specs.Seen.{half_of, IsHalf}
+use Rattle.gpu_books.proofs.Keeping.{joins}
+use Rattle.gpu_books.proofs.steps.join.Goals as goal
+
+pub join_seat-requires : goal.join_seat-requires
+join_seat-requires c =
+    let one = c.unwrap-full.result in
+    let two = c.unwrap.result in
+    let there : c.args.kept ≡ Some one = cc in
+    let there' : c.args.out ≡ Some two = cc in
+    let mine = subst IsHalf there c.requires.halves.0 in
+    let theirs = subst IsHalf there' c.requires.halves.1 in
+    let six = c.book.invariant.0 in (
+      ap (λ o. (half_of o).book) (sym there) ∙ c.requires.kept ∙ sym c.book.view_is,
+      ap (λ o. (half_of o).book) (sym there') ∙ c.requires.out ∙ sym c.book.view_is,
+      ap (λ (m : Sat). m.1) theirs.0,
+      omega arith,
+      joins one.id one.me two.id two.me (numbers_of one.me.0) (numbers_of two.me.0) (ap (λ (m : Sat). m.0) mine.0) (ap (λ (m : Sat). m.0) theirs.0),
+    )

@@ -1,0 +1,54 @@
+-- What each seat at a book knows, and what each step makes of it.
+use Rattle.std.specs.Prelude.{◌≡◌, ℕ, List, [], slice_set, replicate}
+use Rattle.atomic_table.specs.Table.{Me, Step}
+use Rattle.gpu_books.specs.declared.table.View.{View}
+use Rattle.gpu_books.specs.declared.table.View.TheVariants.{Full, Joined, Halved, Spent}
+
+-- a seat's view; a book has no slots
+abbrev pub Sat : Type 0
+Sat = Me (Unit {0}) View
+
+-- a full view weighs as much as two halves, and a spent one nothing
+abbrev pub weight : View → ℕ
+weight (Full numbers) = 2
+weight (Joined numbers others) = 2
+weight (Halved numbers) = 1
+weight Spent = 0
+
+-- the numbers that a view carries
+abbrev pub numbers_of : View → List ℕ
+numbers_of (Full numbers) = numbers
+numbers_of (Joined numbers others) = numbers
+numbers_of (Halved numbers) = numbers
+numbers_of Spent = []
+
+-- the numbers of the half that was joined in, and where there is none the view's own
+abbrev pub joined_of : View → List ℕ
+joined_of (Full numbers) = numbers
+joined_of (Joined numbers others) = others
+joined_of (Halved numbers) = numbers
+joined_of Spent = []
+
+-- six numbers, all 0
+abbrev pub six_zeros : List ℕ
+six_zeros = replicate 6 0
+
+-- the one view of a new book
+abbrev pub opened : View
+opened = Full six_zeros
+
+-- a full view is cut into two halves that have its numbers
+abbrev pub halved : View → View
+halved view = Halved (numbers_of view)
+
+-- one half is joined into the other, and the numbers of both are known
+abbrev pub joined : View → View → View
+joined view other = Joined (numbers_of view) (numbers_of other)
+
+-- a load changes nothing, and tells that the numbers of both halves were equal
+abbrev pub compares : Step (Unit {0}) → Sat → ℕ → Sat → Type 0
+compares step before value after = (after ≡ before) × (numbers_of before.0 ≡ joined_of before.0)
+
+-- a store sets the number of its word
+abbrev pub sets_one : Step (Unit {0}) → Sat → ℕ → Sat → Type 0
+sets_one step before value after = after ≡ (Full (slice_set (numbers_of before.0) step.word step.first), before.1)

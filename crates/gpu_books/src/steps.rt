@@ -1,0 +1,66 @@
+// The four kinds of step on a book.
+ghost use Rattle.std.specs.Prelude.{◌≡◌, [], Some, length};
+ghost use Rattle.gpu_books.specs.declared.table.View.TheVariants.{Full, Joined};
+ghost use Rattle.gpu_books.specs.Views.{numbers_of, joined_of};
+ghost use Rattle.gpu_books.specs.Seen.{half_of, IsHalf, IsFull};
+
+use crate::table::{Book, Compares, Halves, SetsOne, View};
+use atomic_table::Seat;
+
+// A seat at a book.
+pub(crate) type Holder = Seat<(), View>;
+
+// Joins one half into the other.
+pub(crate) fn join(book: &Book, kept: Option<Holder>, out: Option<Holder>) -> Holder
+    requires halves { IsHalf kept × IsHalf out }
+    requires kept { (half_of kept).book ≡ book.now }
+    requires out { (half_of out).book ≡ book.now }
+
+    ensures book { result.table_id ≡ book.now }
+    ensures full { IsFull result.me }
+    ensures view { result.me.0 ≡ Joined (half_of kept).numbers (half_of out).numbers }
+{
+    let mut full = kept.unwrap();
+    let shared = &book.table.shared;
+    shared.join_seat::<Halves>(&mut full, out.unwrap());
+    full
+}
+
+// Loads a word, which tells that the numbers of both halves were equal.
+pub(crate) fn compare(book: &Book, full: &mut Holder)
+    requires book { full.old.table_id ≡ book.now }
+    requires full { IsFull full.old.me }
+
+    ensures equal { numbers_of full.old.me.0 ≡ joined_of full.old.me.0 }
+    ensures book { full.new.table_id ≡ book.now }
+    ensures same { full.new.me ≡ full.old.me }
+{
+    book.table.shared.load::<Compares>(full, 0);
+}
+
+// Stores each number into its word.
+pub(crate) fn store_all(book: &Book, full: &mut Holder, numbers: &[u64; 6])
+    requires book { full.old.table_id ≡ book.now }
+    requires full { IsFull full.old.me }
+
+    ensures book { full.new.table_id ≡ book.now }
+    ensures full { IsFull full.new.me }
+    ensures numbers { numbers_of full.new.me.0 ≡ numbers.now }
+{
+    for i in 0..6 {
+        book.table.shared.store::<SetsOne>(full, i, numbers[i]);
+    }
+}
+
+// Cuts a full view into two halves.
+pub(crate) fn cut(book: &Book, mut full: Holder) -> (Holder, Holder)
+    requires book { full.table_id ≡ book.now }
+    requires full { IsFull full.me }
+
+    ensures halves { IsHalf (Some result.0) × IsHalf (Some result.1) }
+    ensures kept { half_of (Some result.0) ≡ record { book = book.now; numbers = numbers_of full.me.0 } }
+    ensures out { half_of (Some result.1) ≡ record { book = book.now; numbers = numbers_of full.me.0 } }
+{
+    let other = book.table.shared.split_seat::<Halves>(&mut full);
+    (full, other)
+}

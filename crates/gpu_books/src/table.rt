@@ -1,0 +1,88 @@
+// The table of a book, its rule, and the kinds of step on it.
+
+use atomic_table::{Join, Play, Split, Table, TableRule};
+use std::alloc::Global;
+use std::marker::Model;
+
+/// What a seat knows. No value of it is ever made.
+pub enum View {
+    /// All of the book, with its numbers.
+    Full([u64; 6]),
+    /// All of the book once one half was joined into the other: the numbers of both.
+    Joined([u64; 6], [u64; 6]),
+    /// One half, with its numbers.
+    Halved([u64; 6]),
+    /// The half that was joined into the other.
+    Spent,
+}
+
+/// The rule of a book.
+pub struct BookRule;
+
+impl TableRule<(), View, ()> for BookRule {
+    ghost use Rattle.gpu_books.specs.Views.{opened};
+    ghost use Rattle.gpu_books.specs.Rule.{Keeps};
+
+    ghost holds = { λ _. Keeps };
+
+    ghost first = { λ _. opened };
+}
+
+/// The six words in which the numbers of two halves lie, 64 bits each.
+///
+/// Seen as the name of its table: the halves of this book name the same one.
+#[derive(Drop)]
+pub struct Book {
+    pub(crate) table: Table<(), View, (), BookRule, Global>,
+}
+
+impl Model for Book {
+    ghost use Rattle.atomic_table.specs.Seated.{TableId, table_id_coded};
+    ghost use Rattle.gpu_books.specs.Seen.{IsBook};
+
+    ghost Value = { TableId };
+
+    ghost coded = { table_id_coded };
+
+    ghost view = { λ b. b.table.shared.table_id };
+
+    ghost invariant = { λ b. IsBook b.table.shared.table_id };
+}
+
+// Cuts a full view into two halves, and joins one half into the other.
+pub(crate) struct Halves;
+
+impl Split<View> for Halves {
+    ghost use Rattle.gpu_books.specs.Views.{halved};
+
+    ghost left = { halved };
+
+    ghost right = { halved };
+}
+
+impl Join<View> for Halves {
+    ghost use Rattle.gpu_books.specs.Views.{joined};
+    ghost use Rattle.gpu_books.specs.declared.table.View.TheVariants.{Spent};
+
+    ghost both = { joined };
+
+    ghost spent = { Spent };
+}
+
+// Loads a word through a full view.
+pub(crate) struct Compares;
+
+impl Play<(), View> for Compares {
+    ghost use Rattle.gpu_books.specs.Views.{compares};
+
+    ghost then = { compares };
+}
+
+// Stores one word through a full view.
+pub(crate) struct SetsOne;
+
+impl Play<(), View> for SetsOne {
+    ghost use Rattle.gpu_books.specs.Views.{sets_one};
+
+    ghost then = { sets_one };
+}
