@@ -1,0 +1,16 @@
+pub mod First
+pub mod Kept
+pub mod Others
+pub mod Flushes
+pub mod Fitting
+pub mod Counts
+pub mod Choices
+pub mod Passed
+pub mod Obeying
+pub mod Least
+pub mod Ends
+pub mod Further
+pub mod Rooms
+pub mod Sums
+pub mod Spent
+pub mod Bounded
