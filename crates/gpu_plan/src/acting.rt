@@ -81,14 +81,14 @@ impl Begun {
     {
         let Begun {
             done,
-            plan,
+            mut plan,
             actions,
             flushes,
         } = self;
         if actions >= MOST_ACTIONS {
             return Err(LineError::Refused(Kind::Limit));
         }
-        let plan = plan.with_action(action)?;
+        plan.add_action(action)?;
         Ok(Draft {
             done,
             last: Some(plan),
@@ -107,14 +107,14 @@ impl Begun {
     {
         let Begun {
             done,
-            plan,
+            mut plan,
             actions,
             flushes,
         } = self;
         if actions >= MOST_ACTIONS {
             return Err(LineError::Refused(Kind::Limit));
         }
-        let plan = plan.with_action(Action::Flush { put, fences })?;
+        plan.add_action(Action::Flush { put, fences })?;
         Ok(Draft {
             done,
             last: Some(plan),
@@ -132,14 +132,14 @@ impl Begun {
     {
         let Begun {
             done,
-            plan,
+            mut plan,
             actions,
             flushes,
         } = self;
         if actions >= MOST_ACTIONS {
             return Err(LineError::Refused(Kind::Limit));
         }
-        let plan = plan.with_dump(place)?;
+        plan.add_dump(place)?;
         Ok(Draft {
             done,
             last: Some(plan),
@@ -158,14 +158,14 @@ impl Begun {
     {
         let Begun {
             done,
-            plan,
+            mut plan,
             actions,
             flushes,
         } = self;
         if count > MOST_ACTIONS - actions {
             return Err(LineError::Refused(Kind::Limit));
         }
-        let plan = plan.with_puts(place, values)?;
+        plan.add_puts(place, values, count)?;
         Ok(Draft {
             done,
             last: Some(plan),

@@ -78,7 +78,7 @@ fn with_stream(
     may_follow(version, &done, name, ring)?;
     Ok(Draft {
         done,
-        last: Some(Plan::start(alloc, name, priority, ring)),
+        last: Some(Plan::start(alloc, name, priority, ring)?),
         actions,
         flushes,
     })

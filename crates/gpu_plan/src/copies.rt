@@ -51,7 +51,7 @@ impl Plan {
     {
         Ok(Plan {
             name: self.name,
-            areas: self.areas,
+            areas: Box::new(alloc, *self.areas)?,
             priority: self.priority,
             actions: self.clone_actions(alloc)?,
             dumps: self.dumps.to_vec(alloc)?,

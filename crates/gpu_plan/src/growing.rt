@@ -1,5 +1,5 @@
-ghost use Rattle.std.specs.Prelude.{◌≡◌, ◌+◌, ◌<◌, ◌≤◌, ◌^◌, ◌++◌, [], ◌∷◌, false, length, map, OnOk, IfOk};
-ghost use Rattle.std.specs.List.{All};
+ghost use Rattle.std.specs.Prelude.{◌≡◌, ◌+◌, ◌<◌, ◌≤◌, ◌^◌, ◌++◌, [], ◌∷◌, false, length, map, vec_len, OnOk, IfOk};
+ghost use Rattle.std.specs.Vec.{vec_capacity};
 ghost use Rattle.gpu_cmd.specs.Lawful.{places_of};
 ghost use Rattle.gpu_cmd.specs.Spans.{AreTiles, words_in};
 ghost use Rattle.script_words.specs.Text.{words_of};
@@ -14,18 +14,18 @@ use script_lines::{Priority, value_of};
 use script_words::Words;
 use std::alloc::{AllocError, Global};
 
-// Adds a put for each word, at places that follow one another.
-fn add_puts(actions: &mut Vec<Action>, place: u32, values: Words<'_>) -> Result<(), AllocError>
-    requires { place + length (words_of values.rest.now) < 2 ^ 32 }
-    ensures { OnOk result (actions.new.items ≡ actions.old.items ++ puts place (map value_of (words_of values.entry.rest.now))) }
+// Adds a put for each word, at places that follow one another, in room that was made before.
+fn push_puts(actions: &mut Vec<Action>, place: u32, values: Words<'_>)
+    requires places { place + length (words_of values.rest.now) < 2 ^ 32 }
+    requires room { vec_len actions.old + length (words_of values.rest.now) ≤ vec_capacity actions.old }
+    ensures { actions.new.items ≡ actions.old.items ++ puts place (map value_of (words_of values.entry.rest.now)) }
 {
     let mut at = place;
     for word in values {
         let value = value_of(word);
-        actions.push(Action::Put { place: at, value })?;
+        actions.push_reserved(Action::Put { place: at, value });
         at += 1;
     }
-    Ok(())
 }
 
 // The areas of a stream that has a ring and no memory.
@@ -42,18 +42,24 @@ fn ring_alone(ring: u32) -> Areas
 impl Plan {
     /// The plan of a stream that has a ring and no memory, and has not acted.
     #[tactic(auto, using(crate::proofs::Lawful::lawful_start))]
-    pub(crate) fn start(alloc: Global, name: Name, priority: Priority, ring: u32) -> Plan
+    pub(crate) fn start(
+        alloc: Global,
+        name: Name,
+        priority: Priority,
+        ring: u32,
+    ) -> Result<Plan, AllocError>
         requires least { 16 ≤ ring }
         requires most { ring ≤ 4096 }
-        ensures { result ≡ fresh_plan name priority ring }
+        ensures { IfOk result (λ plan. plan ≡ fresh_plan name priority ring) }
     {
-        Plan {
+        let areas = Box::new(alloc, ring_alone(ring))?;
+        Ok(Plan {
             name,
-            areas: ring_alone(ring),
+            areas,
             priority,
             actions: Vec::new(alloc),
             dumps: Vec::new(alloc),
-        }
+        })
     }
 
     /// Whether the stream's client has closed it.
@@ -63,79 +69,47 @@ impl Plan {
         matches!(self.actions.as_slice(), [.., Action::Close])
     }
 
-    /// The plan with one more action.
-    pub(crate) fn with_action(self, action: Action) -> Result<Plan, AllocError>
-        requires unclosed { is_closed self.actions ≡ false }
-        requires few { length self.actions < 1000000 }
-        requires within { IsWithin (places_of self.areas) action }
+    /// Adds an action.
+    pub(crate) fn add_action(&mut self, action: Action) -> Result<(), AllocError>
+        requires unclosed { is_closed self.old.actions ≡ false }
+        requires few { length self.old.actions < 1000000 }
+        requires within { IsWithin (places_of self.old.areas) action }
         requires fenced { HasFewFences action }
-        ensures { IfOk result (λ plan. plan ≡ record self { actions = self.actions ++ action ∷ [] }) }
+        ensures { OnOk result (self.new ≡ record self.old { actions = self.old.actions ++ action ∷ [] }) }
     {
-        let Plan {
-            name,
-            areas,
-            priority,
-            mut actions,
-            dumps,
-        } = self;
-        actions.push(action)?;
-        Ok(Plan {
-            name,
-            areas,
-            priority,
-            actions,
-            dumps,
-        })
+        self.actions.push(action)?;
+        Ok(())
     }
 
-    /// The plan with a put for each word, at places that follow one another.
-    pub(crate) fn with_puts(self, place: u32, values: Words<'_>) -> Result<Plan, AllocError>
-        requires unclosed { is_closed self.actions ≡ false }
-        requires few { length self.actions + length (words_of values.rest.now) ≤ 1000000 }
-        requires fits { place + length (words_of values.rest.now) ≤ places_of self.areas }
-        ensures { IfOk result (λ plan. plan ≡ record self { actions = self.actions ++ puts place (map value_of (words_of values.entry.rest.now)) }) }
+    /// Adds a put for each of so many words, at places that follow one another.
+    pub(crate) fn add_puts(
+        &mut self,
+        place: u32,
+        values: Words<'_>,
+        count: usize,
+    ) -> Result<(), AllocError>
+        requires counted { count ≡ length (words_of values.rest.now) }
+        requires unclosed { is_closed self.old.actions ≡ false }
+        requires few { length self.old.actions + length (words_of values.rest.now) ≤ 1000000 }
+        requires fits { place + length (words_of values.rest.now) ≤ places_of self.old.areas }
+        ensures { OnOk result (self.new ≡ record self.old { actions = self.old.actions ++ puts place (map value_of (words_of values.entry.rest.now)) }) }
     {
-        let Plan {
-            name,
-            areas,
-            priority,
-            mut actions,
-            dumps,
-        } = self;
-        add_puts(&mut actions, place, values)?;
-        Ok(Plan {
-            name,
-            areas,
-            priority,
-            actions,
-            dumps,
-        })
+        self.actions.reserve(count)?;
+        push_puts(&mut self.actions, place, values);
+        Ok(())
     }
 
-    /// The plan with one more Finish, behind which this result place is read.
-    pub(crate) fn with_dump(self, place: u32) -> Result<Plan, AllocError>
-        requires unclosed { is_closed self.actions ≡ false }
-        requires few { length self.actions < 1000000 }
-        requires there { place < words_in self.areas.results }
-        ensures { IfOk result (λ plan. plan ≡ record self { actions = self.actions ++ Finish ∷ []; dumps = self.dumps ++ (length self.actions, place) ∷ [] }) }
+    /// Adds a Finish, behind which this result place is read.
+    pub(crate) fn add_dump(&mut self, place: u32) -> Result<(), AllocError>
+        requires unclosed { is_closed self.old.actions ≡ false }
+        requires few { length self.old.actions < 1000000 }
+        requires there { place < words_in self.old.areas.results }
+        ensures { OnOk result (self.new ≡ record self.old { actions = self.old.actions ++ Finish ∷ []; dumps = self.old.dumps ++ (length self.old.actions, place) ∷ [] }) }
     {
-        let Plan {
-            name,
-            areas,
-            priority,
-            mut actions,
-            mut dumps,
-        } = self;
-        let at = actions.len() as u32;
-        actions.push(Action::Finish)?;
-        dumps.push((at, place))?;
-        Ok(Plan {
-            name,
-            areas,
-            priority,
-            actions,
-            dumps,
-        })
+        let at = self.actions.len() as u32;
+        self.actions.push(Action::Finish)?;
+        self.dumps.push((at, place))?;
+        Ok(())
     }
 
     /// The plan with these transfer memories.
@@ -146,14 +120,15 @@ impl Plan {
     {
         let Plan {
             name,
-            areas,
+            mut areas,
             priority,
             actions,
             dumps,
         } = self;
+        areas.memories = memories;
         Plan {
             name,
-            areas: Areas { memories, ..areas },
+            areas,
             priority,
             actions,
             dumps,
@@ -168,14 +143,15 @@ impl Plan {
     {
         let Plan {
             name,
-            areas,
+            mut areas,
             priority,
             actions,
             dumps,
         } = self;
+        areas.results = results;
         Plan {
             name,
-            areas: Areas { results, ..areas },
+            areas,
             priority,
             actions,
             dumps,

@@ -56,10 +56,12 @@ pub enum Action {
 }
 
 /// What one stream is called, has and does.
+///
+/// The areas take some 400 bytes, so they lie apart: a plan is moved often while its script is read.
 #[derive(Debug, Drop)]
 pub struct Plan {
     pub(crate) name: Name,
-    pub(crate) areas: Areas,
+    pub(crate) areas: Box<Areas>,
     pub(crate) priority: Priority,
     pub(crate) actions: Vec<Action>,
     pub(crate) dumps: Vec<(u32, u32)>,
@@ -71,9 +73,9 @@ impl Model for Plan {
 
     ghost Value = { PlanData };
 
-    ghost view = { λ p. record { name = p.name; areas = p.areas; priority = p.priority; actions = p.actions.items; dumps = p.dumps.items } };
+    ghost view = { λ p. record { name = p.name; areas = p.areas.value; priority = p.priority; actions = p.actions.items; dumps = p.dumps.items } };
 
-    ghost invariant = { λ p. IsLawfulPlan p.areas p.actions.items × All (IsDump p.areas.results p.actions.items) p.dumps.items };
+    ghost invariant = { λ p. IsLawfulPlan p.areas.value p.actions.items × All (IsDump p.areas.value.results p.actions.items) p.dumps.items };
 }
 
 impl Plan {

@@ -171,15 +171,15 @@ pub fn put_said<'a>(mut words: Words<'a>) -> Result<Putting<'a>, LineError>
     let Some(first) = words.next() else {
         return Err(LineError::Refused(Kind::Word));
     };
-    let values = words;
-    if words.next().is_none() {
+    let counted = count_values(words);
+    if counted == Some(0) {
         return Err(LineError::Refused(Kind::Word));
     }
     let place = decimal_at(first)?;
-    match count_values(values) {
+    match counted {
         Some(count) => Ok(Putting {
             place,
-            values,
+            values: words,
             count,
         }),
         None => Err(LineError::Refused(Kind::Number)),

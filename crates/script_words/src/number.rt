@@ -4,6 +4,8 @@ ghost use Rattle.std.specs.List.{list_all};
 ghost use Rattle.std.specs.Str.Parse.{digits_value};
 ghost use Rattle.script_words.specs.Numbers.{decimal_of, hex_of, long_decimal_of};
 
+use crate::digit::digit_of;
+
 // The value of at most 15 digits.
 fn value_of(word: &[u8], radix: u32) -> Option<u64>
     requires two { 2 ≤ radix }
@@ -13,10 +15,11 @@ fn value_of(word: &[u8], radix: u32) -> Option<u64>
 {
     let mut value = 0;
     for byte in word {
-        match char::from(*byte).to_digit(radix) {
-            Some(digit) => value = value * u64::from(radix) + u64::from(digit),
-            None => return None,
+        let digit = digit_of(*byte);
+        if digit >= radix {
+            return None;
         }
+        value = value * u64::from(radix) + u64::from(digit);
     }
     Some(value)
 }
@@ -28,10 +31,11 @@ fn long_value_of(word: &[u8]) -> Option<u128>
 {
     let mut value = 0;
     for byte in word {
-        match char::from(*byte).to_digit(10) {
-            Some(digit) => value = value * 10 + u128::from(digit),
-            None => return None,
+        let digit = digit_of(*byte);
+        if digit >= 10 {
+            return None;
         }
+        value = value * 10 + u128::from(digit);
     }
     Some(value)
 }
