@@ -1,9 +1,15 @@
 pub mod Counts
 pub mod Dumps
 pub mod Lawful
+pub mod Telling
 pub mod Tiled
 pub mod Whole
 pub mod Holding
 pub mod Passing
 pub mod Apart
+pub mod Meaning
+pub mod Moving
 pub mod Named
+pub mod Partly
+pub mod Renumbered
+pub mod Staying

@@ -24,27 +24,27 @@ use Rattle.gpu_plan.proofs.Apart.{lawful_end, any_is, names_more}
 
 -- ---- what an answer that is right says of its steps
 
-bound : {A B : Type 0} (r : Result A Kind) (f : A → Result B Kind) (y : B) → (r >>= f) ≡ Ok y → (x : A) × (r ≡ Ok x) × (f x ≡ Ok y)
+pub bound : {A B : Type 0} (r : Result A Kind) (f : A → Result B Kind) (y : B) → (r >>= f) ≡ Ok y → (x : A) × (r ≡ Ok x) × (f x ≡ Ok y)
 bound (Ok x) f y e = (x, refl, e)
 bound (Err kind) f y e = absurd cc
 
-passed : {B : Type 0} (b : Bool) (kind : Kind) (f : Unit {0} → Result B Kind) (y : B) → (unless b kind >>= f) ≡ Ok y → (b ≡ true) × (f tt ≡ Ok y)
+pub passed : {B : Type 0} (b : Bool) (kind : Kind) (f : Unit {0} → Result B Kind) (y : B) → (unless b kind >>= f) ≡ Ok y → (b ≡ true) × (f tt ≡ Ok y)
 passed true kind f y e = (refl, e)
 passed false kind f y e = absurd cc
 
 abbrev right : {A : Type 0} → A → Result A Kind
 right x = Ok x
 
-same : {A : Type 0} (x y : A) → right x ≡ right y → x ≡ y
+pub same : {A : Type 0} (x y : A) → right x ≡ right y → x ≡ y
 same x y e = cc
 
-found : {A : Type 0} (kind : Kind) (o : Option A) (x : A) → or_kind kind o ≡ Ok x → o ≡ Some x
+pub found : {A : Type 0} (kind : Kind) (o : Option A) (x : A) → or_kind kind o ≡ Ok x → o ≡ Some x
 found kind None x e = absurd cc
 found kind (Some y) x e = let s : y ≡ x = cc in ap Some s
 
 -- ---- lines that begin no stream
 
-abbrev SameNames : Draft → Draft → Type 0
+abbrev pub SameNames : Draft → Draft → Type 0
 SameNames d e = names_in (streams e) ≡ names_in (streams d)
 
 acting_last : (d : Draft) (p : PlanData) → acting d ≡ Ok p → d.last ≡ Some p
@@ -168,9 +168,17 @@ no_other : (b : Bool) → not b ≡ true → b ≡ false
 no_other true e = absurd cc
 no_other false e = refl
 
-stream_lawful : (version : ℕ) (words : List (List ℕ)) (d e : Draft) → with_stream version words d ≡ Ok e → AreLawfulNames version (names_in (streams d)) → AreLawfulNames version (names_in (streams e))
+-- what is known where a stream line is taken up: what it says, and that its name and its number are new
+pub record Begins (version : ℕ) (words : List (List ℕ)) (d e : Draft) : Type 0 where
+  pub said : Name × Priority × ℕ
+  pub is : stream_said version words ≡ Ok said
+  pub order : (version == 2 || said.0.id == length (streams d) + 1) ≡ true
+  pub new : list_any (is_name said.0) (names_in (streams d)) ≡ false
+  pub names : names_in (streams e) ≡ names_in (streams d) ++ said.0 ∷ []
+
+pub stream_begins : (version : ℕ) (words : List (List ℕ)) (d e : Draft) → with_stream version words d ≡ Ok e → Begins version words d e
 unfolding with_stream may_follow
-stream_lawful version words d e h lawful =
+stream_begins version words d e h =
     let said = bound (stream_said version words) _ e h in
     let name = said.0.0 in
     let follows = bound (may_follow version (streams d) name said.0.2) _ e said.2 in
@@ -179,36 +187,56 @@ stream_lawful version words d e h lawful =
     let plan = fresh_plan name said.0.1 said.0.2 in
     let next : Draft = record d { done = streams d; last = Some plan } in
     let is = same next e follows.2 in
-    let among : list_any (is_name name) (names_in (streams d)) ≡ false = sym (any_is name (streams d)) ∙ no_other (list_any (is_of name) (streams d)) new.0 in
+    record {
+      said = said.0;
+      is = said.1;
+      order = order.0;
+      new = sym (any_is name (streams d)) ∙ no_other (list_any (is_of name) (streams d)) new.0;
+      names = ap (λ (x : Draft). names_in (streams x)) (sym is) ∙ names_more (streams d) plan;
+    }
+
+stream_lawful : (version : ℕ) (words : List (List ℕ)) (d e : Draft) → with_stream version words d ≡ Ok e → AreLawfulNames version (names_in (streams d)) → AreLawfulNames version (names_in (streams e))
+stream_lawful version words d e h lawful =
+    let begins = stream_begins version words d e h in
+    let name = begins.said.0 in
     let number : version ≡ 1 → name ≡ record { namespace = 0; id = length (names_in (streams d)) + 1 } = λ one.
-    let space : name.namespace ≡ 0 = zero_space words said.0 (ap (λ v. stream_said v words) (sym one) ∙ said.1) in
-    let id : name.id ≡ length (names_in (streams d)) + 1 = let long = length-map (streams d) (λ (p : PlanData). p.name) in let first : (version == 2 || name.id == length (streams d) + 1) ≡ true = order.0 in grind (arith, nat_tests) in
+    let space : name.namespace ≡ 0 = zero_space words begins.said (ap (λ v. stream_said v words) (sym one) ∙ begins.is) in
+    let id : name.id ≡ length (names_in (streams d)) + 1 = let long = length-map (streams d) (λ (p : PlanData). p.name) in let first : (version == 2 || name.id == length (streams d) + 1) ≡ true = begins.order in grind (arith, nat_tests) in
     λ i. record { namespace = space i; id = id i }
     in
-    subst (λ (x : Draft). AreLawfulNames version (names_in (streams x))) is (subst (AreLawfulNames version) (sym (names_more (streams d) plan)) (lawful_end version (names_in (streams d)) name lawful among number))
+    subst (AreLawfulNames version) (sym begins.names) (lawful_end version (names_in (streams d)) name lawful begins.new number)
 
 -- ---- any line
 
 kept : (version : ℕ) (d e : Draft) → SameNames d e → AreLawfulNames version (names_in (streams d)) → AreLawfulNames version (names_in (streams e))
 kept version d e s lawful = subst (AreLawfulNames version) (sym s) lawful
 
+-- the keyword of a stream line
+abbrev pub begins_stream : Keyword → Bool
+begins_stream StreamLine = true
+begins_stream _ = false
+
+-- a line that is taken up begins a stream, or leaves the names
+pub keyword_told : (version : ℕ) (names : List Name) (keyword : Keyword) (words : List (List ℕ)) (d e : Draft) (P : Type 0) → with_keyword version names keyword words d ≡ Ok e → (begins_stream keyword ≡ true → with_stream version words d ≡ Ok e → P) → (begins_stream keyword ≡ false → SameNames d e → P) → P
+keyword_told version names StreamLine words d e P h begins stays = begins refl h
+keyword_told version names MemoryLine words d e P h begins stays = stays refl (memory_same words d e h)
+keyword_told version names ResultsLine words d e P h begins stays = stays refl (results_same words d e h)
+keyword_told version names PutLine words d e P h begins stays = stays refl (puts_same words d e h)
+keyword_told version names FillLine words d e P h begins stays = stays refl (fill_same words d e h)
+keyword_told version names FlushLine words d e P h begins stays = stays refl (flush_same version names words d e h)
+keyword_told version names FinishLine words d e P h begins stays = stays refl (finish_same words d e h)
+keyword_told version names TokenLine words d e P h begins stays = stays refl (token_same words d e h)
+keyword_told version names CloseLine words d e P h begins stays = stays refl (close_same words d e h)
+keyword_told version names DumpLine words d e P h begins stays = stays refl (dump_same words d e h)
+
 keyword_lawful : (version : ℕ) (names : List Name) (keyword : Keyword) (words : List (List ℕ)) (d e : Draft) → with_keyword version names keyword words d ≡ Ok e → AreLawfulNames version (names_in (streams d)) → AreLawfulNames version (names_in (streams e))
-keyword_lawful version names StreamLine words d e h = stream_lawful version words d e h
-keyword_lawful version names MemoryLine words d e h = kept version d e (memory_same words d e h)
-keyword_lawful version names ResultsLine words d e h = kept version d e (results_same words d e h)
-keyword_lawful version names PutLine words d e h = kept version d e (puts_same words d e h)
-keyword_lawful version names FillLine words d e h = kept version d e (fill_same words d e h)
-keyword_lawful version names FlushLine words d e h = kept version d e (flush_same version names words d e h)
-keyword_lawful version names FinishLine words d e h = kept version d e (finish_same words d e h)
-keyword_lawful version names TokenLine words d e h = kept version d e (token_same words d e h)
-keyword_lawful version names CloseLine words d e h = kept version d e (close_same words d e h)
-keyword_lawful version names DumpLine words d e h = kept version d e (dump_same words d e h)
+keyword_lawful version names keyword words d e h lawful = keyword_told version names keyword words d e (AreLawfulNames version (names_in (streams e))) h (λ b begun. stream_lawful version words d e begun lawful) (λ b stays. kept version d e stays lawful)
 
 line_lawful : (version : ℕ) (names : List Name) (name : List ℕ) (words : List (List ℕ)) (d e : Draft) → with_line version names name words d ≡ Ok e → AreLawfulNames version (names_in (streams d)) → AreLawfulNames version (names_in (streams e))
 unfolding with_line
 line_lawful version names name words d e h = let keyword = bound (or_kind Word (keyword_of name)) _ e h in keyword_lawful version names keyword.0 words d e keyword.2
 
-plain : {A : Type 0} (n : ℕ) (r : Result A Kind) (x : A) → at_line n r ≡ Ok x → r ≡ Ok x
+pub plain : {A : Type 0} (n : ℕ) (r : Result A Kind) (x : A) → at_line n r ≡ Ok x → r ≡ Ok x
 plain n (Ok y) x e = cc
 plain n (Err kind) x e = absurd cc
 

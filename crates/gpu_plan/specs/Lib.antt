@@ -5,10 +5,13 @@ pub use Rattle.script_generator.specs.Generator
 pub use Rattle.script_lines.specs.Outcome
 pub use Rattle.script_lines.specs.Said
 pub use Rattle.script_lines.specs.Naming
+pub use Rattle.script_lines.specs.Mentioned
 pub mod Plans
 pub mod Named
 pub mod Adding
 pub mod Script
+pub mod Mentioning
+pub mod Renumbered
 pub mod Drafts
 pub mod Values
 pub mod Passes

@@ -1,8 +1,11 @@
-ghost use Rattle.std.specs.Prelude.{◌≡◌, ◌≤◌, ◌<◌, length, IfOk};
+ghost use Rattle.std.specs.Prelude.{◌≡◌, ◌≤◌, ◌<◌, length, IfOk, OnOk};
 ghost use Rattle.std.specs.List.{list_any};
 ghost use Rattle.script_words.specs.Text.{words_of};
 ghost use Rattle.gpu_plan.specs.Plans.{IsLawfulScript, actions_in, flushes_in, is_of};
 ghost use Rattle.script_lines.specs.Outcome.{Gives};
+ghost use Rattle.script_lines.specs.Said.{keyword_of};
+ghost use Rattle.script_lines.specs.Mentioned.{mentioned_behind};
+ghost use Rattle.gpu_plan.specs.Mentioning.{mentioned_as};
 ghost use Rattle.gpu_plan.specs.Adding.{streams, may_follow, with_stream, with_memory, with_results, with_puts, with_fill, with_flush, with_finish, with_token, with_close, with_dump, with_line};
 ghost use Rattle.gpu_plan.specs.Drafts.{shown};
 
@@ -13,11 +16,12 @@ use crate::plan::{Action, Fences, Plan};
 use crate::spans::spans_with;
 use gpu_cmd::{Name, span_at};
 use script_lines::{
-    Keyword, Kind, Known, LineError, fill_said, flush_said, keyword_of, none_said, one_said,
-    put_said, stream_said, two_said,
+    Keyword, Kind, LineError, fill_said, flush_said, keyword_of, none_said, one_said, put_said,
+    stream_said, two_said,
 };
 use script_words::Words;
 use std::alloc::{AllocError, Global};
+use stream_names::Names;
 
 /// The fewest and the most entries of a ring.
 const LEAST_RING: u32 = 16;
@@ -156,13 +160,15 @@ fn with_fill(words: Words<'_>, draft: Draft) -> Result<Draft, LineError>
 #[tactic(auto, unfolding(crate::specs::Adding::with_flush))]
 fn with_flush(
     alloc: Global,
-    known: &Known,
+    version: u32,
+    mentioned: &mut Names,
     words: Words<'_>,
     draft: Draft,
 ) -> Result<Draft, LineError>
-    ensures { Gives shown result (with_flush known.now.version known.now.names (words_of words.entry.rest.now) (shown draft)) }
+    ensures said { Gives shown result (with_flush version (mentioned_behind version mentioned.old (words_of words.entry.rest.now)) (words_of words.entry.rest.now) (shown draft)) }
+    ensures mentioned { OnOk result (mentioned.new ≡ mentioned_behind version mentioned.old (words_of words.entry.rest.now)) }
 {
-    let (put, fences) = flush_said(alloc, known, words)?;
+    let (put, fences) = flush_said(alloc, version, mentioned, words)?;
     let begun = acting(draft)?;
     if begun.flushes >= MOST_FLUSHES || fences.len() > MOST_FENCES {
         return Err(LineError::Refused(Kind::Limit));
@@ -212,27 +218,30 @@ fn with_dump(words: Words<'_>, draft: Draft) -> Result<Draft, LineError>
     begun.dump(span.base + index)
 }
 
-/// The draft with what a line of this name and these words adds.
+/// The draft with what a line of this name and these words adds. In version 2 a fence has the number of its name among
+/// those mentioned, of which the new ones are put behind the others.
 #[tactic(auto, unfolding(crate::specs::Adding::with_line))]
 pub(crate) fn with_line(
     alloc: Global,
-    known: &Known,
+    version: u32,
+    mentioned: &mut Names,
     name: &[u8],
     words: Words<'_>,
     draft: Draft,
 ) -> Result<Draft, LineError>
-    ensures { Gives shown result (with_line known.now.version known.now.names name.now (words_of words.entry.rest.now) (shown draft)) }
+    ensures said { Gives shown result (with_line version (mentioned_as version mentioned.old (keyword_of name.now) (words_of words.entry.rest.now)) name.now (words_of words.entry.rest.now) (shown draft)) }
+    ensures mentioned { OnOk result (mentioned.new ≡ mentioned_as version mentioned.old (keyword_of name.now) (words_of words.entry.rest.now)) }
 {
     let Some(keyword) = keyword_of(name) else {
         return Err(LineError::Refused(Kind::Word));
     };
     match keyword {
-        Keyword::StreamLine => with_stream(alloc, known.version, words, draft),
+        Keyword::StreamLine => with_stream(alloc, version, words, draft),
         Keyword::MemoryLine => with_memory(words, draft),
         Keyword::ResultsLine => with_results(words, draft),
         Keyword::PutLine => with_puts(words, draft),
         Keyword::FillLine => with_fill(words, draft),
-        Keyword::FlushLine => with_flush(alloc, known, words, draft),
+        Keyword::FlushLine => with_flush(alloc, version, mentioned, words, draft),
         Keyword::FinishLine => with_finish(words, draft),
         Keyword::TokenLine => with_token(words, draft),
         Keyword::CloseLine => with_close(words, draft),

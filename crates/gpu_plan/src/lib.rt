@@ -9,6 +9,7 @@ mod draft;
 mod growing;
 mod laws;
 mod plan;
+mod renumbering;
 mod script;
 mod spans;
 

@@ -68,6 +68,17 @@ fn refused(line: u32, kind: Kind) -> Option<ScriptFault> {
     Some(ScriptFault::Refused { line, kind })
 }
 
+// The fences of a stream that does nothing but one flush.
+fn fences_of(plans: &Plans, stream: u32) -> Result<&[(u32, u64)], Fail> {
+    if stream == 0 || stream > plans.count() {
+        return Err("a stream".into());
+    }
+    match plans.plan(stream).actions() {
+        [Action::Flush { put: 0, fences }] => Ok(fences.as_slice()),
+        _ => Err("a flush".into()),
+    }
+}
+
 #[test]
 fn fences_name_streams_before_and_behind(rt: HostRuntime) -> Result<(), Fail> {
     let text = b"gpu-script\t2\r
@@ -78,11 +89,52 @@ stream 1 18446744073709551615 high 16";
     let plans = plans_of(rt.alloc(), text)?;
     assert_eq!(rt; plans.version(), 2);
     assert_eq!(rt; plans.count(), 2);
-    let fences = match plans.plan(1).actions() {
-        [Action::Flush { put: 0, fences }] => fences.as_slice(),
-        _ => return Err("a flush".into()),
-    };
-    assert_eq!(rt; fences, [(2, 5), (1, 6), (0, 7)].as_slice());
+    assert_eq!(rt; fences_of(&plans, 1)?, [(2, 5), (1, 6), (0, 7)].as_slice());
+    Ok(())
+}
+
+#[test]
+fn a_name_has_one_number_before_and_behind_its_stream(rt: HostRuntime) -> Result<(), Fail> {
+    let text = b"gpu-script 2
+stream 1 1 low 16
+flush 0 9 9 1 2 2 2 8 8 3 1 1 4
+stream 2 2 low 16
+flush 0 2 2 5 9 9 6 8 8 7
+stream 8 8 low 16";
+    let plans = plans_of(rt.alloc(), text)?;
+    assert_eq!(rt;
+        fences_of(&plans, 1)?,
+        [(0, 1), (2, 2), (3, 3), (1, 4)].as_slice()
+    );
+    assert_eq!(rt; fences_of(&plans, 2)?, [(2, 5), (0, 6), (3, 7)].as_slice());
+    Ok(())
+}
+
+#[test]
+fn fences_of_version_one_name_any_number(rt: HostRuntime) -> Result<(), Fail> {
+    let text = b"gpu-script 1
+stream 1 low 16
+flush 0 2 5 9 6 0 7 1 8
+stream 2 low 16";
+    let plans = plans_of(rt.alloc(), text)?;
+    assert_eq!(rt;
+        fences_of(&plans, 1)?,
+        [(2, 5), (9, 6), (0, 7), (1, 8)].as_slice()
+    );
+    Ok(())
+}
+
+#[test]
+fn a_name_without_a_stream_refuses_nothing(rt: HostRuntime) -> Result<(), Fail> {
+    let text = b"gpu-script 2
+stream 1 1 low 16
+flush 0 9 9 1
+";
+    assert_eq!(rt; fault_of(rt.alloc(), text), None);
+    let behind = fault_behind(rt.alloc(), text, b"put 0 x")?;
+    assert_eq!(rt; behind, refused(4, Kind::Number));
+    let same = fault_behind(rt.alloc(), text, b"flush 0 9 9 1 9 9 x")?;
+    assert_eq!(rt; same, refused(4, Kind::Number));
     Ok(())
 }
 

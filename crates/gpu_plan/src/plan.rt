@@ -14,7 +14,7 @@ use std::marker::Model;
 /// The number 0 stands for a stream that is not there.
 #[derive(Debug, Drop)]
 pub struct Fences {
-    pairs: Vec<(u32, u64)>,
+    pub(crate) pairs: Vec<(u32, u64)>,
 }
 
 impl Model for Fences {
@@ -187,17 +187,25 @@ impl Plans {
     pub fn number(&self, name: Name) -> u32
         ensures { result ≡ number_of self.now.plans name }
     {
-        match self.place_of(name) {
-            Some(at) => at as u32 + 1,
-            None => 0,
-        }
+        number_of(&self.plans, name)
     }
+}
 
-    // The place of the plan of the stream that has a name.
-    fn place_of(&self, name: Name) -> Option<usize>
-        ensures place { result ≡ position (is_of name) self.now.plans }
-        ensures within { IfSome result (λ at. at < 16) }
-    {
-        self.plans.iter().position(|plan| name == plan.name)
+/// The number of the stream that has a name among these, or 0 where none has it.
+pub(crate) fn number_of(plans: &[Plan], name: Name) -> u32
+    requires { length plans.now ≤ 16 }
+    ensures { result ≡ number_of plans.now name }
+{
+    match place_of(plans, name) {
+        Some(at) => at as u32 + 1,
+        None => 0,
     }
+}
+
+// The place of the plan of the stream that has a name.
+fn place_of(plans: &[Plan], name: Name) -> Option<usize>
+    ensures place { result ≡ position (is_of name) plans.now }
+    ensures within { IfSome result (λ at. at < length plans.now) }
+{
+    plans.iter().position(|plan| name == plan.name)
 }

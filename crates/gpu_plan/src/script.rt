@@ -1,16 +1,20 @@
-ghost use Rattle.std.specs.Prelude.{◌≡◌, ◌+◌, ◌<◌, ◌≤◌, ◌^◌, length, map};
+ghost use Rattle.std.specs.Prelude.{◌≡◌, ◌+◌, ◌<◌, ◌≤◌, ◌^◌, length, map, OnOk};
 ghost use Rattle.script_words.specs.Text.{lines_of, words_of};
 ghost use Rattle.script_lines.specs.Outcome.{GivesScript};
+ghost use Rattle.script_lines.specs.Naming.{names_of};
+ghost use Rattle.gpu_plan.specs.Mentioning.{mentioned_on};
 ghost use Rattle.gpu_plan.specs.Script.{is_remark, is_skipped, version_named, version_of, numbered, from_body, from_version, from_head, script_of};
 ghost use Rattle.gpu_plan.specs.Adding.{no_stream};
 ghost use Rattle.gpu_plan.specs.Drafts.{shown};
 
-use crate::adding::{streams, with_line};
+use crate::adding::with_line;
 use crate::draft::Draft;
 use crate::plan::Plans;
-use script_lines::{Kind, Known, LineError, ScriptFault, names_of};
+use crate::renumbering::whole;
+use script_lines::{Kind, LineError, ScriptFault};
 use script_words::{Lines, Words, all_lines};
 use std::alloc::Global;
+use stream_names::Names;
 
 fn is_remark(word: &[u8]) -> bool
     ensures { result ≡ is_remark word.now }
@@ -52,15 +56,17 @@ fn version_of(mut words: Words<'_>) -> Option<u32>
 }
 
 // What the line of this number does to the draft.
-#[tactic(auto, unfolding(crate::specs::Script::numbered))]
+#[tactic(auto, unfolding(crate::specs::Script::numbered, crate::specs::Mentioning::mentioned_on))]
 fn numbered(
     alloc: Global,
-    known: &Known,
+    version: u32,
+    mentioned: &mut Names,
     number: u32,
     line: &[u8],
     draft: Draft,
 ) -> Result<Draft, ScriptFault>
-    ensures { GivesScript shown result (numbered known.now.version known.now.names number (words_of line.now) (shown draft)) }
+    ensures said { GivesScript shown result (numbered version (mentioned_on version mentioned.old (words_of line.now)) number (words_of line.now) (shown draft)) }
+    ensures mentioned { OnOk result (mentioned.new ≡ mentioned_on version mentioned.old (words_of line.now)) }
 {
     let mut words = Words { rest: line };
     let Some(name) = words.next() else {
@@ -69,7 +75,7 @@ fn numbered(
     if is_remark(name) {
         return Ok(draft);
     }
-    match with_line(alloc, known, name, words, draft) {
+    match with_line(alloc, version, mentioned, name, words, draft) {
         Ok(next) => Ok(next),
         Err(LineError::Refused(kind)) => Err(ScriptFault::Refused { line: number, kind }),
         Err(LineError::Memory) => Err(ScriptFault::Memory),
@@ -91,21 +97,22 @@ fn no_stream(alloc: Global) -> Draft
 // The plans of the lines behind the head line, the first of which has this number.
 fn from_body(
     alloc: Global,
-    known: &Known,
+    version: u32,
     first: u32,
     lines: Lines<'_>,
 ) -> Result<Plans, ScriptFault>
     requires { first + length (lines_of lines.rest.now) < 2 ^ 32 }
-    ensures { GivesScript (λ plans. plans) result (from_body known.now.version known.now.names first no_stream (map words_of (lines_of lines.entry.rest.now))) }
+    ensures { GivesScript (λ plans. plans) result (from_body version (names_of version (map words_of (lines_of lines.entry.rest.now))) first no_stream (map words_of (lines_of lines.entry.rest.now))) }
 {
+    let mut mentioned = Names::new(alloc);
     let mut number = first;
     let mut draft = no_stream(alloc);
     for line in lines {
-        draft = numbered(alloc, known, number, line, draft)?;
+        draft = numbered(alloc, version, &mut mentioned, number, line, draft)?;
         number += 1;
     }
-    match streams(draft) {
-        Ok(plans) => Ok(Plans::of(known.version, plans)),
+    match whole(alloc, version, &mentioned, draft) {
+        Ok(plans) => Ok(plans),
         Err(_) => Err(ScriptFault::Memory),
     }
 }
@@ -127,13 +134,7 @@ fn from_version(
             kind: Kind::Head,
         });
     };
-    match names_of(alloc, version, lines) {
-        Ok(names) => {
-            let known = Known { version, names };
-            from_body(alloc, &known, number + 1, lines)
-        }
-        Err(_) => Err(ScriptFault::Memory),
-    }
+    from_body(alloc, version, number + 1, lines)
 }
 
 // The plans of a text.

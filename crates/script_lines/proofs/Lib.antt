@@ -1,3 +1,5 @@
-pub mod Namings
+pub mod Mentions
+pub mod Moved
 pub mod Pairs
+pub mod Steps
 pub mod Triples

@@ -4,3 +4,4 @@ pub use Rattle.stream_names.specs.Names
 pub mod Outcome
 pub mod Said
 pub mod Naming
+pub mod Mentioned

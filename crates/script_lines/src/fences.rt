@@ -1,36 +1,40 @@
-ghost use Rattle.std.specs.Prelude.{◌≡◌};
+ghost use Rattle.std.specs.Prelude.{◌≡◌, is_some, OnOk};
 ghost use Rattle.script_words.specs.Text.{words_of};
 ghost use Rattle.script_lines.specs.Outcome.{Gives};
-ghost use Rattle.script_lines.specs.Said.{are_pairs, pairs_of, are_triples, named_fence, triples_of, are_fences, fences_of, flush_said};
+ghost use Rattle.script_lines.specs.Said.{are_pairs, pairs_of, are_triples, triples_of, are_fences, fences_of, flush_said};
+ghost use Rattle.script_lines.specs.Mentioned.{fence_said, mentioned_by, mentioned_of, mentioned_behind};
 
 use crate::fault::{Kind, LineError};
-use crate::known::Known;
 use crate::line::{decimal_at, long_decimal_at};
 use gpu_cmd::Name;
 use script_words::Words;
 use std::alloc::Global;
 use stream_names::Names;
 
-fn are_pairs(words: Words<'_>) -> bool
-    ensures { result ≡ are_pairs (words_of words.entry.rest.now) }
+// How many pairs words make up, where they do.
+#[tactic(auto, using(script_words::proofs::Few::few_words))]
+fn count_pairs(words: Words<'_>) -> Option<usize>
+    ensures { is_some result ≡ are_pairs (words_of words.entry.rest.now) }
 {
     let mut words = words;
+    let mut count = 0;
     loop {
         match words.next() {
-            None => return true,
+            None => return Some(count),
             Some(_) => match words.next() {
-                None => return false,
-                Some(_) => {}
+                None => return None,
+                Some(_) => count += 1,
             },
         }
     }
 }
 
-fn pairs_of(alloc: Global, words: Words<'_>) -> Result<Vec<(u32, u64)>, LineError>
+// Room is made for so many.
+fn pairs_of(alloc: Global, count: usize, words: Words<'_>) -> Result<Vec<(u32, u64)>, LineError>
     ensures { Gives (λ pairs. pairs.items) result (pairs_of (words_of words.entry.rest.now)) }
 {
     let mut words = words;
-    let mut pairs = Vec::new(alloc);
+    let mut pairs = Vec::with_capacity(alloc, count)?;
     loop {
         match words.next() {
             None => return Ok(pairs),
@@ -46,40 +50,50 @@ fn pairs_of(alloc: Global, words: Words<'_>) -> Result<Vec<(u32, u64)>, LineErro
     }
 }
 
-fn are_triples(words: Words<'_>) -> bool
-    ensures { result ≡ are_triples (words_of words.entry.rest.now) }
+// How many triples words make up, where they do.
+#[tactic(auto, using(script_words::proofs::Few::few_words))]
+fn count_triples(words: Words<'_>) -> Option<usize>
+    ensures { is_some result ≡ are_triples (words_of words.entry.rest.now) }
 {
     let mut words = words;
+    let mut count = 0;
     loop {
         match words.next() {
-            None => return true,
+            None => return Some(count),
             Some(_) => match words.next() {
-                None => return false,
+                None => return None,
                 Some(_) => match words.next() {
-                    None => return false,
-                    Some(_) => {}
+                    None => return None,
+                    Some(_) => count += 1,
                 },
             },
         }
     }
 }
 
-// The fence that three words say.
-#[tactic(auto, unfolding(crate::specs::Said::named_fence))]
-fn named_fence(names: &Names, n: &[u8], i: &[u8], r: &[u8]) -> Result<(u32, u64), LineError>
-    ensures { Gives (λ fence. fence) result (named_fence names.now n.now i.now r.now) }
+// The name and the release that three words say.
+#[tactic(auto, unfolding(crate::specs::Mentioned::fence_said))]
+fn fence_said(n: &[u8], i: &[u8], r: &[u8]) -> Result<(Name, u64), LineError>
+    ensures { Gives (λ said. said) result (fence_said n.now i.now r.now) }
 {
     let namespace = decimal_at(n)?;
     let id = long_decimal_at(i)?;
     let release = long_decimal_at(r)?;
-    Ok((names.number(Name { namespace, id }), release))
+    Ok((Name { namespace, id }, release))
 }
 
-fn triples_of(alloc: Global, names: &Names, words: Words<'_>) -> Result<Vec<(u32, u64)>, LineError>
-    ensures { Gives (λ fences. fences.items) result (triples_of names.now (words_of words.entry.rest.now)) }
+// Each name is put behind those mentioned before, and a fence has its number among them. Room is made for so many fences.
+fn triples_of(
+    alloc: Global,
+    count: usize,
+    names: &mut Names,
+    words: Words<'_>,
+) -> Result<Vec<(u32, u64)>, LineError>
+    ensures said { Gives (λ fences. fences.items) result (triples_of (mentioned_by names.old (words_of words.entry.rest.now)) (words_of words.entry.rest.now)) }
+    ensures names { OnOk result (names.new ≡ mentioned_by names.old (words_of words.entry.rest.now)) }
 {
     let mut words = words;
-    let mut fences = Vec::new(alloc);
+    let mut fences = Vec::with_capacity(alloc, count)?;
     loop {
         match words.next() {
             None => return Ok(fences),
@@ -88,8 +102,9 @@ fn triples_of(alloc: Global, names: &Names, words: Words<'_>) -> Result<Vec<(u32
                 Some(i) => match words.next() {
                     None => return Err(LineError::Refused(Kind::Word)),
                     Some(r) => {
-                        let fence = named_fence(names, n, i, r)?;
-                        fences.push(fence)?;
+                        let (name, release) = fence_said(n, i, r)?;
+                        let number = names.mention(name)?;
+                        fences.push((number, release))?;
                     }
                 },
             },
@@ -97,42 +112,53 @@ fn triples_of(alloc: Global, names: &Names, words: Words<'_>) -> Result<Vec<(u32
     }
 }
 
-fn are_fences(version: u32, words: Words<'_>) -> bool
-    ensures { result ≡ are_fences version (words_of words.entry.rest.now) }
+// How many fences words make up, where they do.
+fn count_fences(version: u32, words: Words<'_>) -> Option<usize>
+    ensures { is_some result ≡ are_fences version (words_of words.entry.rest.now) }
 {
     if version == 2 {
-        are_triples(words)
+        count_triples(words)
     } else {
-        are_pairs(words)
+        count_pairs(words)
     }
 }
 
-fn fences_of(alloc: Global, known: &Known, words: Words<'_>) -> Result<Vec<(u32, u64)>, LineError>
-    ensures { Gives (λ fences. fences.items) result (fences_of known.now.version known.now.names (words_of words.entry.rest.now)) }
+fn fences_of(
+    alloc: Global,
+    count: usize,
+    version: u32,
+    names: &mut Names,
+    words: Words<'_>,
+) -> Result<Vec<(u32, u64)>, LineError>
+    ensures said { Gives (λ fences. fences.items) result (fences_of version (mentioned_of version names.old (words_of words.entry.rest.now)) (words_of words.entry.rest.now)) }
+    ensures names { OnOk result (names.new ≡ mentioned_of version names.old (words_of words.entry.rest.now)) }
 {
-    if known.version == 2 {
-        triples_of(alloc, &known.names, words)
+    if version == 2 {
+        triples_of(alloc, count, names, words)
     } else {
-        pairs_of(alloc, words)
+        pairs_of(alloc, count, words)
     }
 }
 
-/// The words behind `flush`: a put and fences.
-#[tactic(auto, unfolding(crate::specs::Said::flush_said))]
+/// The words behind `flush`: a put and fences. In version 2 a fence has the number of its name among those mentioned, of
+/// which the new ones are put behind the others.
+#[tactic(auto, unfolding(crate::specs::Said::flush_said, crate::specs::Mentioned::mentioned_behind))]
 pub fn flush_said(
     alloc: Global,
-    known: &Known,
+    version: u32,
+    names: &mut Names,
     mut words: Words<'_>,
 ) -> Result<(u32, Vec<(u32, u64)>), LineError>
-    ensures { Gives (λ said. (said.0, said.1.items)) result (flush_said known.now.version known.now.names (words_of words.entry.rest.now)) }
+    ensures said { Gives (λ said. (said.0, said.1.items)) result (flush_said version (mentioned_behind version names.old (words_of words.entry.rest.now)) (words_of words.entry.rest.now)) }
+    ensures names { OnOk result (names.new ≡ mentioned_behind version names.old (words_of words.entry.rest.now)) }
 {
     let Some(first) = words.next() else {
         return Err(LineError::Refused(Kind::Word));
     };
-    if !are_fences(known.version, words) {
+    let Some(count) = count_fences(version, words) else {
         return Err(LineError::Refused(Kind::Word));
-    }
+    };
     let put = decimal_at(first)?;
-    let fences = fences_of(alloc, known, words)?;
+    let fences = fences_of(alloc, count, version, names, words)?;
     Ok((put, fences))
 }

@@ -4,17 +4,13 @@
 mod fault;
 mod fences;
 mod keyword;
-mod known;
 mod line;
-mod naming;
 mod priority;
 
 pub use fault::{Kind, LineError, ScriptFault};
 pub use fences::flush_said;
 pub use keyword::{Keyword, keyword_of};
-pub use known::Known;
 pub use line::{
     Putting, fill_said, none_said, one_said, put_said, stream_said, two_said, value_of,
 };
-pub use naming::names_of;
 pub use priority::Priority;

@@ -101,9 +101,9 @@ fn numbered_said(mut words: Words<'_>) -> Result<(Name, Priority, u32), LineErro
     Ok((name, priority, ring))
 }
 
-/// The words behind `stream` in version 2.
+// The words behind `stream` in version 2.
 #[tactic(auto, unfolding(crate::specs::Said::named_said))]
-pub(crate) fn named_said(mut words: Words<'_>) -> Result<(Name, Priority, u32), LineError>
+fn named_said(mut words: Words<'_>) -> Result<(Name, Priority, u32), LineError>
     ensures { Gives (λ said. said) result (named_said (words_of words.entry.rest.now)) }
 {
     let (Some(n), Some(i), Some(p)) = (words.next(), words.next(), words.next()) else {

@@ -1,4 +1,4 @@
-//! The names of streams, numbered in the order in which they came.
+//! Names of streams, numbered in the order in which they are first mentioned.
 #![tactic(auto)]
 
 mod names;

@@ -1,10 +1,13 @@
-ghost use Rattle.std.specs.Prelude.{◌≡◌, ◌+◌, ◌<◌, ◌≤◌, ◌^◌, [], length, IfOk};
+ghost use Rattle.std.specs.Prelude.{◌≡◌, ◌<◌, ◌≤◌, ◌^◌, [], length, IfOk, OnOk, OnErr};
 ghost use Rattle.stream_names.specs.Names.{with_name, number_in};
 
 use gpu_cmd::Name;
 use indexmap::IndexSet;
 use std::alloc::{AllocError, Global};
 use std::marker::Model;
+
+/// The most names, so that each has a number of 32 bits.
+const MOST_NAMES: usize = 4_294_967_295;
 
 /// Names of streams, each once, in the order in which they came. There are fewer than 2^32.
 #[derive(Debug, Drop)]
@@ -33,32 +36,28 @@ impl Names {
         }
     }
 
-    /// How many names there are.
-    pub fn count(&self) -> u32
-        ensures { result ≡ length self.now }
+    /// The names in their order.
+    pub fn as_slice(&self) -> &[Name]
+        ensures names { result.now ≡ self.now }
+        ensures few { length self.now < 2 ^ 32 }
     {
-        self.set.len() as u32
+        self.set.as_slice()
     }
 
-    /// The number of a name, counted from 1 in the order of the names, or 0 where it is not among them.
-    pub fn number(&self, name: Name) -> u32
-        ensures number { result ≡ number_in self.now name }
-        ensures within { result ≤ length self.now }
+    /// The number of a name, counted from 1 in the order of the names. It is put behind them where it is not among them.
+    ///
+    /// # Errors
+    ///
+    /// There is no room for one more name. The names stay.
+    pub fn mention(&mut self, name: Name) -> Result<u32, AllocError>
+        ensures names { OnOk result (self.new ≡ with_name self.old name) }
+        ensures number { IfOk result (λ number. number ≡ number_in self.new name) }
+        ensures same { OnErr result (self.new ≡ self.old) }
     {
-        match self.set.get_index_of(&name) {
-            Some(at) => at as u32 + 1,
-            None => 0,
+        if self.set.len() >= MOST_NAMES {
+            return Err(AllocError);
         }
-    }
-
-    /// The names with one more behind them, unless it is among them.
-    pub fn with(self, name: Name) -> Result<Names, AllocError>
-        requires { length self + 1 < 2 ^ 32 }
-        ensures names { IfOk result (λ names. names ≡ with_name self name) }
-        ensures few { IfOk result (λ names. length names ≤ length self + 1) }
-    {
-        let Names { mut set } = self;
-        set.insert(name)?;
-        Ok(Names { set })
+        let (at, _) = self.set.insert_full(name)?;
+        Ok(at as u32 + 1)
     }
 }

@@ -11,7 +11,7 @@ returns-in-None-next c = odd c.loop-pairs.pairs.items (words_of c.loop-pairs.wor
 
 pub returns-in_err-target-in-Some-next : goal.returns-in_err-target-in-Some-next
 returns-in_err-target-in-Some-next c =
-    let p = err_from_is_err_and c.from_residual.result c.from_residual.ensures.1 in
+    let p = err_from_is_err_and c.from_residual-in_err-target-in-Some-next.result c.from_residual-in_err-target-in-Some-next.ensures.1 in
     rw (p.1, p.2) (ends_first c.in_err-target-in-Some-next.field-0.0 c.loop-pairs.pairs.items (words_of c.loop-pairs.words.rest.now) (words_of c.next.new.self.rest.now) (words_of c.next-in-Some.new.self.rest.now) c.in-Some.t.now c.in-Some-next.r.now _ c.in-Some.ensures.steps c.in-Some-next.ensures.steps c.in_err-target-in-Some-next.ensures c.loop-pairs.invariant)
 
 pub returns-in_err-release-in-Some-next : goal.returns-in_err-release-in-Some-next
