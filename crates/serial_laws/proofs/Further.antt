@@ -46,7 +46,7 @@ bound_passes xs f c tokens last e = ⊎_elim (λ less. absurd (before less)) (λ
         open' false q = q
 
 -- the client of each stream with an unprocessed number can have come to the flush of the first
-flush_reached : (p : PlansData) (h : List Event) (s : ℕ) → AreLawfulPlans p → IsLegal p h → CanRun p h s → flush_of p h s ≤ reach p h s
+pub flush_reached : (p : PlansData) (h : List Event) (s : ℕ) → AreLawfulPlans p → IsLegal p h → CanRun p h s → flush_of p h s ≤ reach p h s
 flush_reached p h s lawful legal can =
     let f = fits p h legal s in
     let o = open_of_left (plan_of p s).actions (place_of h) (known p h s) (standing_of p h s) f can.some in

@@ -93,13 +93,13 @@ gap_most ring get put g = by (nat_lt put ring) refl (nat_le get put) refl
     by false e b f = omega arith
 
 -- the place behind some entries that do not go past the end of a ring
-moved_place : (entries size ring get : ℕ) → get ≡ entries % ring → get + size < ring → (entries + size) % ring ≡ get + size
+pub moved_place : (entries size ring get : ℕ) → get ≡ entries % ring → get + size < ring → (entries + size) % ring ≡ get + size
 moved_place entries size ring get e h =
     let split : entries / ring * ring + entries % ring ≡ entries = div-add-mod' entries ring in
     let is : entries / ring * ring + (get + size) ≡ entries + size = omega arith in
     ap (λ n. n % ring) (sym is) ∙ mod-mul-add (entries / ring) ring (get + size) h
 
-round_place : (entries size ring get : ℕ) → 0 < ring → get ≡ entries % ring → get + size ≡ ring → (entries + size) % ring ≡ 0
+pub round_place : (entries size ring get : ℕ) → 0 < ring → get ≡ entries % ring → get + size ≡ ring → (entries + size) % ring ≡ 0
 round_place entries size ring get pos e h =
     let split : entries / ring * ring + entries % ring ≡ entries = div-add-mod' entries ring in
     let is : (entries / ring + 1) * ring + 0 ≡ entries + size = omega arith in

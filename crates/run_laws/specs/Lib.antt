@@ -1,0 +1,5 @@
+pub mod Going
+pub mod Needs
+pub mod Choosing
+pub mod Tokens
+pub mod Laws
