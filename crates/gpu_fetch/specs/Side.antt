@@ -2,6 +2,7 @@
 use Rattle.std.specs.Prelude.{◌≡◌, ℕ, ◌+◌, max, List, [], ◌∷◌, ◌++◌, Option}
 use Rattle.std.specs.List.{All}
 use Rattle.std.specs.Option.{option_map}
+use Rattle.atomic_table.specs.Seated.{TableId}
 use Rattle.gpu_word.specs.Results.{Written}
 use Rattle.gpu_plan.specs.Plans.{PlanData}
 use Rattle.gpu_plan.specs.Passes.{bound}
@@ -15,6 +16,10 @@ pub record SideData : Type 0 where
   pub finished : ℕ
   pub greatest : ℕ
   pub met : ℕ
+
+-- the name of no table, which a side has whose words are its client's alone
+abbrev pub no_table : TableId
+no_table = record { words = 0; slots = 0; views_name = 0; atom = 0; block = 0; offset = 0; slot_names = [] }
 
 -- a side that has done nothing
 abbrev pub fresh_side : PlanData → SideData

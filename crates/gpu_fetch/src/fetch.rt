@@ -30,6 +30,7 @@ fn fetch_row<P: ServiceSide>(
     ensures part { IfErr result (λ _. FetchesRowInPart (P.side side.old) (P.side side.new) from count) }
     ensures belongs { P.belongs side.new words.now }
     ensures notes { (n : P.Note) → P.note_belongs side.old words.now n → P.note_belongs side.new words.now n }
+    ensures table { P.table side.new ≡ P.table side.old }
 {
     list.reserve(count as usize)?;
     for place in from..from + count {
@@ -74,6 +75,7 @@ pub fn fetch_command<P: ServiceSide>(
     ensures rows { IfErr result (λ _. P.wants ⊎ FetchesRows (P.side side.old) (P.side side.new) facts.now) }
     ensures belongs { P.belongs side.new words.now }
     ensures notes { (n : P.Note) → P.note_belongs side.old words.now n → P.note_belongs side.new words.now n }
+    ensures table { P.table side.new ≡ P.table side.old }
 {
     let mut list = Vec::with_capacity(alloc, 1)?;
     if facts.put >= facts.areas.ring {

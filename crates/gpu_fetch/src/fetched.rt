@@ -49,10 +49,11 @@ impl Fetched {
     }
 
     /// The words fetched, as pairs of a place and its value: the ring places of the command and then its transfer places,
-    /// as far as the checks let it come.
+    /// as far as the checks let it come. `get` was not `put`.
     pub fn words(&self) -> &[(u32, u32)]
         ensures value { result.now ≡ self.now.words }
         ensures copy { IsCopy result.now self.now.facts self.now.verdict }
+        ensures more { self.now.facts.get ≢ self.now.facts.put }
     {
         &self.words
     }

@@ -21,6 +21,8 @@ impl ServiceSide for ServicePass {
 
     ghost side = { side_of };
 
+    ghost table = { λ s. s.table };
+
     ghost mark = { λ n. n.mark };
 
     ghost belongs = { IsOf };
@@ -47,6 +49,7 @@ impl ServiceSide for ServicePass {
         ensures may { IfOk result (λ value. MayFetch (side_of self.old) (place, value)) }
         ensures belongs { IsOf self.new words.now }
         ensures notes { (n : NoteData) → IsNoteOf self.old words.now n → IsNoteOf self.new words.now n }
+        ensures table { self.new.table ≡ self.old.table }
         ensures never { IsOk result }
     {
         Ok(ServicePass::fetch(self, words, place))

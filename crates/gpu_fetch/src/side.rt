@@ -1,6 +1,7 @@
 ghost use Rattle.std.specs.Prelude.{◌≡◌, ℕ, ◌+◌, ◌<◌, ◌≤◌, ◌^◌, [], ◌∷◌, Bool, Option, List, MatchResult, IfOk, IfErr, IsTrue};
 ghost use Rattle.std.specs.List.{All};
 ghost use Rattle.std.specs.Option.{IfSome};
+ghost use Rattle.atomic_table.specs.Seated.{TableId};
 ghost use Rattle.gpu_word.specs.Results.{Written, Finish, writes_of, Settles};
 ghost use Rattle.gpu_cmd.specs.Lawful.{places_of};
 ghost use Rattle.gpu_fetch.specs.Side.{SideData, reach, MayFetch, with_words, with_met, with_finish, with_token, told_more};
@@ -12,21 +13,24 @@ use gpu_word::Memory;
 /// Contracts see the stream's plan, the list of words fetched, the flushes published as finished, the greatest token
 /// published and the latest flush met. The client may store into the words at any moment; what is known of a word
 /// fetched is that the client may have put it, between the latest flush met and its bound by the side's own numbers.
-pub trait ServiceSide {
+pub trait ServiceSide: Drop {
     /// The words that the side shares with its client, and with them the result words where there are any.
     type Words;
 
     /// What a client hands over with a flush.
-    type Note;
+    type Note: Drop;
 
     /// What writes results to the client.
-    type Results;
+    type Results: Drop;
 
     /// What the client reads results with.
     type Reader;
 
     // What contracts see of a side.
     ghost side: { Self → SideData };
+
+    // The name of the table of words that a side shares with its client, where it has one.
+    ghost table: { Self → TableId };
 
     // How many actions the client had done once a note's flush was made: its place and one more, or 0 for no flush.
     ghost mark: { Self.Note → ℕ };
@@ -73,7 +77,8 @@ pub trait ServiceSide {
         ensures shows { IfOk result (λ value. shows words.now (place, value)) }
         ensures memory { IfErr result (λ _. wants) }
         ensures belongs { belongs self.new words.now }
-        ensures notes { (n : Self.Note) → note_belongs self.old words.now n → note_belongs self.new words.now n };
+        ensures notes { (n : Self.Note) → note_belongs self.old words.now n → note_belongs self.new words.now n }
+        ensures table { table self.new ≡ table self.old };
 
     /// Meets the flush of a note. The place of a flush that is met lies below the client's bound.
     fn meet(&mut self, words: &Self::Words, note: Self::Note)
@@ -83,7 +88,8 @@ pub trait ServiceSide {
         ensures met { side self.new ≡ with_met (side self.old) (mark note) }
         ensures bounded { (side self.new).met ≤ reach (side self.new) }
         ensures belongs { belongs self.new words.now }
-        ensures notes { (n : Self.Note) → note_belongs self.old words.now n → note_belongs self.new words.now n };
+        ensures notes { (n : Self.Note) → note_belongs self.old words.now n → note_belongs self.new words.now n }
+        ensures table { table self.new ≡ table self.old };
 
     /// Publishes the greater of a token and the greatest published before.
     fn publish_token(&mut self, words: &Self::Words, token: u32)
@@ -91,7 +97,8 @@ pub trait ServiceSide {
 
         ensures told { side self.new ≡ with_token (side self.old) token }
         ensures belongs { belongs self.new words.now }
-        ensures notes { (n : Self.Note) → note_belongs self.old words.now n → note_belongs self.new words.now n };
+        ensures notes { (n : Self.Note) → note_belongs self.old words.now n → note_belongs self.new words.now n }
+        ensures table { table self.new ≡ table self.old };
 
     /// Publishes one more flush as finished.
     fn publish_finish(&mut self, words: &Self::Words)
@@ -100,7 +107,8 @@ pub trait ServiceSide {
 
         ensures finished { side self.new ≡ with_finish (side self.old) }
         ensures belongs { belongs self.new words.now }
-        ensures notes { (n : Self.Note) → note_belongs self.old words.now n → note_belongs self.new words.now n };
+        ensures notes { (n : Self.Note) → note_belongs self.old words.now n → note_belongs self.new words.now n }
+        ensures table { table self.new ≡ table self.old };
 
     /// Writes values to result places, in order. Each place is one that the results take.
     fn publish_results(results: &mut Self::Results, words: &Self::Words, writes: &[(u32, u32)])

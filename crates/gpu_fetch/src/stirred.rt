@@ -136,8 +136,11 @@ impl ServiceSide for StirredPass {
     type Reader = ();
 
     ghost use Rattle.std.specs.Prelude.{true, None};
+    ghost use Rattle.gpu_fetch.specs.Side.{no_table};
 
     ghost side = { λ s. s.side };
+
+    ghost table = { λ s. no_table };
 
     ghost mark = { λ n. n };
 

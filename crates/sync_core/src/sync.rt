@@ -77,6 +77,20 @@ impl SyncCore {
         }
     }
 
+    /// How many order numbers were drawn.
+    pub fn drawn(&self) -> u32
+        ensures { result ≡ self.now.drawn }
+    {
+        self.drawn
+    }
+
+    /// How many waits are pending.
+    pub fn waiting(&self) -> usize
+        ensures { result ≡ length self.now.pending }
+    {
+        self.pending.len()
+    }
+
     /// All endings so far, in order.
     pub fn endings(&self) -> &[Ending]
         ensures { result.now ≡ self.now.endings }

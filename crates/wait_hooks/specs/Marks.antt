@@ -14,10 +14,6 @@ kind_of Closed = 2
 abbrev pub mark : ℕ → Ending → ℕ
 mark base e = (base + 4 * e.order + kind_of e.how) % 2 ^ 32
 
--- the numbers of an ending are in the ranges of their types
-abbrev pub InRange : Ending → Type 0
-InRange e = (e.stream < 2 ^ 32) × (e.order < 2 ^ 32) × (e.target < 2 ^ 32) × (e.release < 2 ^ 64)
-
 -- what is seen of hooks: the base of their marks, the marks so far, and for how many more there is room
 pub record Marks : Type 0 where
   pub base : ℕ

@@ -1,40 +1,49 @@
 ghost use Rattle.std.specs.Prelude.{◌≡◌, ℕ};
-ghost use Rattle.sync_core.specs.declared.ending.Ending.{Ending};
-ghost use Rattle.wait_hooks.specs.Marks.{mark, InRange};
+ghost use Rattle.wait_hooks.specs.Marks.{mark};
 
+use crate::marks::mark;
+use std::marker::Model;
 use sync_core::Ending;
 
-/// A callback for the end of a wait.
-pub type Call = Box<dyn Fn(Ending) -> u32 + Send>;
-
-/// A callback that may be called with every ending and gives its mark, over a base.
+/// A callback for the end of a wait, which is stored and called once for each.
 ///
-/// Contracts see the base. The fact about the callback is asked for where it is stored, and the
-/// hook keeps it.
-#[derive(Drop)]
-pub struct Hook {
-    base: u32,
-    call: Call,
-    ghost callable: { (e : Ending) → InRange e → Call.pre call e },
-    ghost marks: { (e : Ending) (r : ℕ) → Call.post call e r → r ≡ mark base e },
+/// Contracts see the base of its marks. It may do whatever it likes beside answering the mark.
+pub trait Hook: Drop {
+    // The base of the marks.
+    ghost base: { Self → ℕ };
+
+    /// A wait has ended. Answers its mark over the base.
+    fn ended(&self, ending: Ending) -> u32
+        ensures { result ≡ mark (base self.now) ending };
 }
 
-impl Hook {
-    ghost use Rattle.wait_hooks.specs.Seen.{base_of};
+/// A callback that answers the mark, and does nothing else. Seen as its base.
+#[derive(Debug, Drop)]
+pub struct Marker {
+    base: u32,
+}
 
-    /// Stores a callback that may be called with every ending and gives its mark.
-    pub fn make(base: u32, call: Call) -> Hook
-        requires callable { (e : Ending) → InRange e → Call.pre call e }
-        requires marks { (e : Ending) (r : ℕ) → Call.post call e r → r ≡ mark base e }
-        ensures { base_of result ≡ base }
+impl Model for Marker {
+    ghost use Rattle.std.specs.Prelude.{ℕ};
+
+    ghost Value = { ℕ };
+
+    ghost view = { λ m. m.base };
+}
+
+impl Marker {
+    /// A callback over a base.
+    pub fn make(base: u32) -> Marker
+        ensures { result ≡ base }
     {
-        Hook { base, call }
+        Marker { base }
     }
+}
 
-    /// What the callback answers for an ending.
-    pub(crate) fn answer(&self, ending: Ending) -> u32
-        ensures { result ≡ mark (base_of self.now) ending }
-    {
-        (self.call)(ending)
+impl Hook for Marker {
+    ghost base = { λ m. m };
+
+    fn ended(&self, ending: Ending) -> u32 {
+        mark(self.base, ending)
     }
 }

@@ -1,28 +1,37 @@
-ghost use Rattle.std.specs.Prelude.{◌≡◌, ◌+◌, ◌-◌, ◌<◌, ◌≤◌, vec_len, vec_capacity, [], ◌∷◌, ◌++◌, OnOk, OnErr};
+ghost use Rattle.std.specs.Prelude.{◌≡◌, ◌+◌, ◌-◌, ◌<◌, [], ◌∷◌, ◌++◌, OnOk, OnErr};
 ghost use Rattle.wait_hooks.specs.Marks.{mark};
 
 use crate::hook::Hook;
 use gpu_word::Memory;
 use std::alloc::Global;
+use std::marker::Model;
 use sync_core::Ending;
 
 /// The marks that a stored callback gave, in order.
 ///
 /// Contracts see the base of the marks, the marks, and for how many more there is room.
 #[derive(Drop)]
-pub struct Hooks {
-    hook: Hook,
+pub struct Hooks<H: Hook> {
+    hook: H,
     marks: Vec<u32>,
     spare: usize,
-    ghost room: { vec_len marks + spare ≤ vec_capacity marks },
 }
 
-impl Hooks {
-    ghost use Rattle.wait_hooks.specs.Seen.{base_of, seen};
+impl<H: Hook> Model for Hooks<H> {
+    ghost use Rattle.std.specs.Prelude.{◌+◌, ◌≤◌, vec_len, vec_capacity};
+    ghost use Rattle.wait_hooks.specs.Marks.{Marks};
 
+    ghost Value = { Marks };
+
+    ghost view = { λ h. record { base = H.base h.hook; marks = h.marks.items; spare = h.spare } };
+
+    ghost invariant = { λ h. vec_len h.marks + h.spare ≤ vec_capacity h.marks };
+}
+
+impl<H: Hook> Hooks<H> {
     /// Hooks that have called nothing and have no room yet.
-    pub fn make(alloc: Global, hook: Hook) -> Hooks
-        ensures { seen result ≡ record { base = base_of hook; marks = []; spare = 0 } }
+    pub fn make(alloc: Global, hook: H) -> Hooks<H>
+        ensures { result ≡ record { base = H.base hook; marks = []; spare = 0 } }
     {
         Hooks {
             hook,
@@ -31,36 +40,41 @@ impl Hooks {
         }
     }
 
+    /// For how many more marks there is room.
+    pub fn spare(&self) -> usize
+        ensures { result ≡ self.now.spare }
+    {
+        self.spare
+    }
+
     /// Takes room for so many more marks.
     pub fn reserve(&mut self, more: usize) -> Result<(), Memory>
-        ensures ok { OnOk result (seen self.new ≡ record (seen self.old) { spare = (seen self.old).spare + more }) }
-        ensures err { OnErr result (seen self.new ≡ seen self.old) }
+        ensures ok { OnOk result (self.new ≡ record self.old { spare = self.old.spare + more }) }
+        ensures err { OnErr result (self.new ≡ self.old) }
     {
-        let Hooks { marks, spare, .. } = self;
-        let Some(room) = spare.checked_add(more) else {
+        let Some(room) = self.spare.checked_add(more) else {
             return Err(Memory);
         };
-        marks.reserve(room)?;
-        *spare = room;
+        self.marks.reserve(room)?;
+        self.spare = room;
         Ok(())
     }
 
     /// Calls the callback once with an ending, keeps its answer as the last mark, and answers it.
     pub fn ended(&mut self, ending: Ending) -> u32
-        requires room { 0 < (seen self.old).spare }
-        ensures mark { result ≡ mark (seen self.old).base ending }
-        ensures kept { seen self.new ≡ record (seen self.old) { marks = (seen self.old).marks ++ result ∷ []; spare = (seen self.old).spare - 1 } }
+        requires room { 0 < self.old.spare }
+        ensures mark { result ≡ mark self.old.base ending }
+        ensures kept { self.new ≡ record self.old { marks = self.old.marks ++ result ∷ []; spare = self.old.spare - 1 } }
     {
-        let Hooks { hook, marks, spare } = self;
-        let mark = hook.answer(ending);
-        marks.push_reserved(mark);
-        *spare -= 1;
+        let mark = self.hook.ended(ending);
+        self.marks.push_reserved(mark);
+        self.spare -= 1;
         mark
     }
 
     /// The marks of the endings given, in order.
     pub fn marks(&self) -> &[u32]
-        ensures { result.now ≡ (seen self.now).marks }
+        ensures { result.now ≡ self.now.marks }
     {
         self.marks.as_slice()
     }

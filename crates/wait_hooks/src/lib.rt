@@ -5,7 +5,7 @@ mod hook;
 mod hooks;
 mod marks;
 
-pub use hook::{Call, Hook};
+pub use hook::{Hook, Marker};
 pub use hooks::Hooks;
 pub use marks::mark;
 

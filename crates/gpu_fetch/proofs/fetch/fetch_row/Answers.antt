@@ -1,4 +1,4 @@
-use Rattle.std.proofs.Common.{◌≡◌, ℕ, ◌+◌, ◌-◌, [], inl, inr, refl, sym, ap, subst, arith}
+use Rattle.std.proofs.Common.{◌≡◌, ℕ, ◌+◌, ◌-◌, [], inl, inr, refl, sym, ap, ◌∙◌, subst, arith}
 use Rattle.std.proofs.lemmas.Result.{MatchResult-from_err}
 use Rattle.std.specs.List.{All}
 use Rattle.gpu_cmd.specs.Lawful.{places_of}
@@ -16,6 +16,7 @@ loop-place-init g c =
       row = subst (λ (n : ℕ). FetchesRow s s c.args.from n c.args.list.now.items c.reserve.new.self.items) none (row_none s s c.args.from c.args.list.now.items c.reserve.new.self.items refl c.reserve.ensures.items);
       shows = λ all. subst (All (g.P.ServiceSide.shows c.args.words.now)) (sym c.reserve.ensures.items) all;
       room = (let ok = c.in_ok-reserve.ensures.ok in omega arith);
+      table = refl;
       notes = λ n h. h;
     }
 
@@ -74,6 +75,7 @@ loop-place-preserved g c =
       row = subst (λ (n : ℕ). FetchesRow s u c.args.from n c.args.list.now.items c.push.new.self.items) next more;
       shows = λ all. one_more (g.P.ServiceSide.shows c.args.words.now) c.loop-place.list.items c.push.new.self.items (place, value) c.in_ok-push.ensures.items (c.loop-place.invariant.shows all) c.in_ok-value.ensures.shows;
       room = (let room = c.loop-place.invariant.room in let len = c.push.ensures.len in let more = c.push.ensures.capacity in omega arith);
+      table = c.in_ok-value.ensures.table ∙ c.loop-place.invariant.table;
       notes = λ n h. c.in_ok-value.ensures.notes n (c.loop-place.invariant.notes n h);
     }
 

@@ -1,4 +1,4 @@
-use Rattle.std.proofs.Common.{◌+◌, ◌-◌, ◌≤◌}
+use Rattle.std.proofs.Common.{◌≡◌, ◌+◌, ◌-◌, ◌≤◌}
 use Rattle.std.specs.Prelude.{vec_len, vec_capacity}
 use Rattle.std.specs.List.{All}
 use Rattle.gpu_fetch.specs.Fetched.{FetchesRow}
@@ -10,5 +10,6 @@ invariant-loop-place g l = record {
   row : FetchesRow (g.P.ServiceSide.side l.fn.side) (g.P.ServiceSide.side l.side) l.from (l.place - l.from) l.fn.list.items l.list.items;
   shows : All (g.P.ServiceSide.shows l.words) l.fn.list.items → All (g.P.ServiceSide.shows l.words) l.list.items;
   room : vec_len l.list + (l.from + l.count - l.place) ≤ vec_capacity l.list;
+  table : g.P.ServiceSide.table l.side ≡ g.P.ServiceSide.table l.fn.side;
   notes : (n : g.row.P-Note.Denot) → g.P.ServiceSide.note_belongs l.fn.side l.words n → g.P.ServiceSide.note_belongs l.side l.words n;
 }
