@@ -1,0 +1,6 @@
+pub mod Desks
+pub mod Core
+pub mod Answers
+pub mod Stepping
+pub mod Invariant
+pub mod Making

@@ -1,0 +1,179 @@
+ghost use Rattle.std.specs.Prelude.{◌≡◌, ◌↔◌, ◌==◌, ◌<◌, ◌+◌, ◌%◌, ◌^◌, false, List, length, IsTrue, IfOk, OnErr};
+ghost use Rattle.gpu_cmd.specs.Lawful.{IsLawfulFacts};
+ghost use Rattle.gpu_plan.specs.Plans.{plan_of};
+ghost use Rattle.sync_core.specs.Events.{SyncEvent, noted as happened};
+ghost use Rattle.sync_core.specs.Core.{StandsFor};
+ghost use Rattle.gpu_journal.specs.World.{drawn_by};
+ghost use Rattle.gpu_journal.specs.Waits.{deed_asked};
+ghost use Rattle.house_core.specs.Desks.{Agree, at_home, run_of};
+ghost use Rattle.house_core.specs.Stepping.{IsReadyFor, IsToldOf, stepped_desk};
+
+use crate::desk::Desk;
+use gpu_books::Half;
+use gpu_cmd::{Command, StreamFacts};
+use gpu_plan::{Plan, Plans};
+use gpu_store::Images;
+use gpu_word::Memory;
+use std::marker::Model;
+use step_parts::Acted;
+use sync_core::SyncCore;
+
+/// What a run carries outside the lock.
+#[derive(Drop)]
+pub struct Carried {
+    stream: u32,
+    order: u32,
+    place: u32,
+    facts: StreamFacts,
+    entries: u64,
+    finished: u32,
+    greatest: u32,
+    paused: bool,
+    half: Half,
+}
+
+impl Model for Carried {
+    ghost use Rattle.std.specs.Prelude.{◌≡◌, ◌<◌, ◌%◌};
+    ghost use Rattle.gpu_cmd.specs.Lawful.{IsLawfulFacts};
+    ghost use Rattle.house_core.specs.Desks.{RunData, carried_numbers};
+
+    ghost Value = { RunData };
+
+    ghost view = { λ r. record { stream = r.stream; order = r.order; place = r.place; facts = r.facts; entries = r.entries; finished = r.finished; greatest = r.greatest; paused = r.paused; book = r.half.book } };
+
+    ghost invariant = { λ r. (0 < r.order) × IsLawfulFacts r.facts × (r.facts.get ≡ r.entries % r.facts.areas.ring) × (r.half.numbers ≡ carried_numbers (record { stream = r.stream; order = r.order; place = r.place; facts = r.facts; entries = r.entries; finished = r.finished; greatest = r.greatest; paused = r.paused; book = r.half.book })) };
+}
+
+impl Carried {
+    /// The stream of the run.
+    pub fn stream(&self) -> u32
+        ensures { result ≡ self.now.stream }
+    {
+        self.stream
+    }
+
+    /// The order number of the run.
+    pub fn order(&self) -> u32
+        ensures order { result ≡ self.now.order }
+        ensures positive { 0 < self.now.order }
+    {
+        self.order
+    }
+
+    /// What the checks of the next command read.
+    pub fn facts(&self) -> &StreamFacts
+        ensures facts { result.now ≡ self.now.facts }
+        ensures lawful { IsLawfulFacts self.now.facts }
+    {
+        &self.facts
+    }
+
+    /// Whether nothing is left of the flush.
+    pub fn at_end(&self) -> bool
+        ensures value { result ≡ (self.now.facts.get == self.now.facts.put) }
+        ensures at_end { IsTrue result ↔ (self.now.facts.get ≡ self.now.facts.put) }
+    {
+        self.facts.get == self.facts.put
+    }
+
+    /// Whether the latest step of the run was answered Paused.
+    pub fn paused(&self) -> bool
+        ensures { result ≡ self.now.paused }
+    {
+        self.paused
+    }
+
+    /// A run has what the desk of its book has.
+    pub fn meet(&mut self, desk: &mut Desk)
+        requires { self.old.book ≡ desk.old.book }
+        ensures desk { desk.new ≡ desk.old }
+        ensures run { self.new ≡ self.old }
+        ensures positive { 0 < self.old.order }
+        ensures get { self.old.facts.get ≡ self.old.entries % self.old.facts.areas.ring }
+        ensures agree { Agree self.old desk.old }
+    {
+        desk.meet(&mut self.half);
+    }
+
+    /// The run comes home.
+    pub fn come(self, desk: &mut Desk)
+        requires { self.book ≡ desk.old.book }
+        ensures { desk.new ≡ record desk.old { out = at_home } }
+    {
+        let Carried { half, .. } = self;
+        desk.come(half);
+    }
+
+    /// The run comes home, and its order is finished.
+    pub fn finish(self, desk: &mut Desk)
+        requires book { self.book ≡ desk.old.book }
+        requires room { desk.old.finished + 1 < 2 ^ 32 }
+        ensures { desk.new ≡ record desk.old { finished = desk.old.finished + 1; out = at_home } }
+    {
+        let Carried { half, .. } = self;
+        desk.finish(half);
+    }
+
+    /// The run of this order, whose flush stands at this place and ends at this put, leaves its desk.
+    pub fn take(
+        desk: &mut Desk,
+        plan: &Plan,
+        stream: u32,
+        order: u32,
+        place: u32,
+        put: u32,
+    ) -> Carried
+        requires order { 0 < order }
+        requires home { desk.old.out.order ≡ 0 }
+        ensures desk { desk.new ≡ record desk.old { out = record { order = order; paused = false } } }
+        ensures home { desk.old.out ≡ at_home }
+        ensures run { result ≡ run_of stream plan.now place put desk.new }
+    {
+        let half = desk.leave(order);
+        Carried {
+            stream,
+            order,
+            place,
+            facts: desk.state().facts(plan.areas(), put),
+            entries: desk.state().entries(),
+            finished: desk.finished(),
+            greatest: desk.greatest(),
+            paused: false,
+            half,
+        }
+    }
+
+    /// The run executes a command on these words.
+    pub fn step(
+        &mut self,
+        desk: &mut Desk,
+        images: &mut Images,
+        sync: &mut SyncCore,
+        plans: &Plans,
+        command: &Command,
+        words: &[(u32, u32)],
+    ) -> Result<Acted, Memory>
+        requires book { self.old.book ≡ desk.old.book }
+        requires agree { Agree self.old desk.old }
+        requires areas { self.old.facts.areas ≡ (plan_of plans.now self.old.stream).areas }
+        requires ready { IsReadyFor plans.now sync.old desk.old self.old.stream words.now command.now }
+        ensures told { IfOk result (IsToldOf plans.now sync.old desk.old.state images.old self.old.stream words.now) }
+        ensures desk { IfOk result (λ acted. desk.new ≡ stepped_desk plans.now self.old.stream words.now acted desk.old) }
+        ensures run { IfOk result (λ acted. self.new ≡ run_of self.old.stream (plan_of plans.now self.old.stream) self.old.place self.old.facts.put desk.new) }
+        ensures images { IfOk result (λ acted. images.new ≡ (drawn_by acted.effect images.old).images) }
+        ensures waits { IfOk result (λ acted. (h : List SyncEvent) → StandsFor sync.old h → StandsFor sync.new (happened self.old.stream (deed_asked plans.now acted.effect) h)) }
+        ensures count { length sync.new.streams ≡ length sync.old.streams }
+        ensures same_desk { OnErr result (desk.new ≡ desk.old) }
+        ensures same_run { OnErr result (self.new ≡ self.old) }
+        ensures same_images { OnErr result (images.new ≡ images.old) }
+        ensures same_waits { OnErr result (sync.new ≡ sync.old) }
+    {
+        let stream = self.stream;
+        let acted = desk.step(&mut self.half, images, sync, plans, stream, command, words)?;
+        self.entries = desk.state().entries();
+        self.facts = desk.state().facts(&self.facts.areas, self.facts.put);
+        self.greatest = desk.greatest();
+        self.paused = acted.kept;
+        Ok(acted)
+    }
+}

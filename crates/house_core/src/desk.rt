@@ -1,0 +1,295 @@
+ghost use Rattle.std.specs.Prelude.{◌≡◌, ◌↔◌, ◌==◌, ◌&&◌, ◌+◌, ◌<◌, ◌≤◌, ◌^◌, true, false, List, length, slice_get, IfSome, IfNone, IsTrue, IfOk, OnOk, OnErr};
+ghost use Rattle.gpu_books.specs.Seen.{HalfData, blank_half};
+ghost use Rattle.sync_core.specs.Events.{SyncEvent, noted as happened};
+ghost use Rattle.sync_core.specs.Core.{StandsFor};
+ghost use Rattle.gpu_journal.specs.World.{drawn_by};
+ghost use Rattle.gpu_journal.specs.Waits.{deed_asked};
+ghost use Rattle.house_core.specs.Desks.{DeskData, at_home, fresh_desk, book_numbers, kept_half};
+ghost use Rattle.house_core.specs.Stepping.{IsReadyFor, IsToldOf, stepped_desk};
+
+use gpu_books::{Book, Half, agree, set};
+use gpu_cmd::Command;
+use gpu_plan::Plans;
+use gpu_store::Images;
+use gpu_word::{Memory, split};
+use std::alloc::Global;
+use std::marker::Model;
+use step_parts::{Acted, act};
+use stream_state::{Effect, StreamState};
+use sync_core::SyncCore;
+
+/// What the house keeps of one stream beside its waits.
+///
+/// The book has one half here. The other lies here too while no run of the stream is out, and else with that run.
+#[derive(Drop)]
+pub struct Desk {
+    book: Book,
+    kept: Half,
+    home: Option<Half>,
+    places: Vec<u32>,
+    pub(crate) state: StreamState,
+    ordered: u32,
+    finished: u32,
+    greatest: u32,
+    lost: bool,
+    closed: bool,
+    out: u32,
+    paused: bool,
+}
+
+impl Model for Desk {
+    ghost use Rattle.house_core.specs.Desks.{DeskData, AreBooked};
+
+    ghost Value = { DeskData };
+
+    ghost view = { λ d. record { book = d.book; places = d.places.items; state = d.state; ordered = d.ordered; finished = d.finished; greatest = d.greatest; lost = d.lost; closed = d.closed; out = record { order = d.out; paused = d.paused } } };
+
+    ghost invariant = { λ d. AreBooked d.kept d.home record { book = d.book; places = d.places.items; state = d.state; ordered = d.ordered; finished = d.finished; greatest = d.greatest; lost = d.lost; closed = d.closed; out = record { order = d.out; paused = d.paused } } };
+}
+
+// The numbers of a book whose run that is out has this order, or none where it is 0.
+fn numbers(state: &StreamState, finished: u32, greatest: u32, order: u32, paused: bool) -> [u64; 6]
+    ensures { result ≡ book_numbers state.now.entries state.now.fetched finished greatest record { order = order; paused = paused } }
+{
+    [
+        state.entries(),
+        u64::from(state.fetched()),
+        u64::from(finished),
+        u64::from(greatest),
+        u64::from(order),
+        u64::from(paused),
+    ]
+}
+
+// Both halves of the book have these numbers then.
+fn note(book: &Book, kept: &mut Half, half: &mut Half, numbers: &[u64; 6])
+    requires kept { kept.old.book ≡ book.now }
+    requires half { half.old.book ≡ book.now }
+    ensures kept { kept.new ≡ record { book = book.now; numbers = numbers.now } }
+    ensures half { half.new ≡ record { book = book.now; numbers = numbers.now } }
+{
+    set(book, kept, half, numbers);
+}
+
+impl Desk {
+    /// The desk of a stream without events, whose flushes stand at these places.
+    pub fn make(alloc: Global, book: Book, kept: Half, home: Half, places: Vec<u32>) -> Desk
+        requires kept { kept ≡ blank_half book }
+        requires home { home ≡ blank_half book }
+        ensures { result ≡ fresh_desk book places.items }
+    {
+        Desk {
+            book,
+            kept,
+            home: Some(home),
+            places,
+            state: StreamState::make(alloc),
+            ordered: 0,
+            finished: 0,
+            greatest: 0,
+            lost: false,
+            closed: false,
+            out: 0,
+            paused: false,
+        }
+    }
+
+    /// The state of the stream.
+    pub fn state(&self) -> &StreamState
+        ensures { result.now ≡ self.now.state }
+    {
+        &self.state
+    }
+
+    /// How many of the stream's flushes are ordered.
+    pub fn ordered(&self) -> u32
+        ensures { result ≡ self.now.ordered }
+    {
+        self.ordered
+    }
+
+    /// How many of the stream's flushes are finished.
+    pub fn finished(&self) -> u32
+        ensures { result ≡ self.now.finished }
+    {
+        self.finished
+    }
+
+    /// The greatest token that the stream has set, or 0.
+    pub fn greatest(&self) -> u32
+        ensures { result ≡ self.now.greatest }
+    {
+        self.greatest
+    }
+
+    /// Whether the stream is lost.
+    pub fn is_lost(&self) -> bool
+        ensures { result ≡ self.now.lost }
+    {
+        self.lost
+    }
+
+    /// Whether the stream is closed.
+    pub fn is_closed(&self) -> bool
+        ensures { result ≡ self.now.closed }
+    {
+        self.closed
+    }
+
+    /// How many of the stream's flushes are ordered and not finished, where it is neither lost nor closed.
+    pub fn unfinished(&self) -> u32
+        requires { self.now.finished ≤ self.now.ordered }
+        ensures { result + self.now.finished ≡ self.now.ordered }
+    {
+        self.ordered - self.finished
+    }
+
+    /// Whether each flush of the stream is ordered.
+    pub fn is_all_ordered(&self) -> bool
+        ensures { IsTrue result ↔ (self.now.ordered ≡ length self.now.places) }
+    {
+        self.ordered as usize == self.places.len()
+    }
+
+    /// Whether each flush of the stream is ordered and finished.
+    pub fn is_all_done(&self) -> bool
+        ensures { result ≡ (self.now.ordered == length self.now.places && self.now.finished == length self.now.places) }
+    {
+        let flushes = self.places.len();
+        self.ordered as usize == flushes && self.finished as usize == flushes
+    }
+
+    /// The place of the flush of this number among the stream's flushes, counted from 0.
+    pub fn place(&self, flush: u32) -> Option<u32>
+        ensures { result ≡ slice_get self.now.places flush }
+    {
+        self.places.get(flush as usize).copied()
+    }
+
+    /// A half that is out has the numbers of the desk.
+    pub fn meet(&mut self, half: &mut Half)
+        requires { half.old.book ≡ self.old.book }
+        ensures desk { self.new ≡ self.old }
+        ensures half { half.new ≡ half.old }
+        ensures same { half.old ≡ kept_half self.old }
+    {
+        agree(&self.book, &mut self.kept, half);
+    }
+
+    /// One more flush is ordered.
+    pub fn order(&mut self)
+        requires { self.old.ordered + 1 < 2 ^ 32 }
+        ensures { self.new ≡ record self.old { ordered = self.old.ordered + 1 } }
+    {
+        self.ordered += 1;
+    }
+
+    /// The stream is lost.
+    pub fn lose(&mut self)
+        ensures { self.new ≡ record self.old { lost = true } }
+    {
+        self.lost = true;
+    }
+
+    /// The stream is closed.
+    pub fn close(&mut self)
+        ensures { self.new ≡ record self.old { closed = true } }
+    {
+        self.closed = true;
+    }
+
+    /// The half that is at home leaves, for a run of this order.
+    pub fn leave(&mut self, order: u32) -> Half
+        requires order { 0 < order }
+        requires home { self.old.out.order ≡ 0 }
+        ensures desk { self.new ≡ record self.old { out = record { order = order; paused = false } } }
+        ensures half { result ≡ kept_half self.new }
+        ensures home { self.old.out ≡ at_home }
+    {
+        let numbers = numbers(&self.state, self.finished, self.greatest, order, false);
+        let Some(mut half) = self.home.take() else {
+            unreachable!()
+        };
+        note(&self.book, &mut self.kept, &mut half, &numbers);
+        self.out = order;
+        self.paused = false;
+        half
+    }
+
+    /// A half comes home.
+    pub fn come(&mut self, mut half: Half)
+        requires { half.book ≡ self.old.book }
+        ensures { self.new ≡ record self.old { out = at_home } }
+    {
+        let numbers = numbers(&self.state, self.finished, self.greatest, 0, false);
+        note(&self.book, &mut self.kept, &mut half, &numbers);
+        self.home = Some(half);
+        self.out = 0;
+        self.paused = false;
+    }
+
+    /// A half comes home, and one more flush is finished.
+    pub fn finish(&mut self, mut half: Half)
+        requires book { half.book ≡ self.old.book }
+        requires room { self.old.finished + 1 < 2 ^ 32 }
+        ensures { self.new ≡ record self.old { finished = self.old.finished + 1; out = at_home } }
+    {
+        self.finished += 1;
+        let numbers = numbers(&self.state, self.finished, self.greatest, 0, false);
+        note(&self.book, &mut self.kept, &mut half, &numbers);
+        self.home = Some(half);
+        self.out = 0;
+        self.paused = false;
+    }
+
+    /// The run that is out executes a command on these words.
+    pub fn step(
+        &mut self,
+        half: &mut Half,
+        images: &mut Images,
+        sync: &mut SyncCore,
+        plans: &Plans,
+        stream: u32,
+        command: &Command,
+        words: &[(u32, u32)],
+    ) -> Result<Acted, Memory>
+        requires book { half.old.book ≡ self.old.book }
+        requires out { 0 < self.old.out.order }
+        requires ready { IsReadyFor plans.now sync.old self.old stream words.now command.now }
+        ensures told { IfOk result (IsToldOf plans.now sync.old self.old.state images.old stream words.now) }
+        ensures desk { IfOk result (λ acted. self.new ≡ stepped_desk plans.now stream words.now acted self.old) }
+        ensures half { OnOk result (half.new ≡ kept_half self.new) }
+        ensures images { IfOk result (λ acted. images.new ≡ (drawn_by acted.effect images.old).images) }
+        ensures waits { IfOk result (λ acted. (h : List SyncEvent) → StandsFor sync.old h → StandsFor sync.new (happened stream (deed_asked plans.now acted.effect) h)) }
+        ensures count { length sync.new.streams ≡ length sync.old.streams }
+        ensures same_desk { OnErr result (self.new ≡ self.old) }
+        ensures same_half { OnErr result (half.new ≡ half.old) }
+        ensures same_images { OnErr result (images.new ≡ images.old) }
+        ensures same_waits { OnErr result (sync.new ≡ sync.old) }
+    {
+        let size = split(words[0].1).size;
+        let acted = act(
+            images,
+            sync,
+            &mut self.state,
+            plans,
+            stream,
+            command,
+            size,
+            words,
+        )?;
+        if let Effect::Token(token) = &acted.effect {
+            self.greatest = self.greatest.max(*token);
+        }
+        self.paused = acted.kept;
+        let numbers = numbers(
+            &self.state,
+            self.finished,
+            self.greatest,
+            self.out,
+            acted.kept,
+        );
+        note(&self.book, &mut self.kept, half, &numbers);
+        Ok(acted)
+    }
+}

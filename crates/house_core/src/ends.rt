@@ -1,0 +1,115 @@
+//! The ends of streams: they are lost, or they close.
+ghost use Rattle.std.specs.Prelude.{◌≡◌, ◌↔◌, [], length, true, false, IsTrue};
+ghost use Rattle.gpu_plan.specs.Plans.{plan_of, is_closed};
+ghost use Rattle.sync_core.specs.Standing.{IsKnown, is_open};
+ghost use Rattle.gpu_journal.specs.declared.event.Event.TheVariants.{Lost, Close};
+ghost use Rattle.gpu_journal.specs.declared.event.Why.TheVariants.{Memory};
+ghost use Rattle.gpu_journal.specs.Waits.{standing_of, IsOpen};
+ghost use Rattle.gpu_journal.specs.Legal.{Obeys, MayClose};
+ghost use Rattle.house_core.specs.Core.{Stays, Grows};
+
+use crate::closing::comes_to_close;
+use crate::core_of::Core;
+use gpu_journal::{Event, Why, Words};
+
+/// How a close was answered.
+#[derive(Clone, Copy, Debug, PartialEq, Eq)]
+pub enum Closing {
+    /// The stream is closed.
+    Closed,
+    /// The client has not come to its Close, or a flush of it has no order yet.
+    Early,
+    /// The stream is lost.
+    Lost,
+}
+
+impl Core {
+    // The journal notes the loss of a stream.
+    pub(crate) fn enter_lost(&mut self, stream: u32, why: Why, words: Words)
+        requires open { IsOpen self.old.plans self.old.past stream }
+        requires obeys { Obeys self.old.plans self.old.past (Lost stream why words) }
+        ensures event { Grows self.old self.new (Lost stream why words) }
+        ensures outs { self.new.outs ≡ self.old.outs }
+    {
+        let Core {
+            journal,
+            sync,
+            desks,
+            owed,
+            ..
+        } = self;
+        let desk = &mut desks[stream as usize - 1];
+        *owed -= desk.unfinished() as usize + 1;
+        desk.lose();
+        sync.lose(stream);
+        journal.push(Event::Lost { stream, why, words });
+    }
+
+    // The journal notes the close of a stream.
+    fn enter_close(&mut self, stream: u32)
+        requires may { MayClose self.old.plans self.old.past stream }
+        ensures event { Grows self.old self.new (Close stream) }
+        ensures outs { self.new.outs ≡ self.old.outs }
+    {
+        let Core {
+            journal,
+            sync,
+            desks,
+            owed,
+            ..
+        } = self;
+        let desk = &mut desks[stream as usize - 1];
+        *owed -= desk.unfinished() as usize + 1;
+        desk.close();
+        sync.close(stream);
+        journal.push(Event::Close { stream });
+    }
+
+    /// Loses a stream for want of memory, where it is neither lost nor closed. It takes no memory.
+    pub fn lose_client(&mut self, stream: u32)
+        requires known { IsKnown (length self.old.plans.plans) stream }
+        ensures event { is_open (standing_of self.old.plans self.old.past stream) ≡ true → Grows self.old self.new (Lost stream Memory []) }
+        ensures over { is_open (standing_of self.old.plans self.old.past stream) ≡ false → Stays self.old self.new }
+        ensures outs { self.new.outs ≡ self.old.outs }
+    {
+        if self.is_open(stream) {
+            let words = Words::none(self.alloc);
+            self.enter_lost(stream, Why::Memory, words);
+        }
+    }
+
+    // Whether the client of a stream has come to its Close, with each flush ordered.
+    fn may_close(&self, stream: u32) -> bool
+        requires known { IsKnown (length self.now.plans.plans) stream }
+        requires closes { is_closed (plan_of self.now.plans stream).actions ≡ true }
+        requires open { is_open (standing_of self.now.plans self.now.past stream) ≡ true }
+        ensures { IsTrue result ↔ MayClose self.now.plans self.now.past stream }
+    {
+        let desk = &self.desks[stream as usize - 1];
+        let actions = self.plans.plan(stream).actions();
+        desk.is_all_ordered() && comes_to_close(actions, desk.finished(), desk.greatest())
+    }
+
+    /// Closes a stream whose plan has a Close, once its client has come to it. It takes no memory.
+    pub fn close(&mut self, stream: u32) -> Closing
+        requires known { IsKnown (length self.old.plans.plans) stream }
+        requires closes { is_closed (plan_of self.old.plans stream).actions ≡ true }
+        ensures lost { (result ≡ Closing.Lost) ↔ ((standing_of self.old.plans self.old.past stream).lost ≡ true) }
+        ensures early { (result ≡ Closing.Early) ↔ ((is_open (standing_of self.old.plans self.old.past stream) ≡ true) × (MayClose self.old.plans self.old.past stream → ⊥)) }
+        ensures event { result ≡ Closing.Closed → is_open (standing_of self.old.plans self.old.past stream) ≡ true → Grows self.old self.new (Close stream) }
+        ensures same { (result ≡ Closing.Closed → is_open (standing_of self.old.plans self.old.past stream) ≡ true → ⊥) → Stays self.old self.new }
+        ensures outs { self.new.outs ≡ self.old.outs }
+    {
+        if self.is_lost(stream) {
+            return Closing::Lost;
+        }
+        if self.is_closed(stream) {
+            return Closing::Closed;
+        }
+        if !self.may_close(stream) {
+            return Closing::Early;
+        }
+        self.enter_close(stream);
+        Closing::Closed
+    }
+}

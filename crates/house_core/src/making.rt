@@ -1,0 +1,71 @@
+//! What a core is made of: where the flushes of each stream stand, and how streams are ranked.
+ghost use Rattle.std.specs.Prelude.{◌≡◌, ◌≤◌, length, map, IfOk};
+ghost use Rattle.std.specs.List.{All};
+ghost use Rattle.gpu_plan.specs.Plans.{PlanData};
+ghost use Rattle.gpu_plan.specs.Places.{flush_places};
+ghost use Rattle.gpu_journal.specs.Serial.{rank};
+ghost use Rattle.house_core.specs.Core.{names_of, IsFresh};
+ghost use Rattle.house_core.specs.Making.{desks_of};
+
+use crate::desk::Desk;
+use gpu_books::{Book, Half};
+use gpu_plan::{Action, Plans};
+use gpu_word::Memory;
+use script_lines::Priority;
+use std::alloc::Global;
+
+// High before Normal before Low.
+fn rank(priority: Priority) -> u32
+    ensures { result ≡ rank priority }
+{
+    match priority {
+        Priority::High => 0,
+        Priority::Normal => 1,
+        Priority::Low => 2,
+    }
+}
+
+/// The rank of each stream, from stream 1 on.
+pub(crate) fn ranks(alloc: Global, plans: &Plans) -> Result<Vec<u32>, Memory>
+    ensures { IfOk result (λ ranks. ranks.items ≡ map (λ (plan : PlanData). rank plan.priority) plans.now.plans) }
+{
+    let count = plans.count();
+    let mut ranks = Vec::with_capacity(alloc, count as usize)?;
+    for done in 0..count {
+        ranks.push(rank(plans.plan(done + 1).priority()))?;
+    }
+    Ok(ranks)
+}
+
+// Where the flushes stand among actions.
+fn flush_places(alloc: Global, actions: &[Action]) -> Result<Vec<u32>, Memory>
+    requires { length actions.now ≤ 1000000 }
+    ensures { IfOk result (λ places. places.items ≡ flush_places actions.now) }
+{
+    let mut places = Vec::new(alloc);
+    for (place, action) in actions.iter().enumerate() {
+        if let Action::Flush { .. } = action {
+            places.push(place as u32)?;
+        }
+    }
+    Ok(places)
+}
+
+/// The desk of each stream, from stream 1 on, with these books.
+pub(crate) fn desks(
+    alloc: Global,
+    plans: &Plans,
+    books: Vec<(Book, Half, Half)>,
+) -> Result<Vec<Desk>, Memory>
+    requires count { length books.items ≡ length plans.now.plans }
+    requires fresh { All IsFresh books.items }
+    ensures { IfOk result (λ desks. desks.items ≡ desks_of plans.now.plans (names_of books.items)) }
+{
+    let mut desks = Vec::with_capacity(alloc, plans.count() as usize)?;
+    for (book, kept, home) in books {
+        let plan = plans.plan(desks.len() as u32 + 1);
+        let places = flush_places(alloc, plan.actions())?;
+        desks.push(Desk::make(alloc, book, kept, home, places))?;
+    }
+    Ok(desks)
+}

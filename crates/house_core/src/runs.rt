@@ -1,0 +1,165 @@
+//! Runs leave the house and come back.
+ghost use Rattle.std.specs.Prelude.{◌≡◌, ◌<◌, ◌≤◌, [], length, true, false, option_map, slice_get, IfSome, IfNone};
+ghost use Rattle.sync_core.specs.Standing.{is_open};
+ghost use Rattle.gpu_journal.specs.declared.event.Event.TheVariants.{Finish, Lost};
+ghost use Rattle.gpu_journal.specs.declared.event.Why.TheVariants.{Memory};
+ghost use Rattle.gpu_journal.specs.Facts.{put_in};
+ghost use Rattle.gpu_journal.specs.Waits.{standing_of};
+ghost use Rattle.run_laws.specs.Going.{MayGoOn};
+ghost use Rattle.run_laws.specs.Choosing.{choice_at_home};
+ghost use Rattle.house_core.specs.Desks.{RunData, at_home};
+ghost use Rattle.house_core.specs.Core.{Stays, Grows, Waits, IsOfPlans, IsRunOf, is_home, with_out, book_at, out_at};
+
+use crate::carried::Carried;
+use crate::core_of::Core;
+use gpu_journal::Event;
+use gpu_plan::{Action, Plan};
+
+// The put of the flush at a place; what is no flush has none.
+fn put_at(plan: &Plan, place: u32) -> u32
+    requires { place < length plan.now.actions }
+    ensures { result ≡ put_in (slice_get plan.now.actions place) }
+{
+    match &plan.actions()[place as usize] {
+        Action::Flush { put, .. } => *put,
+        _ => 0,
+    }
+}
+
+impl Core {
+    /// A run of the stream that the scheduler chooses among those at home, or `None` where none of them can run.
+    pub fn take(&mut self) -> Option<Carried>
+        ensures choice { option_map (λ (run : RunData). run.stream) result ≡ choice_at_home self.old.plans self.old.past (is_home self.old.outs) }
+        ensures none { IfNone result (Stays self.old self.new) }
+        ensures same { Waits self.old self.new }
+        ensures plan { IfSome result (IsOfPlans self.old.plans) }
+        ensures run { IfSome result (IsRunOf self.old.plans self.old.past) }
+        ensures book { IfSome result (λ run. run.book ≡ book_at self.old.books run.stream) }
+        ensures going { IfSome result (λ run. run.paused ≡ false) }
+        ensures home { IfSome result (λ run. out_at self.old.outs run.stream ≡ at_home) }
+        ensures outs { IfSome result (λ run. self.new.outs ≡ with_out self.old.outs run.stream record { order = run.order; paused = false }) }
+        ensures out { IfSome result (λ run. out_at self.new.outs run.stream ≡ record { order = run.order; paused = false }) }
+    {
+        let Core {
+            plans,
+            sync,
+            scheduler,
+            desks,
+            ..
+        } = self;
+        let stream = scheduler.pick(sync)?;
+        let Some(order) = sync.front(stream) else {
+            unreachable!()
+        };
+        let desk = &mut desks[stream as usize - 1];
+        let plan = plans.plan(stream);
+        let Some(place) = desk.place(desk.finished()) else {
+            unreachable!()
+        };
+        let put = put_at(plan, place);
+        scheduler.take(stream);
+        Some(Carried::take(desk, plan, stream, order, place, put))
+    }
+
+    /// What a run carries is what the house keeps, and that is what the journal says.
+    pub fn meet(&mut self, run: &mut Carried)
+        requires plan { IsOfPlans self.old.plans run.old }
+        requires book { run.old.book ≡ book_at self.old.books run.old.stream }
+        ensures core { self.new ≡ self.old }
+        ensures run { run.new ≡ run.old }
+        ensures out { out_at self.old.outs run.old.stream ≡ record { order = run.old.order; paused = run.old.paused } }
+        ensures positive { 0 < run.old.order }
+        ensures shows { is_open (standing_of self.old.plans self.old.past run.old.stream) ≡ true → IsRunOf self.old.plans self.old.past run.old }
+        ensures runs { MayGoOn self.old.plans self.old.past run.old.stream run.old.order run.old.paused }
+    {
+        let desk = &mut self.desks[run.stream() as usize - 1];
+        run.meet(desk);
+    }
+
+    /// Takes a run back. The journal stays.
+    pub fn back(&mut self, mut run: Carried)
+        requires plan { IsOfPlans self.old.plans run }
+        requires book { run.book ≡ book_at self.old.books run.stream }
+        ensures same { Waits self.old self.new }
+        ensures outs { self.new.outs ≡ with_out self.old.outs run.stream at_home }
+        ensures spare { self.old.spare ≤ self.new.spare }
+        ensures out { out_at self.old.outs run.stream ≡ record { order = run.order; paused = run.paused } }
+        ensures shows { is_open (standing_of self.old.plans self.old.past run.stream) ≡ true → IsRunOf self.old.plans self.old.past run }
+    {
+        self.meet(&mut run);
+        let stream = run.stream();
+        let Core {
+            scheduler,
+            desks,
+            ..
+        } = self;
+        scheduler.give_back(stream);
+        run.come(&mut desks[stream as usize - 1]);
+    }
+
+    // The journal notes that the order of a run is finished, and the run comes back.
+    fn enter_finish(&mut self, run: Carried)
+        requires plan { IsOfPlans self.old.plans run }
+        requires book { run.book ≡ book_at self.old.books run.stream }
+        requires going { run.paused ≡ false }
+        requires end { run.facts.get ≡ run.facts.put }
+        requires out { out_at self.old.outs run.stream ≡ record { order = run.order; paused = run.paused } }
+        requires open { is_open (standing_of self.old.plans self.old.past run.stream) ≡ true }
+        requires shows { IsRunOf self.old.plans self.old.past run }
+        ensures event { Grows self.old self.new (Finish run.stream run.order) }
+        ensures outs { self.new.outs ≡ with_out self.old.outs run.stream at_home }
+    {
+        let stream = run.stream();
+        let order = run.order();
+        let Core {
+            journal,
+            sync,
+            scheduler,
+            desks,
+            owed,
+            ..
+        } = self;
+        *owed -= 1;
+        sync.finish(stream);
+        scheduler.give_back(stream);
+        run.finish(&mut desks[stream as usize - 1]);
+        journal.push(Event::Finish { stream, order });
+    }
+
+    /// Finishes the order of a run that is at its end, and takes the run back. Where its stream is lost or closed it only takes the
+    /// run back. It takes no memory.
+    pub fn finish(&mut self, mut run: Carried)
+        requires plan { IsOfPlans self.old.plans run }
+        requires book { run.book ≡ book_at self.old.books run.stream }
+        requires going { run.paused ≡ false }
+        requires end { run.facts.get ≡ run.facts.put }
+        ensures event { is_open (standing_of self.old.plans self.old.past run.stream) ≡ true → Grows self.old self.new (Finish run.stream run.order) }
+        ensures over { is_open (standing_of self.old.plans self.old.past run.stream) ≡ false → Waits self.old self.new }
+        ensures outs { self.new.outs ≡ with_out self.old.outs run.stream at_home }
+        ensures out { out_at self.old.outs run.stream ≡ record { order = run.order; paused = false } }
+        ensures shows { is_open (standing_of self.old.plans self.old.past run.stream) ≡ true → IsRunOf self.old.plans self.old.past run }
+    {
+        self.meet(&mut run);
+        if self.is_open(run.stream()) {
+            self.enter_finish(run);
+        } else {
+            self.back(run);
+        }
+    }
+
+    /// Loses the stream of a run for want of memory, where it is neither lost nor closed, and takes the run back. It takes no
+    /// memory.
+    pub fn lose(&mut self, mut run: Carried)
+        requires plan { IsOfPlans self.old.plans run }
+        requires book { run.book ≡ book_at self.old.books run.stream }
+        ensures event { is_open (standing_of self.old.plans self.old.past run.stream) ≡ true → Grows self.old self.new (Lost run.stream Memory []) }
+        ensures over { is_open (standing_of self.old.plans self.old.past run.stream) ≡ false → Waits self.old self.new }
+        ensures outs { self.new.outs ≡ with_out self.old.outs run.stream at_home }
+        ensures out { out_at self.old.outs run.stream ≡ record { order = run.order; paused = run.paused } }
+        ensures shows { is_open (standing_of self.old.plans self.old.past run.stream) ≡ true → IsRunOf self.old.plans self.old.past run }
+    {
+        self.meet(&mut run);
+        self.lose_client(run.stream());
+        self.back(run);
+    }
+}
