@@ -1,0 +1,152 @@
+-- What a run keeps after a step: its note is met, and its client is told.
+use Rattle.std.proofs.Common.{◌≡◌, ◌≢◌, ℕ, ◌+◌, ◌≤◌, max, eqb, Bool, true, false, List, ◌∷◌, length, drop, Option, Some, None, refl, sym, ap, subst, ◌∙◌, arith, length-drop, option_map}
+use Rattle.std.specs.Prelude.{IfSome, slice_get}
+use Rattle.std.specs.List.{All}
+use Rattle.std.proofs.Math.Nat.{max_comm, le-max_left}
+use Rattle.std.proofs.lemmas.Bool.Decides.{nat_tests}
+use Rattle.std.proofs.lemmas.List.{drop_all}
+use Rattle.std.proofs.lemmas.List.Elements.{All-nil}
+use Rattle.atomic_table.specs.Seated.{TableId}
+use Rattle.gpu_plan.specs.Plans.{PlansData, plan_of}
+use Rattle.gpu_plan.specs.Places.{flush_places}
+use Rattle.gpu_plan.specs.Passes.{greatest}
+use Rattle.gpu_plan.proofs.Passing.{bound_grows_by_greatest}
+use Rattle.gpu_fetch.specs.Side.{SideData, reach, with_token}
+use Rattle.stream_state.specs.declared.effect.Effect.{Effect}
+use Rattle.stream_state.specs.declared.effect.Effect.TheVariants.{Nothing, Token, Release, Wait, WaitName, Pixels, Results}
+use Rattle.sync_core.specs.Standing.{IsKnown}
+use Rattle.gpu_journal.specs.declared.event.Event.{Event}
+use Rattle.gpu_journal.specs.declared.event.Event.TheVariants.{Step}
+use Rattle.gpu_journal.specs.Facts.{put_in}
+use Rattle.gpu_journal.specs.World as worlds
+use Rattle.gpu_journal.specs.World.{known, world, asked_by}
+use Rattle.run_laws.proofs.Knowns.{step_tokens}
+use Rattle.house_core.specs.Core.{IsRunOf, MayHavePut}
+use Rattle.house_core.specs.Answers.{IsMovedBy}
+use Rattle.house_core.specs.Desks.{RunData}
+use Rattle.gpu_house.specs.Slots.{RunFits}
+use Rattle.gpu_house.specs.Changes.{met_by}
+use Rattle.gpu_house.specs.declared.answers.Next.{Next}
+use Rattle.gpu_house.specs.declared.answers.Next.TheVariants.{More, FlushEnd}
+use Rattle.gpu_house.specs.Steps.{told_side, next_of}
+use Rattle.gpu_house.proofs.Running.{met_again}
+
+-- ---- a client is told
+
+told_keeps : {A : Type 0} (of : SideData → A) → ((s : SideData) (token : ℕ) → of (with_token s token) ≡ of s) → (effect : Effect) (s : SideData) → of (told_side effect s) ≡ of s
+told_keeps of keeps Nothing s = refl
+told_keeps of keeps (Token token) s = keeps s token
+told_keeps of keeps (Release r) s = refl
+told_keeps of keeps (Wait t r) s = refl
+told_keeps of keeps (WaitName name r) s = refl
+told_keeps of keeps (Pixels op) s = refl
+told_keeps of keeps (Results write) s = refl
+
+-- the greatest token that a client was told is that of the journal
+told_greatest : (effect : Effect) (s : SideData) (tokens : List ℕ) → s.greatest ≡ greatest tokens → (told_side effect s).greatest ≡ greatest (worlds.with_token effect tokens)
+told_greatest Nothing s tokens is = is
+told_greatest (Token token) s tokens is = max_comm s.greatest token ∙ ap (max token) is
+told_greatest (Release r) s tokens is = is
+told_greatest (Wait t r) s tokens is = is
+told_greatest (WaitName name r) s tokens is = is
+told_greatest (Pixels op) s tokens is = is
+told_greatest (Results write) s tokens is = is
+
+pub told_list : (effect : Effect) (s : SideData) → (told_side effect s).fetched ≡ s.fetched
+told_list effect s = told_keeps (λ d. d.fetched) (λ d token. refl) effect s
+
+-- its client can come no less far
+told_reach : (effect : Effect) (s : SideData) → reach s ≤ reach (told_side effect s)
+told_reach Nothing s = omega arith
+told_reach (Token token) s = bound_grows_by_greatest s.plan.actions s.finished s.finished s.greatest (max s.greatest token) (omega arith) (le-max_left s.greatest token)
+told_reach (Release r) s = omega arith
+told_reach (Wait t r) s = omega arith
+told_reach (WaitName name r) s = omega arith
+told_reach (Pixels op) s = omega arith
+told_reach (Results write) s = omega arith
+
+module _ {Side Note : Type 0} (side : Side → SideData) (table : Side → TableId) (mark : Note → ℕ) (p : PlansData) (tables books : ℕ → TableId) where
+  abbrev Fits : RunData → Side → Option Note → Type 0
+  Fits run x left = RunFits side table mark p tables books run x left
+
+  -- a note of a run can be met
+  pub note_marked : (run : RunData) (x : Side) (left : Option Note) → Fits run x left → IfSome left (λ note. 1 ≤ mark note)
+  note_marked run x None fits = tt
+  note_marked run x (Some note) fits = let is : mark note ≡ run.place + 1 = fits.noted in omega (arith, is)
+
+  -- a side that says the same
+  same_again : (run : RunData) (x y : Side) → Fits run x None → side y ≡ side x → table y ≡ table x → Fits run y None
+  same_again run x y fits told same =
+      let list : (side y).fetched ≡ (side x).fetched = ap (λ (s : SideData). s.fetched) told in
+      record {
+        of_plans = fits.of_plans;
+        book = fits.book;
+        plan = ap (λ (s : SideData). s.plan) told ∙ fits.plan;
+        shared = same ∙ fits.shared;
+        finished = ap (λ (s : SideData). s.finished) told ∙ fits.finished;
+        greatest = ap (λ (s : SideData). s.greatest) told ∙ fits.greatest;
+        list = subst (λ (l : List (ℕ × ℕ)). run.facts.fetched ≤ length l) (sym list) fits.list;
+        may = subst (λ (l : List (ℕ × ℕ)). All (MayHavePut p run) (drop run.facts.fetched l)) (sym list) fits.may;
+        whole = λ end. ap length list ∙ fits.whole end;
+        behind = subst (λ (s : SideData). s.met ≤ run.place + 1) (sym told) fits.behind;
+        noted = subst (λ (s : SideData). (s.met ≡ run.place + 1) × (s.met ≤ reach s)) (sym told) fits.noted;
+      }
+
+  -- the note is met, where it was not
+  pub met_fits : (run : RunData) (x y : Side) (left : Option Note) → Fits run x left → side y ≡ met_by (option_map mark left) (side x) → IfSome left (λ note. (side y).met ≤ reach (side y)) → table y ≡ table x → Fits run y None
+  met_fits run x y None fits told bounded same = same_again run x y fits told same
+  met_fits run x y (Some note) fits told bounded same = met_again side table mark p tables books run x y note fits told bounded same
+
+  -- the words of a step are the last of the list
+  list_is : (run : RunData) (x : Side) (left : Option Note) (words : List (ℕ × ℕ)) → Fits run x left → drop run.facts.fetched (side x).fetched ≡ words → length (side x).fetched ≡ run.facts.fetched + length words
+  list_is run x left words fits last =
+      let n = length-drop run.facts.fetched (side x).fetched in
+      let k = ap length last in
+      let low = fits.list in
+      omega (arith, n, k, low)
+
+  -- a step was executed
+  pub stepped_fits : (run now : RunData) (y z : Side) (words : List (ℕ × ℕ)) (effect : Effect) (kept : Bool) (old new : List Event) → Fits run y None → drop run.facts.fetched (side y).fetched ≡ words → side z ≡ told_side effect (side y) → table z ≡ table y
+      → new ≡ Step run.stream words ∷ old → effect ≡ asked_by p run.stream words (world p old) → IsRunOf p old run → IsMovedBy run now words kept → IsRunOf p new now → Fits now z None
+  stepped_fits run now y z words effect kept old new fits last told same past asked was moved is =
+      let s = run.stream in
+      let here = moved.stream in
+      let list : (side z).fetched ≡ (side y).fetched = ap (λ (d : SideData). d.fetched) told ∙ told_list effect (side y) in
+      let count : length (side z).fetched ≡ now.facts.fetched = ap length list ∙ list_is run y None words fits last ∙ sym moved.fetched in
+      let met : (side z).met ≡ (side y).met = ap (λ (d : SideData). d.met) told ∙ told_keeps (λ d. d.met) (λ d token. refl) effect (side y) in
+      let place = moved.place in
+      let plan : (side z).plan ≡ plan_of p s = ap (λ (d : SideData). d.plan) told ∙ told_keeps (λ d. d.plan) (λ d token. refl) effect (side y) ∙ fits.plan in
+      let farther : reach (side y) ≤ reach (side z) = subst (λ (d : SideData). reach (side y) ≤ reach d) (sym told) (told_reach effect (side y)) in
+      let reached = fits.noted.1 in
+      let at = fits.noted.0 in
+      let tokens : (known p new now.stream).tokens ≡ worlds.with_token effect (known p old s).tokens =
+      ap (λ (h : List Event). (known p h now.stream).tokens) past ∙ ap (λ (t : ℕ). (known p (Step s words ∷ old) t).tokens) here ∙ step_tokens p old s words ∙ ap (λ (e : Effect). worlds.with_token e (known p old s).tokens) (sym asked) in
+      record {
+        of_plans = record {
+          known = subst (λ (t : ℕ). IsKnown (length p.plans) t) (sym here) fits.of_plans.known;
+          areas = moved.areas ∙ fits.of_plans.areas ∙ ap (λ (t : ℕ). (plan_of p t).areas) (sym here);
+          place = ap (λ (t : ℕ). slice_get (flush_places (plan_of p t).actions) now.finished) here ∙ ap (slice_get (flush_places (plan_of p s).actions)) moved.finished ∙ fits.of_plans.place ∙ ap (λ (k : ℕ). Some k) (sym place);
+          put = moved.put ∙ fits.of_plans.put ∙ ap (λ (k : ℕ). put_in (slice_get (plan_of p s).actions k)) (sym place) ∙ ap (λ (t : ℕ). put_in (slice_get (plan_of p t).actions now.place)) (sym here);
+        };
+        book = moved.book ∙ fits.book ∙ ap books (sym here);
+        plan = plan ∙ ap (plan_of p) (sym here);
+        shared = same ∙ fits.shared ∙ ap tables (sym here);
+        finished = ap (λ (d : SideData). d.finished) told ∙ told_keeps (λ d. d.finished) (λ d token. refl) effect (side y) ∙ fits.finished ∙ sym moved.finished;
+        greatest = ap (λ (d : SideData). d.greatest) told ∙ told_greatest effect (side y) (known p old s).tokens (fits.greatest ∙ was.greatest) ∙ ap greatest (sym tokens) ∙ sym is.greatest;
+        list = omega (arith, count);
+        may = subst (All (MayHavePut p now)) (sym (drop_all now.facts.fetched (side z).fetched (omega (arith, count)))) (All-nil (MayHavePut p now));
+        whole = λ end. count;
+        behind = (let low = fits.behind in omega (arith, met, place, low));
+        noted = (omega (arith, met, at, place), omega (arith, met, reached, farther));
+      }
+
+-- ---- what a step answers
+
+-- the flush has ended exactly where it is said to
+pub ends : (next : Next) (kept at_end : Bool) (get put : ℕ) → next ≡ next_of kept at_end → at_end ≡ eqb get put → (next ≡ FlushEnd → get ≡ put) × (next ≡ More → get ≢ put)
+ends next kept at_end get put e is = subst (λ (n : Next). (n ≡ FlushEnd → get ≡ put) × (n ≡ More → get ≢ put)) (sym e) (by kept at_end is)
+  where
+    by : (kept at_end : Bool) → at_end ≡ eqb get put → (next_of kept at_end ≡ FlushEnd → get ≡ put) × (next_of kept at_end ≡ More → get ≢ put)
+    by true at_end is = (λ q. absurd (cc), λ q. absurd (cc))
+    by false true is = (λ q. grind (arith, nat_tests), λ q. absurd (cc))
+    by false false is = (λ q. absurd (cc), λ q same. grind (arith, nat_tests))

@@ -1,0 +1,42 @@
+use Rattle.std.proofs.Common.{List, [], ⊎_elim, refl, sym, subst, arith}
+use Rattle.gpu_journal.specs.declared.event.Event.{Event}
+use Rattle.gpu_journal.specs.declared.event.Event.TheVariants.{Lost}
+use Rattle.gpu_journal.specs.declared.event.Why.TheVariants.{Memory}
+use Rattle.run_laws.proofs.Going.{lost_ends}
+use Rattle.gpu_house.specs.Names.{table_at}
+use Rattle.gpu_house.proofs.Cases.{loses}
+use Rattle.gpu_house.proofs.Endings.{grown_quietly, stayed_follow}
+use Rattle.gpu_house.proofs.Writings.{AllFit, all_still}
+use Rattle.gpu_house.proofs.Keeping.{kept, ended_homes, still_homes}
+use Rattle.gpu_house.proofs.house.House.lose_client.Goals as goal
+
+pub follow-requires : goal.follow-requires
+follow-requires g c =
+    let core = c.self.inside.core in
+    let now = c.lose_client.new.self in
+    let marks = c.self.inside.hooks in
+    let was = c.self.invariant in
+    ⊎_elim (λ grows. grown_quietly g.N.Naming.plans g.N.Naming.base (Lost c.args.stream Memory []) core now marks was.plans grows was.marked refl)
+    (λ stays. stayed_follow g.N.Naming.plans g.N.Naming.base core now marks marks was.plans stays.plans stays.past was.marked refl refl (omega arith))
+    (loses core now c.args.stream c.lose_client.ensures.event c.lose_client.ensures.over)
+
+pub invariant_of-self : goal.invariant_of-self
+invariant_of-self g c =
+    let p = g.N.Naming.plans in
+    let takes = g.P.ServiceSide.takes in
+    let told = g.P.ServiceSide.written in
+    let core = c.self.inside.core in
+    let now = c.lose_client.new.self in
+    let slots = c.self.inside.slots.items in
+    let results = c.self.inside.results.items in
+    let was = c.self.invariant in
+    let came = loses core now c.args.stream c.lose_client.ensures.event c.lose_client.ensures.over in
+    kept g.P.ServiceSide.side g.P.ServiceSide.table g.P.ServiceSide.mark takes told p g.N.Naming.base g.N.Naming.words g.N.Naming.books c.self.inside.hooks c.follow.new.hooks
+    record { core = core; slots = slots; results = results } record { core = now; slots = slots; results = results } was
+    (⊎_elim (λ grows. grows.plans) (λ stays. stays.plans) came) (⊎_elim (λ grows. grows.books) (λ stays. stays.books) came)
+    c.follow.ensures refl
+    (⊎_elim (λ grows. ended_homes g.P.ServiceSide.side g.P.ServiceSide.table g.P.ServiceSide.mark p (table_at g.N.Naming.words) core now (Lost c.args.stream Memory []) slots grows.past c.lose_client.ensures.outs (lost_ends p core.past c.args.stream Memory []) was.homes)
+    (λ stays. still_homes g.P.ServiceSide.side g.P.ServiceSide.table g.P.ServiceSide.mark p (table_at g.N.Naming.words) core now slots stays.past stays.outs was.homes) came)
+    refl
+    (⊎_elim (λ grows. subst (λ (h : List Event). AllFit takes told p h results) (sym grows.past) (all_still takes told p (Lost c.args.stream Memory []) core.past results (λ s. refl) was.results))
+    (λ stays. subst (λ (h : List Event). AllFit takes told p h results) (sym stays.past) was.results) came)

@@ -1,0 +1,302 @@
+use Rattle.std.proofs.Common.{◌≡◌, ℕ, ◌-◌, false, true, ◌∷◌, List, drop, option_map, IsOk, length, refl, sym, ap, subst, ◌∙◌, arith, length-set}
+use Rattle.std.specs.Prelude.{slice_set, slice_index_or}
+use Rattle.gpu_word.specs.Results.{writes_of}
+use Rattle.gpu_cmd.specs.Spans.{words_in}
+use Rattle.gpu_plan.specs.Plans.{PlansData, plan_of}
+use Rattle.gpu_fetch.specs.Side.{told_more}
+use Rattle.stream_state.specs.declared.effect.Effect.{Effect}
+use Rattle.stream_state.specs.Steps.{writes}
+use Rattle.stream_state.specs.Told.{writes_told}
+use Rattle.sync_core.specs.Standing.{is_open}
+use Rattle.gpu_journal.specs.World.{world, asked_by, state_of}
+use Rattle.gpu_journal.specs.declared.event.Event.{Event}
+use Rattle.gpu_journal.specs.declared.event.Event.TheVariants.{Step, Lost}
+use Rattle.gpu_journal.specs.declared.event.Why.TheVariants.{Error}
+use Rattle.gpu_journal.specs.Waits.{standing_of, pending_in}
+use Rattle.gpu_journal.specs.Facts.{verdict_at}
+use Rattle.run_laws.specs.Going.{keeps}
+use Rattle.house_core.specs.Answers.{IsMovedBy}
+use Rattle.house_core.specs.Core.{IsRunOf, is_home, with_out, book_at}
+use Rattle.run_laws.proofs.Going.{lost_ends}
+use Rattle.house_core.specs.Desks.{Out}
+use Rattle.gpu_house.specs.Names.{table_at}
+use Rattle.gpu_house.specs.Marks.{AreMarked}
+use Rattle.gpu_house.proofs.Cases.{of_lost, of_closed, of_invalid, of_done, goes_on, known_here}
+use Rattle.gpu_house.proofs.Out.{stays_out}
+use Rattle.gpu_house.proofs.Endings.{step_makes, grown_follow}
+use Rattle.gpu_house.proofs.Writings.{AllFit, all_still, all_more, at_stream, read_belongs, wrote}
+use Rattle.gpu_house.proofs.Homes.{stepped_homes, is_out, order_positive}
+use Rattle.gpu_house.proofs.Keeping.{kept, kept_still, ended_homes}
+use Rattle.house_core.specs.Desks.{RunData}
+use Rattle.gpu_house.specs.Slots.{RunFits}
+use Rattle.gpu_house.specs.House.{HouseData, OutData}
+use Rattle.gpu_house.specs.Changes.{StillBelongs, met_by}
+use Rattle.gpu_house.specs.Steps.{told_side}
+use Rattle.gpu_house.proofs.Stepping.{note_marked, met_fits, stepped_fits, told_list, ends}
+use Rattle.gpu_house.proofs.house.House.step.Goals as goal
+
+-- memory was wanted for the step
+pub invariant_of-self-in_err-step : goal.invariant_of-self-in_err-step
+invariant_of-self-in_err-step g c =
+    let slots = c.self.inside.slots.items in
+    let results = c.self.inside.results.items in
+    let room = c.take_room.ensures in
+    kept_still g.P.ServiceSide.side g.P.ServiceSide.table g.P.ServiceSide.mark g.P.ServiceSide.takes g.P.ServiceSide.written g.N.Naming.plans g.N.Naming.base g.N.Naming.words g.N.Naming.books c.self.inside.hooks c.take_room.new.hooks
+    record { core = c.self.inside.core; slots = slots; results = results } record { core = c.step.new.self; slots = slots; results = results } c.self.invariant
+    c.in_err-step.ensures.err refl refl room.base room.marks room.grows
+
+pub invariant_of-self-in-Lost : goal.invariant_of-self-in-Lost
+invariant_of-self-in-Lost g c =
+    let slots = c.self.inside.slots.items in
+    let results = c.self.inside.results.items in
+    let room = c.take_room.ensures in
+    kept_still g.P.ServiceSide.side g.P.ServiceSide.table g.P.ServiceSide.mark g.P.ServiceSide.takes g.P.ServiceSide.written g.N.Naming.plans g.N.Naming.base g.N.Naming.words g.N.Naming.books c.self.inside.hooks c.take_room.new.hooks
+    record { core = c.self.inside.core; slots = slots; results = results } record { core = c.step.new.self; slots = slots; results = results } c.self.invariant
+    (of_lost _ _ _ _ c.in_ok-step.field-0 c.in-Lost.is c.in_ok-step.ensures.event) refl refl room.base room.marks room.grows
+
+pub invariant_of-self-in-Closed : goal.invariant_of-self-in-Closed
+invariant_of-self-in-Closed g c =
+    let slots = c.self.inside.slots.items in
+    let results = c.self.inside.results.items in
+    let room = c.take_room.ensures in
+    kept_still g.P.ServiceSide.side g.P.ServiceSide.table g.P.ServiceSide.mark g.P.ServiceSide.takes g.P.ServiceSide.written g.N.Naming.plans g.N.Naming.base g.N.Naming.words g.N.Naming.books c.self.inside.hooks c.take_room.new.hooks
+    record { core = c.self.inside.core; slots = slots; results = results } record { core = c.step.new.self; slots = slots; results = results } c.self.invariant
+    (of_closed _ _ _ _ c.in_ok-step.field-0 c.in-Closed.is c.in_ok-step.ensures.event) refl refl room.base room.marks room.grows
+
+pub follow-requires : goal.follow-requires
+follow-requires g c =
+    let p = g.N.Naming.plans in
+    let core = c.self.inside.core in
+    let s = c.run.inside.carried.stream in
+    let was = c.self.invariant in
+    let grows = of_invalid _ _ _ _ c.in_ok-step.field-0 c.in-Invalid.error c.in-Invalid.is c.in_ok-step.ensures.event in
+    let waiting : c.waiting.result ≡ length (pending_in p core.past) = c.waiting.ensures ∙ ap (λ (p : PlansData). length (pending_in p core.past)) was.plans in
+    let room = c.in_ok-take_room.ensures.room in
+    grown_follow p g.N.Naming.base (Lost s (Error c.in-Invalid.error) c.args.fetched.words) core c.step.new.self c.self.inside.hooks c.take_room.new.hooks was.plans grows was.marked
+    c.take_room.ensures.base c.take_room.ensures.marks (omega (arith, waiting, room))
+
+pub follow-requires-in-Done : goal.follow-requires-in-Done
+follow-requires-in-Done g c =
+    let p = g.N.Naming.plans in
+    let core = c.self.inside.core in
+    let s = c.run.inside.carried.stream in
+    let was = c.self.invariant in
+    let grows = of_done _ _ _ _ c.in_ok-step.field-0 c.in-Done.acted c.in-Done.is c.in_ok-step.ensures.event in
+    let waiting : c.waiting.result ≡ length (pending_in p core.past) = c.waiting.ensures ∙ ap (λ (p : PlansData). length (pending_in p core.past)) was.plans in
+    let room = c.in_ok-take_room.ensures.room in
+    let few = step_makes p core.past s c.args.fetched.words in
+    grown_follow p g.N.Naming.base (Step s c.args.fetched.words) core c.step.new.self c.self.inside.hooks c.take_room.new.hooks was.plans grows was.marked
+    c.take_room.ensures.base c.take_room.ensures.marks (omega (arith, waiting, room, few))
+
+pub tell-requires-clause-results : goal.tell-requires-clause-results
+tell-requires-clause-results g c =
+    let t = c.stream-stream.result in
+    let run = c.run.inside.carried in
+    let moved = (of_done _ _ _ _ c.in_ok-step.field-0 c.in-Done.acted c.in-Done.is c.in_ok-step.ensures.run).0 in
+    let at : t ≡ run.stream = c.stream-stream.ensures ∙ moved.stream in
+    read_belongs g.P.ServiceSide.results_belong c.args.words.now c.args.self.now.results c.self.inside.results.items c.args.run.now.run.stream t c.index_mut.result.now
+    (ap (λ h. h.results) c.self.view_is) (at ∙ ap (λ r. r.run.stream) c.run.view_is)
+    (known_here g.N.Naming.plans c.self.inside.results.items t run.stream c.self.invariant.result_count at c.run.invariant.of_plans.known) c.index_mut.ensures.value c.requires.results
+
+pub tell-requires-clause-takes : goal.tell-requires-clause-takes
+tell-requires-clause-takes g c =
+    let p = g.N.Naming.plans in
+    let core = c.self.inside.core in
+    let t = c.stream-stream.result in
+    let run = c.run.inside.carried in
+    let was = c.self.invariant in
+    let results = c.self.inside.results.items in
+    let moved = (of_done _ _ _ _ c.in_ok-step.field-0 c.in-Done.acted c.in-Done.is c.in_ok-step.ensures.run).0 in
+    let acted = of_done _ _ _ _ c.in_ok-step.field-0 c.in-Done.acted c.in-Done.is c.in_ok-step.ensures.acted in
+    let at : t ≡ run.stream = c.stream-stream.ensures ∙ moved.stream in
+    let known = known_here p results t run.stream was.result_count at c.run.invariant.of_plans.known in
+    let fit = at_stream g.P.ServiceSide.takes g.P.ServiceSide.written p core.past results t c.index_mut.result.now known c.index_mut.ensures.value was.results in
+    let few : words_in (plan_of core.plans run.stream).areas.results ≡ words_in (plan_of p t).areas.results = ap (λ (q : PlansData). words_in (plan_of q run.stream).areas.results) was.plans ∙ ap (λ (s : ℕ). words_in (plan_of p s).areas.results) (sym at) in
+    λ k d lt. fit.takes_all (slice_index_or (writes_told c.in-Done.acted.effect) k d).0 (let low = acted.places k d lt in omega (arith, low, few))
+
+pub invariant_of-self-in-Invalid : goal.invariant_of-self-in-Invalid
+invariant_of-self-in-Invalid g c =
+    let p = g.N.Naming.plans in
+    let takes = g.P.ServiceSide.takes in
+    let told = g.P.ServiceSide.written in
+    let core = c.self.inside.core in
+    let now = c.step.new.self in
+    let s = c.run.inside.carried.stream in
+    let why = Error c.in-Invalid.error in
+    let words = c.args.fetched.words in
+    let slots = c.self.inside.slots.items in
+    let results = c.self.inside.results.items in
+    let was = c.self.invariant in
+    let grows = of_invalid _ _ _ _ c.in_ok-step.field-0 c.in-Invalid.error c.in-Invalid.is c.in_ok-step.ensures.event in
+    let outs = of_invalid _ _ _ _ c.in_ok-step.field-0 c.in-Invalid.error c.in-Invalid.is c.in_ok-step.ensures.outs in
+    kept g.P.ServiceSide.side g.P.ServiceSide.table g.P.ServiceSide.mark takes told p g.N.Naming.base g.N.Naming.words g.N.Naming.books c.self.inside.hooks c.follow.new.hooks
+    record { core = core; slots = slots; results = results } record { core = now; slots = slots; results = results } was
+    grows.plans grows.books (subst (λ (b : ℕ). AreMarked now.plans b now.past c.follow.new.hooks) c.take_room.ensures.base c.follow.ensures) refl
+    (ended_homes g.P.ServiceSide.side g.P.ServiceSide.table g.P.ServiceSide.mark p (table_at g.N.Naming.words) core now (Lost s why words) slots grows.past outs (lost_ends p core.past s why words) was.homes)
+    refl
+    (subst (λ (h : List Event). AllFit takes told p h results) (sym grows.past) (all_still takes told p (Lost s why words) core.past results (λ s. refl) was.results))
+
+pub invariant_of-self-2 : goal.invariant_of-self-2
+invariant_of-self-2 g c =
+    let p = g.N.Naming.plans in
+    let takes = g.P.ServiceSide.takes in
+    let told = g.P.ServiceSide.written in
+    let core = c.self.inside.core in
+    let now = c.step.new.self in
+    let run = c.run.inside.carried in
+    let s = run.stream in
+    let t = c.stream-stream.result in
+    let words = c.args.fetched.words in
+    let slots = c.self.inside.slots.items in
+    let results = c.self.inside.results.items in
+    let results' = slice_set results (t - 1) c.tell.new.results in
+    let was = c.self.invariant in
+    let grows = of_done _ _ _ _ c.in_ok-step.field-0 c.in-Done.acted c.in-Done.is c.in_ok-step.ensures.event in
+    let outs = of_done _ _ _ _ c.in_ok-step.field-0 c.in-Done.acted c.in-Done.is c.in_ok-step.ensures.outs in
+    let moved = (of_done _ _ _ _ c.in_ok-step.field-0 c.in-Done.acted c.in-Done.is c.in_ok-step.ensures.run).0 in
+    let acted = of_done _ _ _ _ c.in_ok-step.field-0 c.in-Done.acted c.in-Done.is c.in_ok-step.ensures.acted in
+    let open' = (of_done _ _ _ _ c.in_ok-step.field-0 c.in-Done.acted c.in-Done.is c.in_ok-step.ensures.cause).0 in
+    let positive = order_positive core.plans core.past run (c.in_ok-step.ensures.shows open') in
+    let at : t ≡ s = c.stream-stream.ensures ∙ moved.stream in
+    let wrote : writes_told c.in-Done.acted.effect ≡ writes (plan_of p s).areas words (state_of p core.past s) = subst (λ (q : PlansData). writes_told c.in-Done.acted.effect ≡ writes (plan_of q s).areas words (state_of q core.past s)) was.plans acted.writes in
+    kept g.P.ServiceSide.side g.P.ServiceSide.table g.P.ServiceSide.mark takes told p g.N.Naming.base g.N.Naming.words g.N.Naming.books c.self.inside.hooks c.follow-in-Done.new.hooks
+    record { core = core; slots = slots; results = results } record { core = now; slots = slots; results = results' } was
+    grows.plans grows.books (subst (λ (b : ℕ). AreMarked now.plans b now.past c.follow-in-Done.new.hooks) c.take_room.ensures.base c.follow-in-Done.ensures) refl
+    (stepped_homes g.P.ServiceSide.side g.P.ServiceSide.table g.P.ServiceSide.mark p (table_at g.N.Naming.words) core now slots s words record { order = run.order; paused = c.in-Done.acted.kept } c.run.invariant.of_plans.known.0 grows.past outs
+    (ap (λ (q : PlansData). is_open (standing_of q core.past s)) (sym was.plans) ∙ open') (is_out core.outs s record { order = run.order; paused = false } c.in_ok-step.ensures.out positive)
+    (ap (λ (row : List Out). is_home row s) outs ∙ stays_out core.outs s run.order false c.in-Done.acted.kept c.in_ok-step.ensures.out positive) was.homes)
+    (length-set results (t - 1) c.tell.new.results)
+    (subst (λ (h : List Event). AllFit takes told p h results') (sym grows.past)
+    (all_more takes told p (Step s words) core.past results t c.tell.new.results c.index_mut.result.now at (known_here p results t s was.result_count at c.run.invariant.of_plans.known) c.index_mut.ensures.value
+    (c.tell.ensures.written ∙ ap (λ list. told_more (told c.index_mut.result.now) (writes_of list)) wrote) c.tell.ensures.takes was.results))
+
+pub returns-clause-results : goal.returns-clause-results
+returns-clause-results g c =
+    let t = c.stream-stream.result in
+    let run = c.run.inside.carried in
+    let moved = (of_done _ _ _ _ c.in_ok-step.field-0 c.in-Done.acted c.in-Done.is c.in_ok-step.ensures.run).0 in
+    let at : t ≡ run.stream = c.stream-stream.ensures ∙ moved.stream in
+    wrote g.P.ServiceSide.results_belong c.args.words.now c.args.self.now.results c.self.inside.results.items c.args.run.now.run.stream t c.tell.new.results
+    (ap (λ h. h.results) c.self.view_is) (at ∙ ap (λ r. r.run.stream) c.run.view_is)
+    (known_here g.N.Naming.plans c.self.inside.results.items t run.stream c.self.invariant.result_count at c.run.invariant.of_plans.known) c.tell.ensures.belong
+
+-- ---- the run
+
+pub meet-requires-in-Done-clause-flush : goal.meet-requires-in-Done-clause-flush
+meet-requires-in-Done-clause-flush g c = note_marked g.P.ServiceSide.side g.P.ServiceSide.table g.P.ServiceSide.mark g.N.Naming.plans (table_at g.N.Naming.words) (book_at g.N.Naming.books) c.run.inside.carried c.run.inside.side c.run.inside.note c.run.invariant
+
+pub invariant_of-run-in-Invalid : goal.invariant_of-run-in-Invalid
+invariant_of-run-in-Invalid g c =
+    let S = g.P.ServiceSide in
+    let p = g.N.Naming.plans in
+    let tables = table_at g.N.Naming.words in
+    let books = book_at g.N.Naming.books in
+    let same = of_invalid _ _ _ _ c.in_ok-step.field-0 c.in-Invalid.error c.in-Invalid.is c.in_ok-step.ensures.run in
+    let met = met_fits S.side S.table S.mark p tables books c.run.inside.carried c.run.inside.side c.meet.new.side c.run.inside.note c.run.invariant c.meet.ensures.told c.meet.ensures.bounded c.meet.ensures.table in
+    subst (λ (run : RunData). RunFits S.side S.table S.mark p tables books run c.meet.new.side c.meet.new.note) (sym same)
+    (subst (RunFits S.side S.table S.mark p tables books c.run.inside.carried c.meet.new.side) (sym c.meet.ensures.met) met)
+
+pub invariant_of-run-2 : goal.invariant_of-run-2
+invariant_of-run-2 g c =
+    let S = g.P.ServiceSide in
+    let p = g.N.Naming.plans in
+    let tables = table_at g.N.Naming.words in
+    let books = book_at g.N.Naming.books in
+    let core = c.self.inside.core in
+    let now = c.step.new.self in
+    let run = c.run.inside.carried in
+    let words = c.args.fetched.words in
+    let was = c.self.invariant in
+    let grows = of_done _ _ _ _ c.in_ok-step.field-0 c.in-Done.acted c.in-Done.is c.in_ok-step.ensures.event in
+    let moved = of_done _ _ _ _ c.in_ok-step.field-0 c.in-Done.acted c.in-Done.is c.in_ok-step.ensures.run in
+    let acted = of_done _ _ _ _ c.in_ok-step.field-0 c.in-Done.acted c.in-Done.is c.in_ok-step.ensures.acted in
+    let open' = (of_done _ _ _ _ c.in_ok-step.field-0 c.in-Done.acted c.in-Done.is c.in_ok-step.ensures.cause).0 in
+    let run_of : IsRunOf p core.past run = subst (λ (q : PlansData). IsRunOf q core.past run) was.plans (c.in_ok-step.ensures.shows open') in
+    let now_of : IsRunOf p now.past c.step.new.run = subst (λ (q : PlansData). IsRunOf q now.past c.step.new.run) (grows.plans ∙ was.plans) moved.1 in
+    let asked : c.in-Done.acted.effect ≡ asked_by p run.stream words (world p core.past) = subst (λ (q : PlansData). c.in-Done.acted.effect ≡ asked_by q run.stream words (world q core.past)) was.plans acted.effect in
+    let met = met_fits S.side S.table S.mark p tables books run c.run.inside.side c.meet-in-Done.new.side c.run.inside.note c.run.invariant c.meet-in-Done.ensures.told c.meet-in-Done.ensures.bounded c.meet-in-Done.ensures.table in
+    let last : drop run.facts.fetched (S.side c.meet-in-Done.new.side).fetched ≡ words = ap (drop run.facts.fetched) c.meet-in-Done.ensures.list ∙ ap (λ o. drop o.run.facts.fetched (S.side o.side).fetched) c.run.view_is ∙ c.requires.list in
+    subst (RunFits S.side S.table S.mark p tables books c.step.new.run c.tell.new.side) (sym c.meet-in-Done.ensures.met)
+    (stepped_fits S.side S.table S.mark p tables books run c.step.new.run c.meet-in-Done.new.side c.tell.new.side words c.in-Done.acted.effect c.in-Done.acted.kept core.past now.past met last c.tell.ensures.side c.tell.ensures.table grows.past asked run_of moved.0 now_of)
+
+-- ---- what is answered
+
+pub returns-in-Invalid-clause-still : goal.returns-in-Invalid-clause-still
+returns-in-Invalid-clause-still g c = subst (λ (o : OutData g.row.P.Denot g.row.P-Note.Denot). StillBelongs g.P.ServiceSide.belongs g.P.ServiceSide.note_belongs c.args.words.now o.side c.meet.new.side) c.run.view_is c.meet.ensures.still
+
+pub returns-clause-still : goal.returns-clause-still
+returns-clause-still g c =
+    let met = c.meet-in-Done.ensures.still in
+    let told = c.tell.ensures.still in
+    subst (λ (o : OutData g.row.P.Denot g.row.P-Note.Denot). StillBelongs g.P.ServiceSide.belongs g.P.ServiceSide.note_belongs c.args.words.now o.side c.tell.new.side) c.run.view_is
+    record { beside = told.beside; notes = λ n belongs. told.notes n (met.notes n belongs) }
+
+pub returns-clause-list : goal.returns-clause-list
+returns-clause-list g c =
+    let S = g.P.ServiceSide in
+    ap (λ d. d.fetched) c.tell.ensures.side ∙ told_list c.in-Done.acted.effect (S.side c.meet-in-Done.new.side) ∙ c.meet-in-Done.ensures.list ∙ ap (λ o. (S.side o.side).fetched) c.run.view_is
+
+pub returns-clause-end : goal.returns-clause-end
+returns-clause-end g c = ends c.next_of.result c.in-Done.acted.kept c.at_end.result c.step.new.run.facts.get c.step.new.run.facts.put c.next_of.ensures c.at_end.ensures.value
+
+pub returns-clause-cause : goal.returns-clause-cause
+returns-clause-cause g c =
+    let p = g.N.Naming.plans in
+    let core = c.self.inside.core in
+    let run = c.run.inside.carried in
+    let words = c.args.fetched.words in
+    let kept = c.in-Done.acted.kept in
+    let was = c.self.invariant in
+    let cause = of_done _ _ _ _ c.in_ok-step.field-0 c.in-Done.acted c.in-Done.is c.in_ok-step.ensures.cause in
+    let acted = of_done _ _ _ _ c.in_ok-step.field-0 c.in-Done.acted c.in-Done.is c.in_ok-step.ensures.acted in
+    let Cause : PlansData → List Event → ℕ → Type 0 = λ q h s. (is_open (standing_of q h s) ≡ true) × IsOk (verdict_at q h s words) × (kept ≡ keeps q h s (asked_by q s words (world q h))) in
+    let here : Cause core.plans core.past run.stream = (cause.0, cause.1, acted.kept ∙ ap (keeps core.plans core.past run.stream) acted.effect) in
+    goes_on _ _ _ _ c.next_of.result kept c.at_end.result c.next_of.ensures
+    (subst (λ (h : HouseData g.row.P.Denot g.row.P-Note.Denot g.row.P-Results.Denot). Cause p h.core.past c.args.run.now.run.stream) c.self.view_is
+    (subst (λ (o : OutData g.row.P.Denot g.row.P-Note.Denot). Cause p core.past o.run.stream) c.run.view_is
+    (subst (λ (q : PlansData). Cause q core.past run.stream) was.plans here)))
+
+pub returns-clause-event : goal.returns-clause-event
+returns-clause-event g c =
+    let grows = of_done _ _ _ _ c.in_ok-step.field-0 c.in-Done.acted c.in-Done.is c.in_ok-step.ensures.event in
+    goes_on _ _ _ _ c.next_of.result c.in-Done.acted.kept c.at_end.result c.next_of.ensures
+    (subst (λ (h : HouseData g.row.P.Denot g.row.P-Note.Denot g.row.P-Results.Denot). c.step.new.self.past ≡ Step c.args.run.now.run.stream c.args.fetched.words ∷ h.core.past) c.self.view_is
+    (subst (λ (o : OutData g.row.P.Denot g.row.P-Note.Denot). c.step.new.self.past ≡ Step o.run.stream c.args.fetched.words ∷ c.self.inside.core.past) c.run.view_is grows.past))
+
+pub returns-clause-run : goal.returns-clause-run
+returns-clause-run g c =
+    let now = c.step.new.self in
+    let grows = of_done _ _ _ _ c.in_ok-step.field-0 c.in-Done.acted c.in-Done.is c.in_ok-step.ensures.event in
+    let moved = of_done _ _ _ _ c.in_ok-step.field-0 c.in-Done.acted c.in-Done.is c.in_ok-step.ensures.run in
+    goes_on _ _ _ _ c.next_of.result c.in-Done.acted.kept c.at_end.result c.next_of.ensures (
+      subst (λ (o : OutData g.row.P.Denot g.row.P-Note.Denot). IsMovedBy o.run c.step.new.run c.args.fetched.words c.in-Done.acted.kept) c.run.view_is moved.0,
+      subst (λ (q : PlansData). IsRunOf q now.past c.step.new.run) (grows.plans ∙ c.self.invariant.plans) moved.1,
+    )
+
+pub returns-clause-outs : goal.returns-clause-outs
+returns-clause-outs g c =
+    let outs = of_done _ _ _ _ c.in_ok-step.field-0 c.in-Done.acted c.in-Done.is c.in_ok-step.ensures.outs in
+    let kept = c.in-Done.acted.kept in
+    goes_on _ _ _ _ c.next_of.result kept c.at_end.result c.next_of.ensures
+    (subst (λ (h : HouseData g.row.P.Denot g.row.P-Note.Denot g.row.P-Results.Denot). c.step.new.self.outs ≡ with_out h.core.outs c.args.run.now.run.stream record { order = c.args.run.now.run.order; paused = kept }) c.self.view_is
+    (subst (λ (o : OutData g.row.P.Denot g.row.P-Note.Denot). c.step.new.self.outs ≡ with_out c.self.inside.core.outs o.run.stream record { order = o.run.order; paused = kept }) c.run.view_is outs))
+
+pub returns-clause-told : goal.returns-clause-told
+returns-clause-told g c =
+    let S = g.P.ServiceSide in
+    let p = g.N.Naming.plans in
+    let core = c.self.inside.core in
+    let run = c.run.inside.carried in
+    let words = c.args.fetched.words in
+    let z = c.tell.new.side in
+    let acted = of_done _ _ _ _ c.in_ok-step.field-0 c.in-Done.acted c.in-Done.is c.in_ok-step.ensures.acted in
+    let Told : PlansData → List Event → OutData g.row.P.Denot g.row.P-Note.Denot → Type 0 = λ q h o. S.side z ≡ told_side (asked_by q o.run.stream words (world q h)) (met_by (option_map S.mark o.note) (S.side o.side)) in
+    let here : Told core.plans core.past record { run = run; side = c.run.inside.side; note = c.run.inside.note } =
+    c.tell.ensures.side ∙ ap (told_side c.in-Done.acted.effect) c.meet-in-Done.ensures.told ∙ ap (λ (e : Effect). told_side e (met_by (option_map S.mark c.run.inside.note) (S.side c.run.inside.side))) acted.effect in
+    goes_on _ _ _ _ c.next_of.result c.in-Done.acted.kept c.at_end.result c.next_of.ensures
+    (subst (λ (h : HouseData g.row.P.Denot g.row.P-Note.Denot g.row.P-Results.Denot). Told p h.core.past c.args.run.now) c.self.view_is
+    (subst (Told p core.past) c.run.view_is
+    (subst (λ (q : PlansData). Told q core.past record { run = run; side = c.run.inside.side; note = c.run.inside.note }) c.self.invariant.plans here)))
+
+pub returns-clause-met : goal.returns-clause-met
+returns-clause-met g c = goes_on _ _ _ _ c.next_of.result c.in-Done.acted.kept c.at_end.result c.next_of.ensures c.meet-in-Done.ensures.met

@@ -1,0 +1,9 @@
+pub mod Names
+pub mod Slots
+pub mod Marks
+pub mod House
+pub mod Making
+pub mod Ending
+pub mod Changes
+pub mod Steps
+pub mod Laws

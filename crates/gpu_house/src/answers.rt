@@ -1,0 +1,41 @@
+use gpu_cmd::CmdError;
+use sync_core::OrderFault;
+
+/// What a stream is doing.
+#[derive(Clone, Copy, Debug, PartialEq, Eq)]
+pub enum Doing {
+    /// Something is left to do.
+    Open,
+    /// It is lost.
+    Lost,
+    /// Its plan has no Close, and all its flushes are ordered and finished.
+    AllDone,
+    /// It is closed.
+    Closed,
+}
+
+/// What a step left its run to do.
+#[derive(Clone, Copy, Debug, PartialEq, Eq)]
+pub enum Next {
+    /// The flush has more commands.
+    More,
+    /// The step's wait was kept, so the run has to go back.
+    Paused,
+    /// Nothing is left of the flush.
+    FlushEnd,
+    /// The command was invalid, and its stream is lost by this error now.
+    Invalid(CmdError),
+    /// The stream was lost before. Nothing has changed.
+    Lost,
+    /// The stream was closed before. Nothing has changed.
+    Closed,
+}
+
+/// A flush that was not ordered, and why. Its note comes back.
+#[derive(Drop)]
+pub struct OrderRefused<N> {
+    /// Why it was not ordered.
+    pub why: OrderFault,
+    /// The note that was given.
+    pub note: N,
+}

@@ -1,0 +1,27 @@
+//! The house: what the lock keeps, and the runs that leave it.
+#![tactic(auto)]
+
+mod answers;
+mod doing;
+mod ends;
+mod house;
+mod laws;
+mod making;
+mod marking;
+mod meeting;
+mod naming;
+mod orders;
+mod report;
+mod rules;
+mod run;
+mod runs;
+mod slot;
+mod steps;
+
+pub use answers::{Doing, Next, OrderRefused};
+pub use house::House;
+pub use house_core::Closing;
+pub use laws::none_is_taken_where_no_number_is_left;
+pub use naming::Naming;
+pub use report::Report;
+pub use run::Run;

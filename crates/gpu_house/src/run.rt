@@ -1,0 +1,114 @@
+ghost use Rattle.std.specs.Prelude.{◌≡◌, ◌≢◌, ◌++◌, false, length, None, option_map, IfSome, IfOk, IfErr, IsTrue, ◌↔◌};
+ghost use Rattle.std.specs.List.{All};
+ghost use Rattle.gpu_cmd.specs.Copied.{copied, fetched_places, places_listed};
+ghost use Rattle.gpu_cmd.specs.Lawful.{IsLawfulFacts};
+ghost use Rattle.gpu_fetch.specs.Side.{Fetches};
+ghost use Rattle.gpu_fetch.specs.Fetched.{FetchesSome};
+ghost use Rattle.gpu_house.specs.Changes.{met_by};
+
+use crate::meeting::meet;
+use crate::naming::Naming;
+use gpu_cmd::StreamFacts;
+use gpu_fetch::{Fetched, ServiceSide, fetch_command};
+use gpu_word::Memory;
+use house_core::Carried;
+use std::alloc::Global;
+use std::marker::{Model, PhantomData};
+
+/// A run of one stream, which has left the lock with the stream's side.
+///
+/// Seen as what it carries, its side, and the note of its flush where no fetch has met that.
+#[derive(Drop)]
+pub struct Run<N: Naming, P: ServiceSide> {
+    pub(crate) alloc: Global,
+    pub(crate) carried: Carried,
+    pub(crate) side: P,
+    pub(crate) note: Option<P::Note>,
+    pub(crate) of: PhantomData<N>,
+}
+
+impl<N: Naming, P: ServiceSide> Model for Run<N, P> {
+    ghost use Rattle.house_core.specs.Core.{book_at};
+    ghost use Rattle.gpu_house.specs.Names.{table_at};
+    ghost use Rattle.gpu_house.specs.Slots.{RunFits};
+    ghost use Rattle.gpu_house.specs.House.{OutData};
+
+    ghost Value = { OutData P P.Note };
+
+    ghost view = { λ r. record { run = r.carried; side = r.side; note = r.note } };
+
+    ghost invariant = { λ r. RunFits P.side P.table P.mark N.plans (table_at N.words) (book_at N.books) r.carried r.side r.note };
+}
+
+impl<N: Naming, P: ServiceSide> Run<N, P> {
+    /// The stream of the run.
+    pub fn stream(&self) -> u32
+        ensures { result ≡ self.now.run.stream }
+    {
+        self.carried.stream()
+    }
+
+    /// The order number of the run.
+    pub fn order(&self) -> u32
+        ensures { result ≡ self.now.run.order }
+    {
+        self.carried.order()
+    }
+
+    /// What the checks of the next command read.
+    pub fn facts(&self) -> &StreamFacts
+        ensures facts { result.now ≡ self.now.run.facts }
+        ensures lawful { IsLawfulFacts self.now.run.facts }
+    {
+        self.carried.facts()
+    }
+
+    /// Whether nothing is left of the flush.
+    pub fn at_end(&self) -> bool
+        ensures { IsTrue result ↔ (self.now.run.facts.get ≡ self.now.run.facts.put) }
+    {
+        let facts = self.carried.facts();
+        facts.get == facts.put
+    }
+
+    /// Whether the latest step of the run was answered Paused.
+    pub fn paused(&self) -> bool
+        ensures { result ≡ self.now.run.paused }
+    {
+        self.carried.paused()
+    }
+
+    /// Fetches the next command, without the lock. The first fetch of an order meets its note.
+    ///
+    /// # Errors
+    ///
+    /// `Memory`: the side has fetched the first of the places that were to be fetched.
+    pub fn fetch(&mut self, words: &P::Words) -> Result<Fetched, Memory>
+        requires belongs { P.belongs self.old.side words.now }
+        requires note { IfSome self.old.note (P.note_belongs self.old.side words.now) }
+        requires more { self.old.run.facts.get ≢ self.old.run.facts.put }
+        requires going { self.old.run.paused ≡ false }
+        requires list { length (P.side self.old.side).fetched ≡ self.old.run.facts.fetched }
+        ensures run { self.new.run ≡ self.old.run }
+        ensures met { self.new.note ≡ None }
+        ensures facts { IfOk result (λ found. found.facts ≡ self.old.run.facts) }
+        ensures grows { IfOk result (λ found. (P.side self.new.side).fetched ≡ (P.side self.old.side).fetched ++ found.words) }
+        ensures fetches { IfOk result (λ found. Fetches (met_by (option_map P.mark self.old.note) (P.side self.old.side)) (P.side self.new.side) found.words) }
+        ensures places { IfOk result (λ found. places_listed found.words ≡ fetched_places found.words self.old.run.facts) }
+        ensures verdict { IfOk result (λ found. copied found.words self.old.run.facts ≡ found.verdict) }
+        ensures shows { IfOk result (λ found. All (P.shows words.now) found.words) }
+        ensures some { IfErr result (λ _. FetchesSome (met_by (option_map P.mark self.old.note) (P.side self.old.side)) (P.side self.new.side) self.old.run.facts) }
+        ensures belongs { P.belongs self.new.side words.now }
+        ensures notes { (n : P.Note) → P.note_belongs self.old.side words.now n → P.note_belongs self.new.side words.now n }
+    {
+        let Run {
+            alloc,
+            carried,
+            side,
+            note,
+            ..
+        } = self;
+        meet(side, note, words);
+        fetch_command(*alloc, side, words, carried.facts())
+    }
+}
