@@ -1,16 +1,17 @@
-ghost use Rattle.std.specs.Prelude.{◌≡◌, [], length, map, replicate, IfOk};
+ghost use Rattle.std.specs.Prelude.{◌≡◌, [], length, map, replicate, true, IfOk, IfSome};
 ghost use Rattle.std.specs.List.{All};
 ghost use Rattle.atomic_table.specs.Seated.{TableId};
 ghost use Rattle.gpu_plan.specs.Passes.{greatest};
-ghost use Rattle.sync_core.specs.Standing.{IsKnown};
+ghost use Rattle.sync_core.specs.Standing.{IsKnown, is_open};
 ghost use Rattle.wait_hooks.specs.Marks.{mark};
 ghost use Rattle.gpu_journal.specs.World.{known, state_of, replay};
-ghost use Rattle.gpu_journal.specs.Waits.{endings_in};
+ghost use Rattle.gpu_journal.specs.Waits.{endings_in, standing_of};
 ghost use Rattle.gpu_journal.specs.Legal.{IsLegal};
 ghost use Rattle.house_core.specs.Core.{names_of, IsFresh};
 ghost use Rattle.house_core.specs.Desks.{at_home};
 ghost use Rattle.gpu_house.specs.Making.{fresh_slots, AreFreshSides, AreFreshResults};
 ghost use Rattle.gpu_house.specs.Ending.{doing_of};
+ghost use Rattle.gpu_house.specs.Slots.{slot_at};
 
 use crate::answers::Doing;
 use crate::doing::doing;
@@ -135,7 +136,8 @@ impl<N: Naming, P: ServiceSide, H: Hook> House<N, P, H> {
     /// How many flushes of a stream are finished.
     pub fn finishes(&self, stream: u32) -> u32
         requires { IsKnown (length N.plans.plans) stream }
-        ensures { result ≡ (known N.plans self.now.core.past stream).finished }
+        ensures value { result ≡ (known N.plans self.now.core.past stream).finished }
+        ensures home { is_open (standing_of N.plans self.now.core.past stream) ≡ true → IfSome (slot_at self.now.slots stream).side (λ side. (P.side side).finished ≡ result) }
     {
         self.core.finishes(stream)
     }
@@ -143,7 +145,8 @@ impl<N: Naming, P: ServiceSide, H: Hook> House<N, P, H> {
     /// The greatest token that a stream has set, or 0.
     pub fn greatest(&self, stream: u32) -> u32
         requires { IsKnown (length N.plans.plans) stream }
-        ensures { result ≡ greatest (known N.plans self.now.core.past stream).tokens }
+        ensures value { result ≡ greatest (known N.plans self.now.core.past stream).tokens }
+        ensures home { is_open (standing_of N.plans self.now.core.past stream) ≡ true → IfSome (slot_at self.now.slots stream).side (λ side. (P.side side).greatest ≡ result) }
     {
         self.core.greatest(stream)
     }
