@@ -11,7 +11,7 @@ use Rattle.gpu_cmd.specs.declared.areas.Span.{Span}
 use Rattle.gpu_cmd.specs.Lawful.{places_of}
 use Rattle.gpu_plan.specs.declared.plan.Action.{Action}
 use Rattle.gpu_plan.specs.declared.plan.Action.TheVariants.{Put, Flush, Finish, Token, Close}
-use Rattle.gpu_plan.specs.Plans.{PlanData, IsWithin, HasFewFences, IsLawfulPlan, IsLawfulScript, IsDump, stays_open, is_flush}
+use Rattle.gpu_plan.specs.Plans.{PlanData, IsWithin, HasFewFences, IsLawfulPlan, IsLawfulScript, IsDump, RiseFrom, stays_open, is_flush}
 use Rattle.gpu_plan.specs.Named.{names_in}
 use Rattle.gpu_plan.specs.Renumbered.{renumbered_fence, renumbered_action, renumbered_plan}
 
@@ -85,8 +85,8 @@ module _ (numbers : List ℕ) where
       (λ dump is. (slice_get-map (renumbered_action numbers) actions dump.0 ∙ ap (option_map (renumbered_action numbers)) is.0, is.1)) dumps h
 
   -- the invariant of a plan
-  pub lawful_plan : (areas : Areas) (old new : List Action) (dumps : List (ℕ × ℕ)) → new ≡ map (renumbered_action numbers) old → IsLawfulPlan areas old × All (IsDump areas.results old) dumps → IsLawfulPlan areas new × All (IsDump areas.results new) dumps
-  lawful_plan areas old new dumps is h = rw is (lawful_actions areas old h.0, dumps_same areas.results old dumps h.1)
+  pub lawful_plan : (areas : Areas) (old new : List Action) (dumps : List (ℕ × ℕ)) → new ≡ map (renumbered_action numbers) old → IsLawfulPlan areas old × All (IsDump areas.results old) dumps × RiseFrom 0 dumps → IsLawfulPlan areas new × All (IsDump areas.results new) dumps × RiseFrom 0 dumps
+  lawful_plan areas old new dumps is h = rw is (lawful_actions areas old h.0, dumps_same areas.results old dumps h.1, h.2)
 
   -- ---- whole scripts
 

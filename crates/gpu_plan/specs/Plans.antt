@@ -1,5 +1,5 @@
 -- What the streams of a script do.
-use Rattle.std.specs.Prelude.{◌≡◌, ℕ, zero, suc, [], position, slice_index_or, ◌^◌, ◌-◌, ◌<◌, ◌≤◌, Bool, true, false, not, List, length, replicate, take, slice_get, sum_by, Some, None, Option, IsTrue}
+use Rattle.std.specs.Prelude.{◌≡◌, ℕ, zero, suc, [], ◌∷◌, ◌+◌, position, slice_index_or, ◌^◌, ◌-◌, ◌<◌, ◌≤◌, Bool, true, false, not, List, length, replicate, take, slice_get, sum_by, Some, None, Option, IsTrue}
 use Rattle.std.specs.List.{All, list_all, count_by}
 use Rattle.std.specs.Option.{option_map_or}
 use Rattle.gpu_cmd.specs.declared.areas.Areas.{Areas}
@@ -71,6 +71,11 @@ pub record IsLawfulPlan (areas : Areas) (actions : List Action) : Type 0 where
 -- a dump stands at a Finish, and reads a declared result place
 abbrev pub IsDump : List (Option Span) → List Action → ℕ × ℕ → Type 0
 IsDump results actions dump = (slice_get actions dump.0 ≡ Some Finish) × (dump.1 < words_in results)
+
+-- each dump stands behind the one before it, and the first at action k or later
+abbrev pub RiseFrom : ℕ → List (ℕ × ℕ) → Type 0
+RiseFrom k [] = Unit {0}
+RiseFrom k (dump ∷ dumps) = (k ≤ dump.0) × RiseFrom (dump.0 + 1) dumps
 
 -- how many actions the plans have in all
 abbrev pub actions_in : List PlanData → ℕ

@@ -2,7 +2,7 @@ ghost use Rattle.std.specs.Prelude.{◌≡◌, ◌-◌, ◌<◌, ◌≤◌, leng
 ghost use Rattle.std.specs.List.{All};
 ghost use Rattle.gpu_cmd.specs.Lawful.{IsLawfulAreas};
 ghost use Rattle.std.specs.Option.{option_map};
-ghost use Rattle.gpu_plan.specs.Plans.{IsLawfulPlan, IsLawfulScript, IsDump, is_of, number_of};
+ghost use Rattle.gpu_plan.specs.Plans.{IsLawfulPlan, IsLawfulScript, IsDump, RiseFrom, is_of, number_of};
 ghost use Rattle.gpu_plan.specs.Named.{names_in, AreLawfulNames};
 
 use gpu_cmd::{Areas, Name};
@@ -69,13 +69,13 @@ pub struct Plan {
 
 impl Model for Plan {
     ghost use Rattle.std.specs.List.{All};
-    ghost use Rattle.gpu_plan.specs.Plans.{PlanData, IsLawfulPlan, IsDump};
+    ghost use Rattle.gpu_plan.specs.Plans.{PlanData, IsLawfulPlan, IsDump, RiseFrom};
 
     ghost Value = { PlanData };
 
     ghost view = { λ p. record { name = p.name; areas = p.areas.value; priority = p.priority; actions = p.actions.items; dumps = p.dumps.items } };
 
-    ghost invariant = { λ p. IsLawfulPlan p.areas.value p.actions.items × All (IsDump p.areas.value.results p.actions.items) p.dumps.items };
+    ghost invariant = { λ p. IsLawfulPlan p.areas.value p.actions.items × All (IsDump p.areas.value.results p.actions.items) p.dumps.items × RiseFrom 0 p.dumps.items };
 }
 
 impl Plan {
@@ -110,10 +110,11 @@ impl Plan {
     }
 
     /// What the client reads: for each dump line in order, the place of its Finish among the actions, and the result place
-    /// that is read once this Finish has passed.
+    /// that is read once this Finish has passed. The places of the Finishes rise.
     pub fn dumps(&self) -> &[(u32, u32)]
         ensures value { result.now ≡ self.now.dumps }
         ensures lawful { All (IsDump self.now.areas.results self.now.actions) result.now }
+        ensures rising { RiseFrom 0 result.now }
     {
         &self.dumps
     }

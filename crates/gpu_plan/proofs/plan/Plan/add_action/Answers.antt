@@ -14,4 +14,4 @@ invariant_of-self-2 c =
     let count = ap (λ (plan : PlanData). length plan.actions) c.self.view_is in
     let old = c.self.inside.actions.items in
     let unclosed : is_closed old ≡ false = cc in
-    (lawful_action c.self.inside.areas.value c.args.self.now.areas c.args.action old c.push.new.self.items (cc) c.self.invariant.0 unclosed (omega arith) c.requires.within c.requires.fenced c.in_ok-push.ensures.items, dumps_stay c.self.inside.areas.value.results old (c.args.action ∷ []) c.push.new.self.items c.self.inside.dumps.items c.self.invariant.1 c.in_ok-push.ensures.items)
+    (lawful_action c.self.inside.areas.value c.args.self.now.areas c.args.action old c.push.new.self.items (cc) c.self.invariant.0 unclosed (omega arith) c.requires.within c.requires.fenced c.in_ok-push.ensures.items, dumps_stay c.self.inside.areas.value.results old (c.args.action ∷ []) c.push.new.self.items c.self.inside.dumps.items c.self.invariant.1 c.in_ok-push.ensures.items, c.self.invariant.2)

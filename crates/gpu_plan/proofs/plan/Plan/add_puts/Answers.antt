@@ -24,4 +24,4 @@ invariant_of-self-2 c =
     let words = words_of c.args.values.rest.now in
     let more = puts c.args.place (map value_of words) in
     let added : new ≡ old ++ more = c.push_puts.ensures ∙ ap (λ (actions : List Action). actions ++ more) c.reserve.ensures.items in
-    (lawful_puts areas c.args.place words old new c.self.invariant.0 unclosed (omega arith) (omega arith) added, dumps_stay areas.results old more new c.self.inside.dumps.items c.self.invariant.1 added)
+    (lawful_puts areas c.args.place words old new c.self.invariant.0 unclosed (omega arith) (omega arith) added, dumps_stay areas.results old more new c.self.inside.dumps.items c.self.invariant.1 added, c.self.invariant.2)
