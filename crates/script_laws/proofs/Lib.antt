@@ -7,4 +7,5 @@ mod Works
 mod Rounds
 mod Streams
 pub mod Script
+pub mod Lengths
 pub mod Names

@@ -14,7 +14,7 @@ use Rattle.script_laws.proofs.Works.{Works, Said, zero_said, half_said, works_on
 
 -- ---- what a round says
 
-drawn_small : (state : ℕ) → drawn state < 2 ^ 32
+pub drawn_small : (state : ℕ) → drawn state < 2 ^ 32
 drawn_small state = omega arith
 
 stream_small : (draw : ℕ) → is_small (1 + below 4 draw) ≡ true
@@ -23,12 +23,12 @@ stream_small draw = lt-ltb (1 + below 4 draw) (2 ^ 32) (omega arith)
 place_small : (draw : ℕ) → is_small (below 16 draw) ≡ true
 place_small draw = lt-ltb (below 16 draw) (2 ^ 32) (omega arith)
 
-block_small : (stream round state : ℕ) → stream ≤ 4 → round ≤ 2000 → list_all is_small (block stream round state) ≡ true
+pub block_small : (stream round state : ℕ) → stream ≤ 4 → round ≤ 2000 → list_all is_small (block stream round state) ≡ true
 block_small stream round state s r =
     let number : (n : ℕ) → n ≤ 2000 → is_small n ≡ true = λ n small. lt-ltb n (2 ^ 32) (omega arith) in
     rw (number stream (omega arith), number round r, stream_small (after_draws 1 state), place_small (after_draws 2 state), place_small (after_draws 3 state), lt-ltb _ _ (drawn_small (after_draws 3 state)), place_small (after_draws 5 state), place_small (after_draws 6 state)) refl
 
-by_parity : (P : ℕ → Type 0) → P 0 → P 1 → (n : ℕ) → n < 2 → P n
+pub by_parity : (P : ℕ → Type 0) → P 0 → P 1 → (n : ℕ) → n < 2 → P n
 by_parity P even odd zero small = even
 by_parity P even odd (suc zero) small = odd
 by_parity P even odd (suc (suc n)) small = absurd (omega arith)

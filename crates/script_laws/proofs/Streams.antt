@@ -27,7 +27,7 @@ memory_taken : (n : ℕ) (done : List PlanData) (stream : ℕ) (priority : Prior
 unfolding numbered with_line with_memory two_said number_of fresh spans_with
 memory_taken n done stream priority count flushes = refl
 
-values_small : (stream : ℕ) → stream ≤ 4 → list_all is_small (0x20400004 ∷ stream ∷ 16 ∷ 16 ∷ 28 ∷ []) ≡ true
+pub values_small : (stream : ℕ) → stream ≤ 4 → list_all is_small (0x20400004 ∷ stream ∷ 16 ∷ 16 ∷ 28 ∷ []) ≡ true
 values_small stream known = rw (lt-ltb stream (2 ^ 32) (omega arith)) refl
 
 module _ (done : List PlanData) (stream : ℕ) (priority : Priority) (count flushes : ℕ) (known : stream ≤ 4) where

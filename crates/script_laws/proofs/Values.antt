@@ -58,7 +58,7 @@ short (suc k) (suc (suc j)) n acc small some =
     let rest = short k (suc j) (n / 16) (digit_glyph false (n % 16) ∷ acc) (omega arith) (omega arith) in
     short_cond (eqb (n / 16) 0) (length acc + suc (suc j)) j (digit_glyph false (n % 16) ∷ acc) (digits_onto k 16 false (n / 16) (digit_glyph false (n % 16) ∷ acc)) (omega arith) (λ e. omega arith)
 
-few_digits : (value : ℕ) → value < 2 ^ 32 → length (hex value) ≤ 8
+pub few_digits : (value : ℕ) → value < 2 ^ 32 → length (hex value) ≤ 8
 unfolding digits
 few_digits value small = short 64 8 value [] (omega arith) (omega arith)
 

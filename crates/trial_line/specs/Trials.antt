@@ -1,0 +1,45 @@
+-- The line of a trial.
+use Rattle.std.specs.Prelude.{ℕ, ◌%◌, ◌^◌, Bool, true, false, List, ◌++◌, codes, length}
+use Rattle.std.specs.List.{count_by, sum, sum_by}
+use Rattle.gpu_store.specs.Images.{Pictures}
+use Rattle.gpu_plan.specs.Plans.{PlansData}
+use Rattle.sync_core.specs.declared.ending.Ending.{Ending}
+use Rattle.gpu_journal.specs.declared.event.Event.{Event}
+use Rattle.gpu_journal.specs.declared.event.Event.TheVariants.{Order, Step, Finish, Lost, Close}
+use Rattle.gpu_journal.specs.Digits.{hex8, number_text}
+use Rattle.gpu_journal.specs.World.{replay}
+use Rattle.gpu_journal.specs.Waits.{endings_in}
+
+-- the event is the loss of a stream
+abbrev pub is_loss : Event → Bool
+is_loss (Order s n c) = false
+is_loss (Step s words) = false
+is_loss (Finish s n) = false
+is_loss (Lost s why words) = true
+is_loss (Close s) = false
+
+-- how many losses a history has: as many as it has lost streams, where it is legal
+abbrev pub losses : List Event → ℕ
+losses h = count_by is_loss h
+
+-- the sum of all texels of all images, modulo 2^32
+unfoldable pub texel_sum : Pictures → ℕ
+texel_sum images = sum_by (λ entry. sum entry.1.texels) images % 2 ^ 32
+
+-- a number behind what it counts
+abbrev pub counted : List ℕ → ℕ → List ℕ
+counted what number = what ++ number_text number
+
+-- the line of a size and a seed, with what a run left: its history, its images and its endings
+unfoldable pub line_text : ℕ → ℕ → List Event → Pictures → List Ending → List ℕ
+line_text size seed h images endings =
+    counted (codes "trial") size ++ number_text seed
+    ++ counted (codes " events") (length h)
+    ++ counted (codes " lost") (losses h)
+    ++ counted (codes " images") (length images)
+    ++ counted (codes " endings") (length endings)
+    ++ codes " sum " ++ hex8 (texel_sum images) ++ codes "\n"
+
+-- the line of a trial of a size and a seed, whose script has these plans and was run to this history
+abbrev pub trial_text : ℕ → ℕ → PlansData → List Event → List ℕ
+trial_text size seed p h = line_text size seed h (replay p h) (endings_in p h)
