@@ -17,6 +17,7 @@ use Rattle.gpu_journal.specs.Written.{written}
 use Rattle.gpu_journal.proofs.Worlds.{world_none, sync_none}
 use Rattle.house_core.specs.Core.{CoreData, is_home}
 use Rattle.house_core.specs.Desks.{Out, at_home}
+use Rattle.house_core.specs.Invariant.{IsCore}
 use Rattle.gpu_house.specs.Names.{table_at}
 use Rattle.gpu_house.specs.Slots.{SlotData, marks_between, SlotFits}
 use Rattle.gpu_house.specs.Marks.{AreMarked}
@@ -122,9 +123,10 @@ module _ {Results : Type 0} (takes : Results → ℕ → Bool) (told : Results �
 
 module _ {Side Note Results : Type 0} (side : Side → SideData) (table : Side → TableId) (mark : Note → ℕ) (takes : Results → ℕ → Bool) (told : Results → Option (List Written)) where
   pub fresh_house : (p : PlansData) (base : ℕ) (words books : List TableId) (marks : Marks) (core : CoreData) (sides : List Side) (slots : List (SlotData Side Note)) (results : List Results)
-      → core.plans ≡ p → core.past ≡ [] → core.books ≡ books → core.outs ≡ replicate (length p.plans) at_home → AreFreshSides side table p.plans words sides → slots ≡ fresh_slots sides → AreFreshResults takes told p.plans results
+      → IsCore core → core.plans ≡ p → core.past ≡ [] → core.books ≡ books → core.outs ≡ replicate (length p.plans) at_home → AreFreshSides side table p.plans words sides → slots ≡ fresh_slots sides → AreFreshResults takes told p.plans results
       → marks ≡ record { base = base; marks = []; spare = 0 } → HouseInvariant side table mark takes told p base words books marks record { core = core; slots = slots; results = results }
-  fresh_house p base words books marks core sides slots results plans past booked outs fresh made written_none none = record {
+  fresh_house p base words books marks core sides slots results holds plans past booked outs fresh made written_none none = record {
+    core = holds;
     plans = plans;
     booked = booked;
     slots = ap length made ∙ length-map sides fresh_slot ∙ as_many side table mark p.plans words sides fresh;

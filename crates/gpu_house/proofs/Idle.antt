@@ -1,8 +1,6 @@
 -- With all streams at home none can be taken exactly where no stream has an unprocessed number.
-use Rattle.std.proofs.Common.{◌≡◌, ◌↔◌, ℕ, ◌<◌, ◌≤◌, Bool, true, false, List, length, refl, sym, ap, ◌∙◌}
+use Rattle.std.proofs.Common.{◌≡◌, Bool, true, false, refl, sym, ap, ◌∙◌}
 use Rattle.std.specs.Prelude.{◌&&◌}
-use Rattle.gpu_plan.specs.Plans.{PlansData}
-use Rattle.gpu_journal.specs.declared.event.Event.{Event}
 use Rattle.gpu_journal.specs.Serial.{is_runnable}
 use Rattle.serial_laws.proofs.Least.{none_left, none_runs}
 use Rattle.run_laws.proofs.Choosing.{none_at_home}

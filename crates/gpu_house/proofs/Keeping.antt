@@ -11,6 +11,8 @@ use Rattle.gpu_journal.specs.World.{stream_in}
 use Rattle.gpu_journal.specs.Waits.{standing_of}
 use Rattle.house_core.specs.Core.{CoreData, Stays, is_home}
 use Rattle.house_core.specs.Desks.{Out}
+use Rattle.house_core.specs.Invariant.{IsCore}
+use Rattle.house_core.proofs.Held.{core_roomier}
 use Rattle.gpu_house.specs.Names.{table_at}
 use Rattle.gpu_house.specs.Slots.{SlotData}
 use Rattle.gpu_house.specs.Marks.{AreMarked}
@@ -22,11 +24,12 @@ use Rattle.gpu_house.proofs.Endings.{marked_again, marked_roomier}
 use Rattle.gpu_house.proofs.Writings.{AllFit}
 
 module _ {Side Note Results : Type 0} (side : Side → SideData) (table : Side → TableId) (mark : Note → ℕ) (takes : Results → ℕ → Bool) (told : Results → Option (List Written)) where
-  -- the core has the same plans and books; the marks, the slots and the results, of which there are as many, fit the new journal
+  -- the core keeps its clauses, and has the same plans and books; the marks, the slots and the results, of which there are as many, fit the new journal
   pub kept : (p : PlansData) (base : ℕ) (words books : List TableId) (was marks : Marks) (old : HouseData Side Note Results) (now : HouseData Side Note Results) → HouseInvariant side table mark takes told p base words books was old
-      → now.core.plans ≡ old.core.plans → now.core.books ≡ old.core.books → AreMarked now.core.plans was.base now.core.past marks → length now.slots ≡ length old.slots → homes.AllFit side table mark p (table_at words) now.core now.slots
+      → IsCore now.core → now.core.plans ≡ old.core.plans → now.core.books ≡ old.core.books → AreMarked now.core.plans was.base now.core.past marks → length now.slots ≡ length old.slots → homes.AllFit side table mark p (table_at words) now.core now.slots
       → length now.results ≡ length old.results → AllFit takes told p now.core.past now.results → HouseInvariant side table mark takes told p base words books marks now
-  kept p base words books was marks old now inv plans booked marked count homes result_count results = record {
+  kept p base words books was marks old now inv core plans booked marked count homes result_count results = record {
+    core = core;
     plans = plans ∙ inv.plans;
     booked = booked ∙ inv.booked;
     slots = count ∙ inv.slots;
@@ -61,6 +64,7 @@ module _ {Side Note Results : Type 0} (side : Side → SideData) (table : Side �
   pub kept_still : (p : PlansData) (base : ℕ) (words books : List TableId) (was marks : Marks) (old now : HouseData Side Note Results) → HouseInvariant side table mark takes told p base words books was old
       → Stays old.core now.core → now.slots ≡ old.slots → now.results ≡ old.results → marks.base ≡ was.base → marks.marks ≡ was.marks → was.spare ≤ marks.spare → HouseInvariant side table mark takes told p base words books marks now
   kept_still p base words books was marks old now inv stays slots results based same spare = record {
+    core = core_roomier old.core now.core stays inv.core;
     plans = stays.plans ∙ inv.plans;
     booked = stays.books ∙ inv.booked;
     slots = ap length slots ∙ inv.slots;

@@ -10,6 +10,7 @@ use Rattle.gpu_journal.specs.declared.event.Event.{Event}
 use Rattle.gpu_journal.specs.Written.{written}
 use Rattle.house_core.specs.Core.{CoreData, is_home}
 use Rattle.house_core.specs.Desks.{RunData}
+use Rattle.house_core.specs.Invariant.{IsCore}
 use Rattle.gpu_house.specs.Names.{table_at}
 use Rattle.gpu_house.specs.Slots.{SlotData, SlotFits}
 use Rattle.gpu_house.specs.Marks.{AreMarked}
@@ -38,9 +39,10 @@ module _ {Results : Type 0} (takes : Results → ℕ → Bool) (told : Results �
     pub takes_all : (place : ℕ) → place < words_in (plan_of p s).areas.results → takes results place ≡ true
     pub are_written : IfSome (told results) (λ list. list ≡ written p h s)
 
--- the clauses of the house beside those of its core
+-- all clauses of a house: those of its core, which `CoreInvariant` names one by one, and those of the parts beside it
 module _ {Side Note Results : Type 0} (side : Side → SideData) (table : Side → TableId) (mark : Note → ℕ) (takes : Results → ℕ → Bool) (told : Results → Option (List Written)) where
   pub record HouseInvariant (p : PlansData) (base : ℕ) (words books : List TableId) (marks : Marks) (house : HouseData Side Note Results) : Type 0 where
+    pub core : IsCore house.core
     pub plans : house.core.plans ≡ p
     pub booked : house.core.books ≡ books
     pub slots : length house.slots ≡ length p.plans

@@ -27,6 +27,7 @@ impl<N: Naming, P: ServiceSide, H: Hook> House<N, P, H> {
     {
         let House { core, hooks, .. } = self;
         core.lose_client(stream);
+        core.holds();
         follow(core, hooks);
     }
 
@@ -41,6 +42,7 @@ impl<N: Naming, P: ServiceSide, H: Hook> House<N, P, H> {
     {
         let House { core, hooks, .. } = self;
         let closing = core.close(stream);
+        core.holds();
         follow(core, hooks);
         closing
     }

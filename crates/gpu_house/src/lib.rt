@@ -12,7 +12,6 @@ mod meeting;
 mod naming;
 mod orders;
 mod report;
-mod rules;
 mod run;
 mod runs;
 mod slot;

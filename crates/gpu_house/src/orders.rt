@@ -13,7 +13,6 @@ use crate::answers::OrderRefused;
 use crate::house::House;
 use crate::marking::{follow, take_room};
 use crate::naming::Naming;
-use crate::rules::rules_hold;
 use gpu_fetch::ServiceSide;
 use sync_core::OrderFault;
 use wait_hooks::Hook;
@@ -47,7 +46,6 @@ impl<N: Naming, P: ServiceSide, H: Hook> House<N, P, H> {
             hooks,
             ..
         } = self;
-        rules_hold(core);
         if core.is_lost(stream) {
             return Err(OrderRefused {
                 why: OrderFault::Lost,
@@ -70,6 +68,7 @@ impl<N: Naming, P: ServiceSide, H: Hook> House<N, P, H> {
                 };
             }
         };
+        core.holds();
         follow(core, hooks);
         Ok(order)
     }

@@ -15,7 +15,6 @@ use crate::house::House;
 use crate::marking::follow;
 use crate::meeting::meet;
 use crate::naming::Naming;
-use crate::rules::rules_hold;
 use crate::run::Run;
 use gpu_fetch::ServiceSide;
 use std::marker::PhantomData;
@@ -42,8 +41,8 @@ impl<N: Naming, P: ServiceSide, H: Hook> House<N, P, H> {
             slots,
             ..
         } = self;
-        rules_hold(core);
         let carried = core.take()?;
+        core.holds();
         match slots[carried.stream() as usize - 1].leave() {
             Some((side, note)) => Some(Run {
                 alloc: *alloc,
@@ -88,11 +87,13 @@ impl<N: Naming, P: ServiceSide, H: Hook> House<N, P, H> {
         let slot = &mut slots[stream as usize - 1];
         if !core.is_open(stream) {
             core.finish(carried);
+            core.holds();
             slot.come(side, note);
             return;
         }
         meet(&mut side, &mut note, words);
         core.finish(carried);
+        core.holds();
         follow(core, hooks);
         P::count_finish(&mut results[stream as usize - 1], words);
         side.publish_finish(words);
@@ -115,6 +116,7 @@ impl<N: Naming, P: ServiceSide, H: Hook> House<N, P, H> {
         } = run;
         let stream = carried.stream();
         self.core.back(carried);
+        self.core.holds();
         self.slots[stream as usize - 1].come(side, note);
     }
 
@@ -141,6 +143,7 @@ impl<N: Naming, P: ServiceSide, H: Hook> House<N, P, H> {
             ..
         } = self;
         core.lose(carried);
+        core.holds();
         follow(core, hooks);
         slots[stream as usize - 1].come(side, note);
     }

@@ -119,11 +119,13 @@ impl<N: Naming, P: ServiceSide, H: Hook> House<N, P, H> {
             Stepped::Closed => Ok(Next::Closed),
             Stepped::Invalid(error) => {
                 meet(side, note, words);
+                core.holds();
                 follow(core, hooks);
                 Ok(Next::Invalid(error))
             }
             Stepped::Done(acted) => {
                 meet(side, note, words);
+                core.holds();
                 follow(core, hooks);
                 let stream = carried.stream();
                 tell(side, &mut results[stream as usize - 1], words, &acted);

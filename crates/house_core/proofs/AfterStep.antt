@@ -32,10 +32,10 @@ use Rattle.house_core.specs.Desks.{Out, DeskData, RunData, Agree, desk_at, run_o
 use Rattle.house_core.specs.Core.{CoreData, IsOfPlans, IsRunOf, book_at, out_at}
 use Rattle.house_core.specs.Answers.{WasExecuted, IsMovedBy, further}
 use Rattle.house_core.specs.Stepping.{stepped_desk}
-use Rattle.house_core.specs.Invariant.{Parts, DeskFits, CoreInvariant}
+use Rattle.house_core.specs.Invariant.{Parts, DeskFits, CoreInvariant, seen}
 use Rattle.house_core.proofs.Rows.{book_at_desk, out_at_desk}
 use Rattle.house_core.proofs.Again.{Place}
-use Rattle.house_core.proofs.Seen.{seen, place_seen}
+use Rattle.house_core.proofs.Seen.{place_seen}
 use Rattle.house_core.proofs.Meeting.{run_shows}
 use Rattle.house_core.proofs.Taking.{first_positive}
 use Rattle.house_core.proofs.Moving.{moves_further}

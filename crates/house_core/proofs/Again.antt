@@ -5,6 +5,7 @@ use Rattle.gpu_plan.specs.Plans.{plan_of}
 use Rattle.sync_core.specs.Standing.{IsKnown}
 use Rattle.sync_core.specs.Events.{noted}
 use Rattle.sync_core.specs.Core.{StandsFor}
+use Rattle.sync_core.proofs.Targets.{waits_go_down}
 use Rattle.seq_sched.specs.declared.seat.Seat.{Seat}
 use Rattle.seq_sched.specs.Seats.{seat_of, with_home}
 use Rattle.gpu_journal.specs.declared.event.Event.{Event}
@@ -18,6 +19,7 @@ use Rattle.run_laws.specs.Needs.{need}
 use Rattle.run_laws.specs.Choosing.{IsCoreOf}
 use Rattle.run_laws.proofs.Needs.{needs_event, need_within}
 use Rattle.house_core.specs.Desks.{DeskData, desk_at, no_desk}
+use Rattle.house_core.proofs.Books.{books_told}
 use Rattle.house_core.specs.Invariant.{Parts, DeskFits, CoreInvariant, seat_for}
 use Rattle.house_core.proofs.Fits.{fits_other}
 use Rattle.house_core.proofs.Rows.{position_of, apart, desk_there, desk_set_here, desk_set_other, seat_set_here, seat_set_other}
@@ -137,6 +139,7 @@ goes_on c now event desk was place turn =
     let plans = sym turn.plans in
     let past = sym turn.past in
     let desks = sym turn.desks in
+    let states = desks_again (DeskFits p h) (DeskFits p (event ∷ h)) c.desks s desk place.desk turn.fits (λ t other off fit. fits_other p event h t other off fit) was.states in
     subst CoreInvariant (λ j. record now { plans = plans j; past = past j; desks = desks j }) record {
       lawful = was.lawful;
       legal = (turn.obeys, was.legal);
@@ -147,7 +150,9 @@ goes_on c now event desk was place turn =
       };
       sync = subst (StandsFor now.sync) (sym (sync_then p event h)) turn.stands;
       images = turn.images;
-      states = desks_again (DeskFits p h) (DeskFits p (event ∷ h)) c.desks s desk place.desk turn.fits (λ t other off fit. fits_other p event h t other off fit) was.states;
+      states = states;
+      targets = waits_go_down (length p.plans) (sync_of p (event ∷ h));
+      books = books_told p (event ∷ h) (set c.desks (s - 1) desk) states;
       homes = homes_again c now.seats s desk place turn.seats was.homes;
       room = let a = was.room in let b = turn.owed in let all = needs_event p event h (length p.plans) place.plan in omega arith;
       spare = turn.spare;
@@ -156,14 +161,18 @@ goes_on c now event desk was place turn =
 -- where no event came, and stream s has this desk
 pub stays : (c : Parts) (seats : List Seat) (s : ℕ) (desk : DeskData) → CoreInvariant c → Place c s → AreSeated c seats s desk → DeskFits c.plans c.past s desk
     → CoreInvariant record c { seats = seats; desks = set c.desks (s - 1) desk }
-stays c seats s desk was place seated fits = record {
-  lawful = was.lawful;
-  legal = was.legal;
-  many = record { streams = was.many.streams; seats = seated.count ∙ was.many.seats; desks = length-set c.desks (s - 1) desk ∙ was.many.desks };
-  sync = was.sync;
-  images = was.images;
-  states = desks_again (DeskFits c.plans c.past) (DeskFits c.plans c.past) c.desks s desk place.desk fits (λ t other off fit. fit) was.states;
-  homes = homes_again c seats s desk place seated was.homes;
-  room = was.room;
-  spare = was.spare;
-}
+stays c seats s desk was place seated fits =
+    let states = desks_again (DeskFits c.plans c.past) (DeskFits c.plans c.past) c.desks s desk place.desk fits (λ t other off fit. fit) was.states in
+    record {
+      lawful = was.lawful;
+      legal = was.legal;
+      many = record { streams = was.many.streams; seats = seated.count ∙ was.many.seats; desks = length-set c.desks (s - 1) desk ∙ was.many.desks };
+      sync = was.sync;
+      images = was.images;
+      states = states;
+      targets = was.targets;
+      books = books_told c.plans c.past (set c.desks (s - 1) desk) states;
+      homes = homes_again c seats s desk place seated was.homes;
+      room = was.room;
+      spare = was.spare;
+    }

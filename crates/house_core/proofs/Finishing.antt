@@ -9,9 +9,9 @@ use Rattle.run_laws.specs.Going.{MayGoOn}
 use Rattle.run_laws.proofs.Rules.{finish_obeys}
 use Rattle.house_core.specs.Desks.{Out, RunData}
 use Rattle.house_core.specs.Core.{out_at, IsOfPlans, IsRunOf}
-use Rattle.house_core.specs.Invariant.{Parts, CoreInvariant}
+use Rattle.house_core.specs.Invariant.{Parts, CoreInvariant, seen}
 use Rattle.house_core.proofs.Rows.{out_at_desk}
-use Rattle.house_core.proofs.Seen.{seen, place_of_run}
+use Rattle.house_core.proofs.Seen.{place_of_run}
 
 -- a run that is at its end and shows what the journal says may be finished
 pub finish_legal : (c : Parts) (run : RunData) → CoreInvariant c → 0 < run.order → IsOfPlans c.plans run → run.paused ≡ false → run.facts.get ≡ run.facts.put

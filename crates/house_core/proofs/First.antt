@@ -8,15 +8,18 @@ use Rattle.gpu_plan.specs.Places.{flush_places}
 use Rattle.sync_core.specs.Standing.{IsKnown, nobody}
 use Rattle.sync_core.specs.Events.{SyncEvent, standing}
 use Rattle.sync_core.specs.Core.{Core, StandsFor}
+use Rattle.sync_core.proofs.Targets.{waits_go_down}
 use Rattle.seq_sched.specs.Seats.{all_home, seat_of}
 use Rattle.seq_sched.specs.Seats as seats
 use Rattle.gpu_journal.specs.World.{World, nothing_known}
+use Rattle.gpu_journal.specs.Waits.{sync_of}
 use Rattle.gpu_journal.specs.Serial.{rank}
 use Rattle.gpu_journal.proofs.Worlds.{world_none, sync_none}
 use Rattle.serial_laws.specs.Scripts.{AreLawfulPlans}
 use Rattle.run_laws.proofs.Needs.{needs_none}
 use Rattle.house_core.specs.Desks.{Out, at_home, DeskData, fresh_desk, no_desk}
 use Rattle.house_core.specs.Making.{desks_of}
+use Rattle.house_core.proofs.Books.{books_told}
 use Rattle.house_core.specs.Invariant.{DeskFits, CoreInvariant, seat_for}
 use Rattle.house_core.proofs.Fits.{fits_so}
 
@@ -68,20 +71,26 @@ homes_first p books (suc k) same is =
 
 pub core_first : (p : PlansData) (books : List TableId) (sync : Core) (spare : ℕ) → AreLawfulPlans p → length books ≡ length p.plans → length sync.streams ≡ length p.plans → StandsFor sync [] → length p.plans ≤ spare
     → CoreInvariant record { plans = p; past = []; spare = spare; owed = length p.plans; sync = sync; seats = all_home (ranks_of p.plans); images = []; desks = desks_of p.plans books }
-core_first p books sync spare lawful same streams stands room = record {
-  lawful = lawful;
-  legal = tt;
-  many = record {
-    streams = streams;
-    seats = length-map (ranks_of p.plans) _ ∙ length-map p.plans _;
-    desks = desks_count p.plans books same;
-  };
-  sync = subst (StandsFor sync) (sym (sync_none p)) stands;
-  images = ap (λ (w : World). w.images) (sym (world_none p));
-  states = λ k other low.
-      let count = desks_count p.plans books same in
-      subst (DeskFits p [] (suc k)) (sym (desk_first p.plans books k other same (omega (arith, count, low)))) (fits_first p (suc k) (get_or books k no_book));
-  homes = λ s is. homes_first p books s same is;
-  room = sym (needs_none p (length p.plans));
-  spare = room;
-}
+core_first p books sync spare lawful same streams stands room =
+    let desks = desks_of p.plans books in
+    let states : (k : ℕ) (other : DeskData) → k < length desks → DeskFits p [] (suc k) (get_or desks k other) =
+    λ k other low.
+    let count = desks_count p.plans books same in
+    subst (DeskFits p [] (suc k)) (sym (desk_first p.plans books k other same (omega (arith, count, low)))) (fits_first p (suc k) (get_or books k no_book)) in
+    record {
+      lawful = lawful;
+      legal = tt;
+      many = record {
+        streams = streams;
+        seats = length-map (ranks_of p.plans) _ ∙ length-map p.plans _;
+        desks = desks_count p.plans books same;
+      };
+      sync = subst (StandsFor sync) (sym (sync_none p)) stands;
+      images = ap (λ (w : World). w.images) (sym (world_none p));
+      states = states;
+      targets = waits_go_down (length p.plans) (sync_of p []);
+      books = books_told p [] desks states;
+      homes = λ s is. homes_first p books s same is;
+      room = sym (needs_none p (length p.plans));
+      spare = room;
+    }

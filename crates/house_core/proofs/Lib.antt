@@ -14,3 +14,5 @@ mod Fetching
 mod Ordering
 mod Closes
 pub mod Closings
+pub mod Held
+pub mod Books

@@ -13,9 +13,9 @@ use Rattle.run_laws.proofs.Fronts.{left_count, counts_within}
 use Rattle.run_laws.proofs.Needs.{need_open}
 use Rattle.house_core.specs.Desks.{DeskData, RunData, desk_at}
 use Rattle.house_core.specs.Core.{CoreData, IsOfPlans}
-use Rattle.house_core.specs.Invariant.{Parts, CoreInvariant}
+use Rattle.house_core.specs.Invariant.{Parts, CoreInvariant, seen}
 use Rattle.house_core.proofs.Again.{Place}
-use Rattle.house_core.proofs.Seen.{seen, place_seen, place_of_run}
+use Rattle.house_core.proofs.Seen.{place_seen, place_of_run}
 
 -- no more flushes are finished than are ordered
 pub counts_fit : (c : Parts) (s : ℕ) → CoreInvariant c → Place c s → (desk_at c.desks s).finished ≤ (desk_at c.desks s).ordered

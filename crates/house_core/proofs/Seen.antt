@@ -1,19 +1,15 @@
--- The parts of a core, and what contracts see of them.
+-- The parts of a core, and its streams as contracts see them.
 use Rattle.std.proofs.Common.{◌≡◌, ℕ, length, sym, subst}
 use Rattle.sync_core.specs.Standing.{IsKnown}
 use Rattle.house_core.specs.declared.core_of.Core.TheInside.{Inside}
-use Rattle.house_core.specs.Core.{CoreData, books_of, outs_of, IsOfPlans}
+use Rattle.house_core.specs.Core.{CoreData, IsOfPlans}
 use Rattle.house_core.specs.Desks.{RunData}
-use Rattle.house_core.specs.Invariant.{Parts, CoreInvariant}
+use Rattle.house_core.specs.Invariant.{Parts, CoreInvariant, seen}
 use Rattle.house_core.proofs.Again.{Place, place_of}
 
 -- all that a core keeps
 abbrev pub parts_of : Inside → Parts
 parts_of core = record { plans = core.plans; past = core.journal.events; spare = core.journal.spare; owed = core.owed; sync = core.sync; seats = core.scheduler; images = core.images; desks = core.desks.items }
-
--- what contracts see of it
-abbrev pub seen : Parts → CoreData
-seen c = record { plans = c.plans; past = c.past; spare = c.spare; books = books_of c.desks; outs = outs_of c.desks }
 
 -- a stream of the plans, as contracts see them, has its place
 pub place_seen : (c : Parts) (v : CoreData) (s : ℕ) → seen c ≡ v → CoreInvariant c → IsKnown (length v.plans.plans) s → Place c s

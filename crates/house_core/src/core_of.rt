@@ -8,6 +8,7 @@ ghost use Rattle.gpu_journal.specs.Waits.{standing_of, endings_in, pending_in};
 ghost use Rattle.gpu_journal.specs.Legal.{IsLegal};
 ghost use Rattle.house_core.specs.Desks.{at_home};
 ghost use Rattle.house_core.specs.Core.{names_of, IsFresh, is_done};
+ghost use Rattle.house_core.specs.Invariant.{IsCore};
 
 use crate::closing::ends_with_close;
 use crate::desk::Desk;
@@ -95,6 +96,13 @@ impl Core {
         ensures legal { IsLegal self.now.plans self.now.past }
     {
         &self.journal
+    }
+
+    /// The law of each core: what contracts see of it is seen of parts that keep the core's invariant. It does nothing.
+    pub fn holds(&self)
+        ensures { IsCore self.now }
+    {
+        let _ = &self.journal;
     }
 
     /// The images: what the journal's steps drew.

@@ -34,6 +34,7 @@ invariant_of-self g c =
     let over = open_here c.self.inside.core t run.stream c.is_open.result false c.stream-stream.ensures c.is_open.ensures c.if-not-is_open.true in
     let waits = c.finish.ensures.over over in
     record {
+      core = c.holds.ensures;
       plans = waits.plans ∙ was.plans;
       booked = waits.books ∙ was.booked;
       slots = length-set c.self.inside.slots.items (c.stream-stream.result - 1) c.come.new.self ∙ was.slots;
@@ -84,7 +85,7 @@ invariant_of-self-2 g c =
     let met = c.meet.ensures in
     kept g.P.ServiceSide.side g.P.ServiceSide.table g.P.ServiceSide.mark takes told p g.N.Naming.base g.N.Naming.words g.N.Naming.books c.self.inside.hooks c.follow.new.hooks
     record { core = core; slots = slots; results = results } record { core = c.finish-2.new.self; slots = slots'; results = results' } was
-    grows.plans grows.books c.follow.ensures (length-set slots (t - 1) c.finish-3.new.self)
+    c.holds-2.ensures grows.plans grows.books c.follow.ensures (length-set slots (t - 1) c.finish-3.new.self)
     (came_done g.P.ServiceSide.side g.P.ServiceSide.table g.P.ServiceSide.mark p (table_at g.N.Naming.words) (book_at g.N.Naming.books) run core c.finish-2.new.self slots t c.index_mut-slot.result.now c.finish-3.new.self c.run.inside.side c.publish_finish.new.self c.run.inside.note
     c.stream-stream.ensures there c.index_mut-slot.ensures.value c.finish-3.ensures c.run.invariant grows.past c.finish-2.ensures.outs (subst (λ (q : PlansData). is_open (standing_of q core.past run.stream) ≡ true) was.plans still_open) run_of end
     (is_out core.outs run.stream record { order = run.order; paused = false } c.finish-2.ensures.out (order_positive p core.past run run_of))

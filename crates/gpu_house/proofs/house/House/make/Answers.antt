@@ -15,6 +15,6 @@ invariant_of-result g c =
     let same = c.requires.plans in
     let marks : c.make-2.result ≡ record { base = g.N.Naming.base; marks = []; spare = 0 } = c.make-2.ensures ∙ ap fresh_marks_of c.requires.base in
     fresh_house g.P.ServiceSide.side g.P.ServiceSide.table g.P.ServiceSide.mark g.P.ServiceSide.takes g.P.ServiceSide.written g.N.Naming.plans g.N.Naming.base g.N.Naming.words g.N.Naming.books c.make-2.result c.in_ok-core.core c.args.sides.items c.in_ok-slots.slots.items c.args.results.items
-    (told.plans ∙ same) told.past (told.books ∙ c.requires.books.0) (told.outs ∙ ap (λ (p : PlansData). replicate (length p.plans) at_home) same)
+    c.holds.ensures (told.plans ∙ same) told.past (told.books ∙ c.requires.books.0) (told.outs ∙ ap (λ (p : PlansData). replicate (length p.plans) at_home) same)
     (subst (λ (p : PlansData). AreFreshSides g.P.ServiceSide.side g.P.ServiceSide.table p.plans g.N.Naming.words c.args.sides.items) same c.requires.sides) c.in_ok-slots.ensures
     (subst (λ (p : PlansData). AreFreshResults g.P.ServiceSide.takes g.P.ServiceSide.written p.plans c.args.results.items) same c.requires.results) marks

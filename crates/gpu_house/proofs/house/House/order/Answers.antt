@@ -10,6 +10,7 @@ use Rattle.gpu_journal.specs.Waits.{standing_of, pending_in, drawn}
 use Rattle.gpu_journal.specs.Legal.{IsLegal}
 use Rattle.gpu_journal.specs.Serial.{order_event}
 use Rattle.serial_laws.specs.Scripts.{AreLawfulPlans}
+use Rattle.house_core.proofs.Held.{core_lawful, core_legal}
 use Rattle.gpu_house.specs.Names.{table_at}
 use Rattle.gpu_house.specs.Slots.{mark_of}
 use Rattle.gpu_house.specs.Marks.{AreMarked}
@@ -76,7 +77,7 @@ follow-requires g c =
     let core = c.self.inside.core in
     let s = c.args.stream in
     let was = c.self.invariant in
-    let lawful : AreLawfulPlans p = subst AreLawfulPlans was.plans c.rules_hold.ensures.lawful in
+    let lawful : AreLawfulPlans p = subst AreLawfulPlans was.plans (core_lawful core was.core) in
     let few = order_makes p core.past s (drawn core.plans core.past + 1) (unwrap_or (slice_get (flush_places (plan_of core.plans s).actions) (known core.plans core.past s).ordered) 0) lawful c.requires.known in
     let waiting : c.waiting.result ≡ length (pending_in p core.past) = c.waiting.ensures ∙ ap (λ (p : PlansData). length (pending_in p core.past)) was.plans in
     let room = not_err c.take_room.result c.if-is_err.ensures.value c.take_room.ensures.room in
@@ -102,9 +103,9 @@ invariant_of-self-2 g c =
     let past : now.past ≡ order_event p core.past s ∷ core.past = subst (λ (q : PlansData). now.past ≡ order_event q core.past s ∷ core.past) was.plans grows.past in
     kept side table mark takes told p g.N.Naming.base g.N.Naming.words g.N.Naming.books c.self.inside.hooks c.follow.new.hooks
     record { core = core; slots = slots; results = results } record { core = now; slots = slice_set slots (s - 1) c.push.new.self; results = results } was
-    grows.plans grows.books (subst (λ (b : ℕ). AreMarked now.plans b now.past c.follow.new.hooks) c.take_room.ensures.base c.follow.ensures) (length-set slots (s - 1) c.push.new.self)
+    c.holds.ensures grows.plans grows.books (subst (λ (b : ℕ). AreMarked now.plans b now.past c.follow.new.hooks) c.take_room.ensures.base c.follow.ensures) (length-set slots (s - 1) c.push.new.self)
     (ordered_homes side table mark p (table_at g.N.Naming.words) core now slots s c.args.note c.index_mut-slot.result.now c.push.new.self
-    (subst (λ (q : PlansData). IsLegal q core.past) was.plans c.rules_hold.ensures.legal)
+    (subst (λ (q : PlansData). IsLegal q core.past) was.plans (core_legal core was.core))
     (subst (λ (n : ℕ). IsKnown n s) (sym was.slots) c.requires.known)
     (subst (λ (q : PlansData). (standing_of q core.past s).lost ≡ false) was.plans (sym c.is_lost.ensures ∙ c.if-is_lost.false))
     (subst (λ (h : List Event). (known p h s).ordered < flushes (plan_of p s).actions) view c.requires.next)

@@ -14,6 +14,7 @@ invariant_of-self g c =
     let was = c.self.invariant in
     let known : IsKnown (length results) c.args.stream = subst (λ (n : ℕ). IsKnown n c.args.stream) (sym was.result_count) c.requires.known in
     record {
+      core = was.core;
       plans = was.plans;
       booked = was.booked;
       slots = was.slots;

@@ -131,7 +131,7 @@ invariant_of-self-in-Invalid g c =
     let outs = of_invalid _ _ _ _ c.in_ok-step.field-0 c.in-Invalid.error c.in-Invalid.is c.in_ok-step.ensures.outs in
     kept g.P.ServiceSide.side g.P.ServiceSide.table g.P.ServiceSide.mark takes told p g.N.Naming.base g.N.Naming.words g.N.Naming.books c.self.inside.hooks c.follow.new.hooks
     record { core = core; slots = slots; results = results } record { core = now; slots = slots; results = results } was
-    grows.plans grows.books (subst (λ (b : ℕ). AreMarked now.plans b now.past c.follow.new.hooks) c.take_room.ensures.base c.follow.ensures) refl
+    c.holds.ensures grows.plans grows.books (subst (λ (b : ℕ). AreMarked now.plans b now.past c.follow.new.hooks) c.take_room.ensures.base c.follow.ensures) refl
     (ended_homes g.P.ServiceSide.side g.P.ServiceSide.table g.P.ServiceSide.mark p (table_at g.N.Naming.words) core now (Lost s why words) slots grows.past outs (lost_ends p core.past s why words) was.homes)
     refl
     (subst (λ (h : List Event). AllFit takes told p h results) (sym grows.past) (all_still takes told p (Lost s why words) core.past results (λ s. refl) was.results))
@@ -161,7 +161,7 @@ invariant_of-self-2 g c =
     let wrote : writes_told c.in-Done.acted.effect ≡ writes (plan_of p s).areas words (state_of p core.past s) = subst (λ (q : PlansData). writes_told c.in-Done.acted.effect ≡ writes (plan_of q s).areas words (state_of q core.past s)) was.plans acted.writes in
     kept g.P.ServiceSide.side g.P.ServiceSide.table g.P.ServiceSide.mark takes told p g.N.Naming.base g.N.Naming.words g.N.Naming.books c.self.inside.hooks c.follow-in-Done.new.hooks
     record { core = core; slots = slots; results = results } record { core = now; slots = slots; results = results' } was
-    grows.plans grows.books (subst (λ (b : ℕ). AreMarked now.plans b now.past c.follow-in-Done.new.hooks) c.take_room.ensures.base c.follow-in-Done.ensures) refl
+    c.holds-in-Done.ensures grows.plans grows.books (subst (λ (b : ℕ). AreMarked now.plans b now.past c.follow-in-Done.new.hooks) c.take_room.ensures.base c.follow-in-Done.ensures) refl
     (stepped_homes g.P.ServiceSide.side g.P.ServiceSide.table g.P.ServiceSide.mark p (table_at g.N.Naming.words) core now slots s words record { order = run.order; paused = c.in-Done.acted.kept } c.run.invariant.of_plans.known.0 grows.past outs
     (ap (λ (q : PlansData). is_open (standing_of q core.past s)) (sym was.plans) ∙ open') (is_out core.outs s record { order = run.order; paused = false } c.in_ok-step.ensures.out positive)
     (ap (λ (row : List Out). is_home row s) outs ∙ stays_out core.outs s run.order false c.in-Done.acted.kept c.in_ok-step.ensures.out positive) was.homes)

@@ -1,11 +1,11 @@
 use Rattle.std.proofs.Common.{◌≡◌, ℕ, true, eqb, ap, sym, subst, ◌∙◌}
 use Rattle.house_core.specs.Desks.{DeskData, RunData, at_home, desk_at}
 use Rattle.house_core.specs.Core.{CoreData, with_out}
-use Rattle.house_core.specs.Invariant.{Parts, DeskFits}
+use Rattle.house_core.specs.Invariant.{Parts, DeskFits, seen}
 use Rattle.house_core.proofs.Rows.{books_stay, outs_set}
 use Rattle.house_core.proofs.Fits.{fits_home}
 use Rattle.house_core.proofs.Again.{Place, seats_move, stays}
-use Rattle.house_core.proofs.Seen.{parts_of, seen, place_of_run}
+use Rattle.house_core.proofs.Seen.{parts_of, place_of_run}
 use Rattle.house_core.proofs.core_of.Core.back.Goals as goal
 
 module _ (c : goal.After-self-1) where

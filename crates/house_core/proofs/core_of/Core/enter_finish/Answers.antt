@@ -8,11 +8,11 @@ use Rattle.gpu_journal.proofs.Worlds.{images_then}
 use Rattle.run_laws.proofs.Needs.{need_finish}
 use Rattle.house_core.specs.Desks.{DeskData, at_home, desk_at}
 use Rattle.house_core.specs.Core.{CoreData, IsOfPlans, IsRunOf, out_at, with_out}
-use Rattle.house_core.specs.Invariant.{Parts, DeskFits}
+use Rattle.house_core.specs.Invariant.{Parts, DeskFits, seen}
 use Rattle.house_core.proofs.Rows.{books_stay, outs_set}
 use Rattle.house_core.proofs.Fits.{fits_finish}
 use Rattle.house_core.proofs.Again.{Place, seats_move, goes_on}
-use Rattle.house_core.proofs.Seen.{parts_of, seen, place_of_run}
+use Rattle.house_core.proofs.Seen.{parts_of, place_of_run}
 use Rattle.house_core.proofs.Rooms.{room_of_finish}
 use Rattle.house_core.proofs.Finishing.{finish_legal}
 use Rattle.house_core.proofs.core_of.Core.enter_finish.Goals as goal

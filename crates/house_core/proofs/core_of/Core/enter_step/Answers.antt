@@ -17,10 +17,10 @@ use Rattle.house_core.specs.Desks.{Out, DeskData, RunData, Agree, desk_at, run_o
 use Rattle.house_core.specs.Answers.{WasExecuted, IsMovedBy}
 use Rattle.house_core.specs.Stepping.{IsReadyFor, IsToldOf, stepped_desk}
 use Rattle.house_core.specs.Core.{CoreData, IsRunOf, books_of, outs_of, with_out}
-use Rattle.house_core.specs.Invariant.{Parts, DeskFits}
+use Rattle.house_core.specs.Invariant.{Parts, DeskFits, seen}
 use Rattle.house_core.proofs.Rows.{books_stay, outs_set}
 use Rattle.house_core.proofs.Again.{seats_stay, goes_on}
-use Rattle.house_core.proofs.Seen.{parts_of, seen, place_seen}
+use Rattle.house_core.proofs.Seen.{parts_of, place_seen}
 use Rattle.house_core.proofs.Executing.{ready, executed}
 use Rattle.house_core.proofs.AfterStep.{IsOut, out_seen, agrees, may_step, fits_step, run_after, run_goes_on, run_moves}
 use Rattle.house_core.proofs.core_of.Core.enter_step.Goals as goal

@@ -8,10 +8,10 @@ use Rattle.run_laws.specs.Choosing.{choice_at_home}
 use Rattle.run_laws.proofs.Going.{run_begins}
 use Rattle.house_core.specs.Desks.{DeskData, RunData, desk_at, run_of}
 use Rattle.house_core.specs.Core.{CoreData, IsOfPlans, IsRunOf, book_at, out_at, outs_of, with_out, is_home}
-use Rattle.house_core.specs.Invariant.{Parts, DeskFits}
+use Rattle.house_core.specs.Invariant.{Parts, DeskFits, seen}
 use Rattle.house_core.proofs.Rows.{books_stay, outs_set, book_at_desk, out_at_desk, desk_set_here}
 use Rattle.house_core.proofs.Again.{stays, seats_move}
-use Rattle.house_core.proofs.Seen.{parts_of, seen}
+use Rattle.house_core.proofs.Seen.{parts_of}
 use Rattle.house_core.proofs.Taking.{IsChosen, HasLeft, chosen, chooses, first_of, first_positive, plan_there, not_none, fits_away, leaves}
 use Rattle.house_core.proofs.core_of.Core.take.Goals as goal
 

@@ -1,0 +1,9 @@
+use Rattle.house_core.proofs.Seen.{parts_of}
+use Rattle.house_core.proofs.core_of.Core.holds.Goals as goal
+
+pub returns : goal.returns
+returns c = record {
+  parts = parts_of c.self.inside;
+  kept = c.self.invariant;
+  shown = c.self.view_is;
+}
