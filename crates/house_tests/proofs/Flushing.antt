@@ -1,0 +1,76 @@
+-- Where the flush stands that a client makes next.
+use Rattle.std.proofs.Common.{◌≡◌, ℕ, suc, ◌+◌, ◌<◌, Option, Some, None, List, [], ◌∷◌, length, take, refl, sym, ap, subst, ◌∙◌, arith, option_map, unwrap_or}
+use Rattle.std.specs.Prelude.{slice_get}
+use Rattle.std.specs.Option.{IsSomeAnd}
+use Rattle.gpu_plan.specs.declared.plan.Action.{Action}
+use Rattle.gpu_plan.specs.declared.plan.Action.TheVariants.{Put, Flush, Finish, Token, Close}
+use Rattle.gpu_plan.specs.Plans.{PlansData, PlanData, plan_of}
+use Rattle.gpu_plan.specs.Passes.{flush_count, flushes}
+use Rattle.gpu_plan.specs.Places.{flush_places}
+use Rattle.gpu_plan.proofs.Passing.{flushes_one_further}
+use Rattle.gpu_fetch.specs.Plain.{IsNext, IsFlush}
+use Rattle.gpu_fetch.specs.Stirred.{ComesToFlush, puts_ahead}
+use Rattle.serial_laws.proofs.Flushes.{flush_there, flushes_all, place_below, below_place}
+use Rattle.gpu_house.specs.Slots.{mark_of}
+
+-- ---- a flush that is next
+
+one_flush : (a : Action) → IsFlush a → flush_count a ≡ 1
+one_flush (Put place value) is = absurd is
+one_flush (Flush put fences) is = refl
+one_flush Finish is = absurd is
+one_flush (Token token) is = absurd is
+one_flush Close is = absurd is
+
+-- it is one flush more
+pub flush_counts : (xs : List Action) (k : ℕ) → IsNext IsFlush xs k → flushes (take (k + 1) xs) ≡ flushes (take k xs) + 1
+flush_counts xs k next = by (slice_get xs k) refl next
+  where
+    by : (o : Option Action) → slice_get xs k ≡ o → IsSomeAnd o IsFlush → flushes (take (k + 1) xs) ≡ flushes (take k xs) + 1
+    by None e is = absurd is
+    by (Some a) e is = let step = flushes_one_further xs k a e in let counted = one_flush a is in omega (arith, step, counted)
+
+-- its number is that of the flushes before it
+flush_stands : (xs : List Action) (k : ℕ) → IsNext IsFlush xs k → slice_get (flush_places xs) (flushes (take k xs)) ≡ Some k
+flush_stands xs k next =
+    let more = flush_counts xs k next in
+    let all = flushes_all xs (k + 1) in
+    let c = flush_there xs (flushes (take k xs)) (omega (arith, more, all)) in
+    let low = place_below xs (flushes (take k xs)) c.0 (k + 1) c.1 (omega (arith, more)) in
+    let not_below : c.0 < k → ⊥ = λ lt. absurd (above c.0 c.1 lt) in
+    c.1 ∙ ap Some (omega (arith, low, not_below))
+  where
+    above : (c : ℕ) → slice_get (flush_places xs) (flushes (take k xs)) ≡ Some c → c < k → ⊥
+    above c e lt = let more = below_place xs (flushes (take k xs)) c k e lt in omega arith
+
+-- there is a flush behind those before it
+pub flush_left : (plan : PlanData) (done n : ℕ) → n ≡ flushes (take done plan.actions) → IsNext IsFlush plan.actions done → n < flushes plan.actions
+flush_left plan done n e next =
+    let more = flush_counts plan.actions done next in
+    let all = flushes_all plan.actions (done + 1) in
+    omega (arith, more, all, e)
+
+-- and its mark is that of its note
+pub flush_mark : (plan : PlanData) (done n : ℕ) → n ≡ flushes (take done plan.actions) → IsNext IsFlush plan.actions done → done + 1 ≡ mark_of plan n
+flush_mark plan done n e next =
+    let place : slice_get (flush_places plan.actions) n ≡ Some done = ap (slice_get (flush_places plan.actions)) e ∙ flush_stands plan.actions done next in
+    let one : done + 1 ≡ suc done = omega arith in
+    one ∙ sym (ap (λ (at : Option ℕ). unwrap_or (option_map suc at) (length plan.actions)) place)
+
+-- ---- puts stand before the first one
+
+no_flush : (xs : List Action) → flushes (take (puts_ahead xs) xs) ≡ 0
+no_flush [] = refl
+no_flush (Put place value ∷ xs) = let r = no_flush xs in omega (arith, r)
+no_flush (Flush put fences ∷ xs) = refl
+no_flush (Finish ∷ xs) = refl
+no_flush (Token token ∷ xs) = refl
+no_flush (Close ∷ xs) = refl
+
+-- the plan has a flush
+pub has_flush : (p : PlansData) (plan : PlanData) → plan ≡ plan_of p 1 → ComesToFlush plan.actions → 0 < flushes (plan_of p 1).actions
+has_flush p plan is h = subst (λ (q : PlanData). 0 < flushes q.actions) is (flush_left plan (puts_ahead plan.actions) 0 (sym (no_flush plan.actions)) h)
+
+-- and the mark of the first one is the number of puts before it and one more
+pub first_mark : (p : PlansData) (plan : PlanData) (mark : ℕ) → plan ≡ plan_of p 1 → ComesToFlush plan.actions → mark ≡ puts_ahead plan.actions + 1 → mark ≡ mark_of (plan_of p 1) 0
+first_mark p plan mark is h e = e ∙ flush_mark plan (puts_ahead plan.actions) 0 (sym (no_flush plan.actions)) h ∙ ap (λ (q : PlanData). mark_of q 0) is

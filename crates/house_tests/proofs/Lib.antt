@@ -1,0 +1,5 @@
+pub mod Flushing
+pub mod Belonging
+pub mod Turning
+pub mod Acting
+pub mod Beginning

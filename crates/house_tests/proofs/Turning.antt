@@ -1,0 +1,174 @@
+-- One turn of a run of the one stream.
+use Rattle.std.proofs.Common.{◌≡◌, ℕ, ◌+◌, Bool, true, false, not, ◌&&◌, IsOk, Option, None, Err, List, ◌∷◌, ◌++◌, length, refl, sym, ap, subst, ◌∙◌, arith}
+use Rattle.std.proofs.lemmas.Bool.{and_right}
+use Rattle.std.proofs.lemmas.List.{length-append}
+use Rattle.gpu_cmd.specs.declared.error.CmdError.{CmdError}
+use Rattle.gpu_plan.specs.Plans.{PlansData}
+use Rattle.gpu_fetch.specs.Side.{SideData}
+use Rattle.sync_core.specs.Standing.{Standing, is_open}
+use Rattle.gpu_journal.specs.declared.event.Event.{Event}
+use Rattle.gpu_journal.specs.declared.event.Event.TheVariants.{Step, Finish, Lost}
+use Rattle.gpu_journal.specs.declared.event.Why.TheVariants.{Error}
+use Rattle.gpu_journal.specs.World.{Known, world, asked_by}
+use Rattle.gpu_journal.specs.Waits.{standing_of}
+use Rattle.gpu_journal.specs.Facts.{verdict_at}
+use Rattle.gpu_journal.specs.Serial.{order_event}
+use Rattle.run_laws.specs.Going.{keeps}
+use Rattle.run_laws.proofs.Going.{lost_ends}
+use Rattle.run_laws.proofs.Knowns.{known_order, known_finish, known_lost, step_ordered}
+use Rattle.house_core.specs.Core.{IsRunOf}
+use Rattle.house_core.specs.Desks.{RunData}
+use Rattle.house_core.specs.Answers.{IsMovedBy}
+use Rattle.gpu_house.specs.Slots.{SlotData, slot_at}
+use Rattle.gpu_house.specs.House.{HouseData, OutData}
+use Rattle.gpu_house.specs.Changes.{Same, StillBelongs, WroteResults, ResultsBelong}
+use Rattle.gpu_house.specs.Steps.{MatchNext}
+use Rattle.gpu_house.specs.declared.answers.Next.{Next}
+use Rattle.gpu_house.specs.declared.answers.Next.TheVariants.{More, Paused, FlushEnd, Invalid, Closed}
+use Rattle.gpu_house.specs.declared.answers.Next.TheVariants as nexts
+use Rattle.house_tests.specs.Alone.{ordered, AllBelong, IsOut}
+use Rattle.house_tests.proofs.Belonging.{still}
+
+-- ---- how many flushes are ordered
+
+pub order_orders : (p : PlansData) (h g : List Event) → g ≡ order_event p h 1 ∷ h → ordered p g ≡ ordered p h + 1
+order_orders p h g e = ap (ordered p) e ∙ ap (λ (k : Known). k.ordered) (known_order p h 1 _ _)
+
+-- a finish orders nothing, nor does what comes too late
+pub finish_orders : (p : PlansData) (h g : List Event) (s n : ℕ) (stays : Bool) → s ≡ 1 → (stays ≡ true → g ≡ Finish s n ∷ h) → (stays ≡ false → g ≡ h) → ordered p g ≡ ordered p h
+finish_orders p h g s n true one event over = ap (ordered p) (event refl ∙ ap (λ (t : ℕ). Finish t n ∷ h) one) ∙ ap (λ (k : Known). k.ordered) (known_finish p h 1 n)
+finish_orders p h g s n false one event over = ap (ordered p) (over refl)
+
+-- ---- the answers of a step
+
+-- whether the run goes on
+abbrev pub goes_further : Next → Bool
+goes_further More = true
+goes_further Paused = false
+goes_further FlushEnd = true
+goes_further (Invalid error) = false
+goes_further nexts.Lost = false
+goes_further Closed = false
+
+-- what is neither of the answers to go on is one to stop
+pub stops : (next : Next) → (next ≡ More → ⊥) → (next ≡ FlushEnd → ⊥) → goes_further next ≡ false
+stops More not_more not_end = absurd (not_more refl)
+stops Paused not_more not_end = refl
+stops FlushEnd not_more not_end = absurd (not_end refl)
+stops (Invalid error) not_more not_end = refl
+stops nexts.Lost not_more not_end = refl
+stops Closed not_more not_end = refl
+
+not_lost : (x : Standing) → is_open x ≡ true → x.lost ≡ true → ⊥
+not_lost x o lost = let off : is_open x ≡ false = ap (λ (b : Bool). not b && not x.closed) lost in cc
+
+not_closed : (x : Standing) → is_open x ≡ true → x.closed ≡ true → ⊥
+not_closed x o closed = let off : is_open x ≡ false = ap (λ (b : Bool). not x.lost && not b) closed ∙ and_right (not x.lost) false refl in cc
+
+module _ {Side Note Results Words : Type 0} (belongs : Side → Words → Type 0) (note_belongs : Side → Words → Note → Type 0) (results_belong : Words → Results → Type 0) (seen : Side → SideData) (words : Words) where
+  -- a run that has fetched the words of its next command
+  pub record HasFetched (house : HouseData Side Note Results) (out : OutData Side Note) (found : List (ℕ × ℕ)) : Type 0 where
+    pub stream : out.run.stream ≡ 1
+    pub going : out.run.paused ≡ false
+    pub count : length (seen out.side).fetched ≡ out.run.facts.fetched + length found
+    pub met : out.note ≡ None
+    pub all : AllBelong belongs note_belongs words out.side None (slot_at house.slots 1).notes
+    pub results : ResultsBelong results_belong words house.results 1
+
+  pub fetched : (house : HouseData Side Note Results) (old new : OutData Side Note) (found : List (ℕ × ℕ)) → IsOut belongs note_belongs results_belong seen words house old → new.run ≡ old.run → new.note ≡ None → (seen new.side).fetched ≡ (seen old.side).fetched ++ found
+      → belongs new.side words → ((n : Note) → note_belongs old.side words n → note_belongs new.side words n) → HasFetched house new found
+  fetched house old new found out same met grows beside notes = record {
+    stream = ap (λ (r : RunData). r.stream) same ∙ out.stream;
+    going = ap (λ (r : RunData). r.paused) same ∙ out.going;
+    count =
+        let facts : new.run.facts.fetched ≡ old.run.facts.fetched = ap (λ (r : RunData). r.facts.fetched) same in
+        let l = ap length grows in
+        let sum = length-append (seen old.side).fetched found in
+        let was = out.list in
+        omega (arith, l, sum, was, facts);
+    met = met;
+    all = still belongs note_belongs results_belong words old.side new.side old.note (slot_at house.slots 1).notes record { beside = beside; notes = notes } out.all;
+    results = out.results;
+  }
+
+  -- what a step leaves
+  pub record HasStepped (p : PlansData) (house new : HouseData Side Note Results) (now : OutData Side Note) (more : Bool) : Type 0 where
+    pub stream : now.run.stream ≡ 1
+    pub on : more ≡ true → IsOut belongs note_belongs results_belong seen words new now
+    pub list : is_open (standing_of p new.core.past now.run.stream) ≡ true → length (seen now.side).fetched ≡ now.run.facts.fetched
+    pub all : AllBelong belongs note_belongs words now.side now.note (slot_at new.slots 1).notes
+    pub results : ResultsBelong results_belong words new.results 1
+    pub same : ordered p new.core.past ≡ ordered p house.core.past
+
+  module _ (p : PlansData) (house new : HouseData Side Note Results) (run now : OutData Side Note) (found : List (ℕ × ℕ)) (has : HasFetched house run found)
+      (slots : new.slots ≡ house.slots) (wrote : WroteResults results_belong words house.results new.results run.run.stream) (keeps_on : StillBelongs belongs note_belongs words run.side now.side) (list : (seen now.side).fetched ≡ (seen run.side).fetched) where
+    abbrev h : List Event
+    h = house.core.past
+
+    abbrev s : ℕ
+    s = run.run.stream
+
+    results_now : ResultsBelong results_belong words new.results 1
+    results_now = subst (λ (t : ℕ). ResultsBelong results_belong words new.results t) has.stream wrote.belong
+
+    all_now : now.note ≡ None → AllBelong belongs note_belongs words now.side now.note (slot_at new.slots 1).notes
+    all_now met =
+        subst (λ (o : Option Note). AllBelong belongs note_belongs words now.side o (slot_at new.slots 1).notes) (sym met)
+        (subst (λ (row : List (SlotData Side Note)). AllBelong belongs note_belongs words now.side None (slot_at row 1).notes) (sym slots) (still belongs note_belongs results_belong words run.side now.side None (slot_at house.slots 1).notes keeps_on has.all))
+
+    stepped_done : (kept : Bool) → new.core.past ≡ Step s found ∷ h → IsMovedBy run.run now.run found kept → now.note ≡ None → HasStepped p house new now (not kept)
+    stepped_done kept past moved met =
+        let fetches : length (seen now.side).fetched ≡ now.run.facts.fetched = (let l = ap length list in let old = has.count in let more = moved.fetched in omega (arith, l, old, more)) in
+        record {
+          stream = moved.stream ∙ has.stream;
+          on = λ m. record { stream = moved.stream ∙ has.stream; going = moved.paused ∙ back kept m; list = fetches; all = all_now met; results = results_now };
+          list = λ _. fetches;
+          all = all_now met;
+          results = results_now;
+          same = ap (ordered p) (past ∙ ap (λ (t : ℕ). Step t found ∷ h) has.stream) ∙ step_ordered p h 1 found;
+        }
+      where
+        back : (b : Bool) → not b ≡ true → b ≡ false
+        back true e = absurd (cc)
+        back false e = refl
+
+    stepped_lost : (error : CmdError) → new.core.past ≡ Lost s (Error error) found ∷ h → now.run ≡ run.run → now.note ≡ None → HasStepped p house new now false
+    stepped_lost error past same met =
+        let stream : now.run.stream ≡ s = ap (λ (r : RunData). r.stream) same in
+        record {
+          stream = stream ∙ has.stream;
+          on = λ m. absurd (cc);
+          list = λ o.
+              let ends : is_open (standing_of p new.core.past now.run.stream) ≡ false = subst (λ (u : ℕ). is_open (standing_of p new.core.past u) ≡ false) (sym stream) (subst (λ (g : List Event). is_open (standing_of p g s) ≡ false) (sym past) (lost_ends p h s (Error error) found)) in
+              absurd (cc);
+          all = all_now met;
+          results = results_now;
+          same = ap (ordered p) (past ∙ ap (λ (t : ℕ). Lost t (Error error) found ∷ h) has.stream) ∙ ap (λ (k : Known). k.ordered) (known_lost p h 1 (Error error) found);
+        }
+
+    stepped_over : (is_open (standing_of p h s) ≡ true → ⊥) → Same house new → now ≡ run → HasStepped p house new now false
+    stepped_over over same is =
+        let stream : now.run.stream ≡ s = ap (λ (o : OutData Side Note). o.run.stream) is in
+        record {
+          stream = stream ∙ has.stream;
+          on = λ m. absurd (cc);
+          list = λ o. absurd (over (subst (λ (u : ℕ). is_open (standing_of p h u) ≡ true) stream (subst (λ (g : List Event). is_open (standing_of p g now.run.stream) ≡ true) same.past o)));
+          all = all_now (ap (λ (o : OutData Side Note). o.note) is ∙ has.met);
+          results = results_now;
+          same = ap (ordered p) same.past;
+        }
+
+    -- whatever was answered
+    pub stepped : (next : Next)
+        → MatchNext next (λ kept. (is_open (standing_of p h s) ≡ true) × IsOk (verdict_at p h s found) × (kept ≡ keeps p h s (asked_by p s found (world p h)))) (λ error. (is_open (standing_of p h s) ≡ true) × (verdict_at p h s found ≡ Err error))
+        ((standing_of p h s).lost ≡ true) (((standing_of p h s).lost ≡ false) × ((standing_of p h s).closed ≡ true))
+        → MatchNext next (λ kept. new.core.past ≡ Step s found ∷ h) (λ error. new.core.past ≡ Lost s (Error error) found ∷ h) (Same house new) (Same house new)
+        → MatchNext next (λ kept. IsMovedBy run.run now.run found kept × IsRunOf p new.core.past now.run) (λ error. now.run ≡ run.run) (now ≡ run) (now ≡ run)
+        → MatchNext next (λ kept. now.note ≡ None) (λ error. now.note ≡ None) (Unit {0}) (Unit {0})
+        → HasStepped p house new now (goes_further next)
+    stepped More cause event moved met = stepped_done false event moved.0 met
+    stepped Paused cause event moved met = stepped_done true event moved.0 met
+    stepped FlushEnd cause event moved met = stepped_done false event moved.0 met
+    stepped (Invalid error) cause event moved met = stepped_lost error event moved met
+    stepped nexts.Lost cause event moved met = stepped_over (λ o. not_lost (standing_of p h s) o cause) event moved
+    stepped Closed cause event moved met = stepped_over (λ o. not_closed (standing_of p h s) o cause.1) event moved

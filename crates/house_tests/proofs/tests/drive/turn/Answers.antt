@@ -1,0 +1,74 @@
+use Rattle.std.proofs.Common.{sym, ap, subst, ◌∙◌}
+use Rattle.sync_core.specs.Standing.{is_open}
+use Rattle.gpu_journal.specs.Waits.{standing_of}
+use Rattle.gpu_house.specs.Changes.{ResultsBelong}
+use Rattle.house_tests.specs.Alone.{ordered}
+use Rattle.house_tests.proofs.Belonging.{back_home}
+use Rattle.house_tests.proofs.Turning.{HasStepped, fetched, stepped, finish_orders, goes_further}
+use Rattle.house_tests.proofs.tests.drive.turn.Given.{Over}
+use Rattle.house_tests.proofs.tests.drive.turn.Goals as goal
+
+pub returns-then-at_end-clause-ordered : goal.returns-then-at_end-clause-ordered
+returns-then-at_end-clause-ordered g c =
+    let p = g.N.Naming.plans in
+    let run = c.args.run.run in
+    let past = c.args.house.now.core.past in
+    finish_orders p past c.finish.new.self.core.past run.stream run.order (is_open (standing_of p past run.stream)) c.requires.stream c.finish.ensures.event c.finish.ensures.over
+
+-- a run that goes on
+has-More : (g : Over) (c : goal.In-More g) → HasStepped g.P.ServiceSide.belongs g.P.ServiceSide.note_belongs g.P.ServiceSide.results_belong g.P.ServiceSide.side c.args.words.now g.N.Naming.plans c.args.house.now c.step.new.self c.step.new.run (goes_further c.in_ok-step.field-0)
+has-More g c =
+    let e = c.in_ok-fetched.ensures in
+    let t = c.in_ok-step.ensures in
+    let found = c.in_ok-fetched.fetched.words in
+    let has = fetched g.P.ServiceSide.belongs g.P.ServiceSide.note_belongs g.P.ServiceSide.results_belong g.P.ServiceSide.side c.args.words.now c.args.house.now c.args.run c.fetch.new.self found c.requires e.run e.met e.grows e.belongs e.notes in
+    stepped g.P.ServiceSide.belongs g.P.ServiceSide.note_belongs g.P.ServiceSide.results_belong g.P.ServiceSide.side c.args.words.now g.N.Naming.plans c.args.house.now c.step.new.self c.fetch.new.self c.step.new.run found has t.slots t.results t.still t.list
+    c.in_ok-step.field-0 t.cause t.event t.run t.met
+
+pub returns-in-More-clause-left : goal.returns-in-More-clause-left
+returns-in-More-clause-left g c = (has-More g c).on (ap goes_further c.in-More.is)
+
+pub returns-in-More-clause-ordered : goal.returns-in-More-clause-ordered
+returns-in-More-clause-ordered g c = (has-More g c).same
+
+has-FlushEnd : (g : Over) (c : goal.In-FlushEnd g) → HasStepped g.P.ServiceSide.belongs g.P.ServiceSide.note_belongs g.P.ServiceSide.results_belong g.P.ServiceSide.side c.args.words.now g.N.Naming.plans c.args.house.now c.step.new.self c.step.new.run (goes_further c.in_ok-step.field-0)
+has-FlushEnd g c =
+    let e = c.in_ok-fetched.ensures in
+    let t = c.in_ok-step.ensures in
+    let found = c.in_ok-fetched.fetched.words in
+    let has = fetched g.P.ServiceSide.belongs g.P.ServiceSide.note_belongs g.P.ServiceSide.results_belong g.P.ServiceSide.side c.args.words.now c.args.house.now c.args.run c.fetch.new.self found c.requires e.run e.met e.grows e.belongs e.notes in
+    stepped g.P.ServiceSide.belongs g.P.ServiceSide.note_belongs g.P.ServiceSide.results_belong g.P.ServiceSide.side c.args.words.now g.N.Naming.plans c.args.house.now c.step.new.self c.fetch.new.self c.step.new.run found has t.slots t.results t.still t.list
+    c.in_ok-step.field-0 t.cause t.event t.run t.met
+
+pub returns-in-FlushEnd-clause-left : goal.returns-in-FlushEnd-clause-left
+returns-in-FlushEnd-clause-left g c = (has-FlushEnd g c).on (ap goes_further c.in-FlushEnd.is)
+
+pub returns-in-FlushEnd-clause-ordered : goal.returns-in-FlushEnd-clause-ordered
+returns-in-FlushEnd-clause-ordered g c = (has-FlushEnd g c).same
+
+-- a run that goes back
+pub back-requires : goal.back-requires
+back-requires g c = record {
+  list =
+      (let e = c.in_ok-fetched.ensures in
+      let t = c.in_ok-step.ensures in
+      let found = c.in_ok-fetched.fetched.words in
+      let has = fetched g.P.ServiceSide.belongs g.P.ServiceSide.note_belongs g.P.ServiceSide.results_belong g.P.ServiceSide.side c.args.words.now c.args.house.now c.args.run c.fetch.new.self found c.requires e.run e.met e.grows e.belongs e.notes in
+      (stepped g.P.ServiceSide.belongs g.P.ServiceSide.note_belongs g.P.ServiceSide.results_belong g.P.ServiceSide.side c.args.words.now g.N.Naming.plans c.args.house.now c.step.new.self c.fetch.new.self c.step.new.run found has t.slots t.results t.still t.list
+      c.in_ok-step.field-0 t.cause t.event t.run t.met).list);
+}
+
+pub returns-in_default : goal.returns-in_default
+returns-in_default g c =
+    let e = c.in_ok-fetched.ensures in
+    let t = c.in_ok-step.ensures in
+    let found = c.in_ok-fetched.fetched.words in
+    let has = fetched g.P.ServiceSide.belongs g.P.ServiceSide.note_belongs g.P.ServiceSide.results_belong g.P.ServiceSide.side c.args.words.now c.args.house.now c.args.run c.fetch.new.self found c.requires e.run e.met e.grows e.belongs e.notes in
+    let left = stepped g.P.ServiceSide.belongs g.P.ServiceSide.note_belongs g.P.ServiceSide.results_belong g.P.ServiceSide.side c.args.words.now g.N.Naming.plans c.args.house.now c.step.new.self c.fetch.new.self c.step.new.run found has t.slots t.results t.still t.list
+    c.in_ok-step.field-0 t.cause t.event t.run t.met in
+    let b = c.back.ensures in
+    record {
+      left = back_home g.P.ServiceSide.belongs g.P.ServiceSide.note_belongs g.P.ServiceSide.results_belong c.args.words.now c.step.new.self c.back.new.self c.step.new.run.run.stream c.step.new.run.side c.step.new.run.note left.stream left.all
+          (subst (λ l. ResultsBelong g.P.ServiceSide.results_belong c.args.words.now l 1) (sym b.results) left.results) b.slots;
+      ordered = ap (ordered g.N.Naming.plans) b.past ∙ left.same;
+    }

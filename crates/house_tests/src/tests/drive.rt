@@ -1,0 +1,104 @@
+ghost use Rattle.std.specs.Prelude.{◌≡◌, ◌+◌, ◌<◌, length, IfOk, IfSome, OnOk, MatchOption};
+ghost use Rattle.gpu_plan.specs.Plans.{plan_of};
+ghost use Rattle.gpu_plan.specs.Passes.{flushes};
+ghost use Rattle.gpu_house.specs.Slots.{slot_at, mark_of};
+ghost use Rattle.house_tests.specs.Alone.{ordered, IsHome, IsOut};
+
+use gpu_fetch::ServiceSide;
+use gpu_house::{House, Naming, Next, Run};
+use gpu_word::Memory;
+use std::test::Fail;
+use wait_hooks::Hook;
+
+/// A flush of these tests has fewer commands.
+const MOST_TURNS: u32 = 16;
+
+// A flush of the one stream is ordered, with its note.
+#[tactic(auto, using(crate::proofs::Turning::order_orders))]
+pub fn order<N: Naming, P: ServiceSide, H: Hook>(
+    house: &mut House<N, P, H>,
+    words: &P::Words,
+    note: P::Note,
+) -> Result<u32, Fail>
+    requires one { length N.plans.plans ≡ 1 }
+    requires home { IsHome P.belongs P.note_belongs P.results_belong words.now house.old }
+    requires next { ordered N.plans house.old.core.past < flushes (plan_of N.plans 1).actions }
+    requires mark { P.mark note ≡ mark_of (plan_of N.plans 1) (ordered N.plans house.old.core.past) }
+    requires belongs { IfSome (slot_at house.old.slots 1).side (λ side. P.note_belongs side words.now note) }
+    ensures home { OnOk result (IsHome P.belongs P.note_belongs P.results_belong words.now house.new) }
+    ensures ordered { OnOk result (ordered N.plans house.new.core.past ≡ ordered N.plans house.old.core.past + 1) }
+{
+    let _ = words;
+    match house.order(1, note) {
+        Ok(number) => Ok(number),
+        Err(_) => Err("memory is ample".into()),
+    }
+}
+
+// A run takes one command of its flush, or finishes it. It is given back where it goes on.
+fn turn<N: Naming, P: ServiceSide, H: Hook>(
+    house: &mut House<N, P, H>,
+    words: &P::Words,
+    mut run: Run<N, P>,
+) -> Result<Option<Run<N, P>>, Memory>
+    requires { IsOut P.belongs P.note_belongs P.results_belong P.side words.now house.old run }
+    ensures left { IfOk result (λ left. MatchOption left
+        (IsHome P.belongs P.note_belongs P.results_belong words.now house.new)
+        (IsOut P.belongs P.note_belongs P.results_belong P.side words.now house.new)) }
+    ensures ordered { OnOk result (ordered N.plans house.new.core.past ≡ ordered N.plans house.old.core.past) }
+{
+    if run.at_end() {
+        house.finish(run, words);
+        return Ok(None);
+    }
+    let fetched = run.fetch(words)?;
+    match house.step(&mut run, words, fetched)? {
+        Next::More => Ok(Some(run)),
+        Next::FlushEnd => Ok(Some(run)),
+        _ => {
+            house.back(run);
+            Ok(None)
+        }
+    }
+}
+
+// A run goes on until it is at home again.
+fn run_out<N: Naming, P: ServiceSide, H: Hook>(
+    house: &mut House<N, P, H>,
+    words: &P::Words,
+    run: Run<N, P>,
+) -> Result<(), Fail>
+    requires { IsOut P.belongs P.note_belongs P.results_belong P.side words.now house.old run }
+    ensures home { OnOk result (IsHome P.belongs P.note_belongs P.results_belong words.now house.new) }
+    ensures ordered { OnOk result (ordered N.plans house.new.core.past ≡ ordered N.plans house.old.core.past) }
+{
+    let mut out = run;
+    for _turn in 0..MOST_TURNS {
+        match turn(house, words, out)? {
+            Some(on) => out = on,
+            None => return Ok(()),
+        }
+    }
+    Err("a short flush".into())
+}
+
+// The one stream runs a flush, where it has one that can run.
+#[tactic(auto, using(crate::proofs::Belonging::taken))]
+pub fn run<N: Naming, P: ServiceSide, H: Hook>(
+    house: &mut House<N, P, H>,
+    words: &P::Words,
+) -> Result<bool, Fail>
+    requires { IsHome P.belongs P.note_belongs P.results_belong words.now house.old }
+    ensures home { OnOk result (IsHome P.belongs P.note_belongs P.results_belong words.now house.new) }
+    ensures ordered { OnOk result (ordered N.plans house.new.core.past ≡ ordered N.plans house.old.core.past) }
+{
+    let run = match house.take() {
+        Some(run) => run,
+        None => return Ok(false),
+    };
+    if run.stream() != 1 {
+        return Err("one stream".into());
+    }
+    run_out(house, words, run)?;
+    Ok(true)
+}

@@ -1,0 +1,31 @@
+use gpu_house::{Doing, Report};
+use gpu_journal::{End, Event, journal_text, picture_text, stream_text};
+use std::alloc::Global;
+use std::test::Fail;
+use wait_hooks::Marker;
+
+// How the one stream of a run ended, if it has.
+fn end_of(doing: Doing, events: &[Event]) -> Option<End> {
+    match doing {
+        Doing::Open => None,
+        Doing::AllDone => Some(End::Done),
+        Doing::Closed => Some(End::Closed),
+        Doing::Lost => match events.last() {
+            Some(Event::Lost { why, .. }) => Some(End::Lost(*why)),
+            _ => None,
+        },
+    }
+}
+
+// The output of a run of one stream: its journal, the images with their texels, and how the stream ended.
+pub fn output_of(alloc: Global, report: &Report<Marker>) -> Result<Vec<u8>, Fail> {
+    if report.plans().count() == 0 {
+        return Err("a stream".into());
+    }
+    let events = report.journal().events();
+    let end = end_of(report.state(1), events).ok_or("an ended stream")?;
+    let mut text = journal_text(alloc, events)?;
+    text.extend_from_slice(&picture_text(alloc, report.images())?)?;
+    text.extend_from_slice(&stream_text(alloc, 1, report.stream(1), end)?)?;
+    Ok(text)
+}
