@@ -40,7 +40,7 @@ places_in memory facts h = let e : nat_lt facts.put facts.areas.ring ≡ true = 
 
 -- ---- the values of words that stand at places in a row
 
-same_place : (place value : ℕ) (words : List (ℕ × ℕ)) → value_in ((place, value) ∷ words) place ≡ value
+pub same_place : (place value : ℕ) (words : List (ℕ × ℕ)) → value_in ((place, value) ∷ words) place ≡ value
 same_place place value words = let e : (place == place) ≡ true = grind (arith, nat_tests) in rw e refl
 
 other_place : (place value p : ℕ) (words : List (ℕ × ℕ)) → place < p → value_in ((place, value) ∷ words) p ≡ value_in words p
@@ -53,7 +53,7 @@ later_places place value p (suc n) words h =
     let rest = later_places place value (p + 1) n words (omega arith) in
     cc
 
-values_at : (place : ℕ) (values : List ℕ) (more : List (ℕ × ℕ)) → map (value_in (words_at place values ++ more)) (range_with_len place (length values)) ≡ values
+pub values_at : (place : ℕ) (values : List ℕ) (more : List (ℕ × ℕ)) → map (value_in (words_at place values ++ more)) (range_with_len place (length values)) ≡ values
 values_at place [] more = refl
 values_at place (value ∷ values) more =
     let first = same_place place value (words_at (place + 1) values ++ more) in

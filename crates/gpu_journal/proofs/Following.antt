@@ -142,13 +142,13 @@ turn_of p events k s words e lt here step legal =
     record { known = known_of_left p (reverse (take k events)) s now.1 now.0.rule_4; obeys = now.0; legal = now.1 }
 
 -- what the code finds at a stream's place is the stream's
-state_here : (states : List State) (s : ℕ) (x : State) → 1 ≤ s → s ≤ length states → x ≡ get_or states (s - 1) x → x ≡ state_in states s
+pub state_here : (states : List State) (s : ℕ) (x : State) → 1 ≤ s → s ≤ length states → x ≡ get_or states (s - 1) x → x ≡ state_in states s
 state_here states zero x some within at = absurd (omega arith)
 state_here states (suc k) x some within at =
     let i : suc k - 1 ≡ k = omega arith in
     get_or_read_under states k (length states) x first_state (at ∙ ap (λ (i : ℕ). get_or states i x) i) (omega arith) refl
 
-plan_here : (p : PlansData) (s : ℕ) (x : PlanData) → 1 ≤ s → slice_get p.plans (s - 1) ≡ Some x → plan_of p s ≡ x
+pub plan_here : (p : PlansData) (s : ℕ) (x : PlanData) → 1 ≤ s → slice_get p.plans (s - 1) ≡ Some x → plan_of p s ≡ x
 plan_here p zero x some at = absurd (omega arith)
 plan_here p (suc k) x some at =
     let i : suc k - 1 ≡ k = omega arith in

@@ -54,10 +54,10 @@ words_end [] x = refl
 words_end (word ∷ words) x = refl
 
 -- the error of a number
-abbrev error_of : ℕ → CmdError
+abbrev pub error_of : ℕ → CmdError
 error_of code = if code == 1 then InvalidSize else (if code == 2 then OutOfBounds else (if code == 3 then UnknownCommand else (if code == 4 then InvalidArguments else Quota)))
 
-error_back : (error : CmdError) → error_of (code_of error) ≡ error
+pub error_back : (error : CmdError) → error_of (code_of error) ≡ error
 error_back InvalidSize = refl
 error_back OutOfBounds = refl
 error_back UnknownCommand = refl

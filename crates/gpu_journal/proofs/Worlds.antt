@@ -4,6 +4,7 @@ use Rattle.std.specs.Prelude.{◌==◌, if◌then◌else◌}
 use Rattle.std.proofs.lemmas.Bool.Decides.{nat_tests}
 use Rattle.gpu_cmd.specs.declared.command.Command.{Command}
 use Rattle.gpu_cmd.specs.declared.error.CmdError.{CmdError}
+use Rattle.gpu_cmd.specs.declared.areas.Areas.{Areas}
 use Rattle.gpu_cmd.specs.Lawful.{IsLawfulAreas}
 use Rattle.gpu_store.specs.declared.op.Answer.{Answer}
 use Rattle.gpu_store.specs.declared.op.Answer.TheVariants.{Done, InvalidValue, InvalidOperation, OutOfTexels}
@@ -67,11 +68,9 @@ one_more InvalidValue errors = omega arith
 one_more InvalidOperation errors = omega arith
 one_more OutOfTexels errors = omega arith
 
-after_step : (p : PlansData) (g : List Event) (s : ℕ) (words : List (ℕ × ℕ)) (answer : Answer) → IsLawfulAreas (plan_of p s).areas → IsWithin (state_of p g s) → Obeys p g (Step s words) → IsWithin (noted answer (stepped (plan_of p s).areas words (state_of p g s)))
-after_step p g s words answer lawful w o =
-    let state = state_of p g s in
-    let areas = (plan_of p s).areas in
-    let taken = step_taken p g s words lawful w.bounded o in
+-- a step that is taken keeps them so
+pub within_stepped : (areas : Areas) (words : List (ℕ × ℕ)) (state : State) (answer : Answer) → IsLawfulAreas areas → IsWithin state → IsTaken areas words state → IsWithin (noted answer (stepped areas words state))
+within_stepped areas words state answer lawful w taken =
     let next = step_is_bounded areas words state lawful w.bounded taken in
     let some : 1 ≤ length words = (finds areas words state _ _ lawful w.bounded taken.accepted).some in
     let errors : total (stepped areas words state).errors ≡ total state.errors = ap total (stepped_errors areas words state) in
@@ -81,6 +80,9 @@ after_step p g s words answer lawful w o =
       bounded = record { fetched = next.fetched; entries = next.entries };
       few = omega (arith, w.few);
     }
+
+after_step : (p : PlansData) (g : List Event) (s : ℕ) (words : List (ℕ × ℕ)) (answer : Answer) → IsLawfulAreas (plan_of p s).areas → IsWithin (state_of p g s) → Obeys p g (Step s words) → IsWithin (noted answer (stepped (plan_of p s).areas words (state_of p g s)))
+after_step p g s words answer lawful w o = within_stepped (plan_of p s).areas words (state_of p g s) answer lawful w (step_taken p g s words lawful w.bounded o)
 
 own_within : (p : PlansData) (h : List Event) (s : ℕ) (e : Event) → IsLawfulAreas (plan_of p s).areas → IsWithin (state_of p h s) → Obeys p h e → stream_in e ≡ s → IsWithin (known_after p e (world p h) (known p h s)).state
 own_within p h s (Order t n c) lawful before o same = before

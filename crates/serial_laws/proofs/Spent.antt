@@ -101,7 +101,7 @@ spent_stepped actions ring k l x y steps events same o d less falls sp =
     let second : l.ordered * ring ≡ k.ordered * ring = ap (λ n. n * ring) o in
     record { stepped = omega (arith, a, falls, at, first); inside = omega (arith, a, falls, most, second); counted = omega (arith, b, c, o, d) }
 
-asked_open : (p : PlansData) (effect : Effect) (n : ℕ) (x : Standing) → is_open (moved_by (deed_asked p effect) n x) ≡ is_open x
+pub asked_open : (p : PlansData) (effect : Effect) (n : ℕ) (x : Standing) → is_open (moved_by (deed_asked p effect) n x) ≡ is_open x
 asked_open p (Release r) n x = refl
 asked_open p (Wait t r) n x = refl
 asked_open p (WaitName t r) n x = refl
@@ -135,7 +135,7 @@ lost_open : (p : PlansData) (h : List Event) (s : ℕ) (why : Why) (words : List
 lost_open p h s (Error error) words f o = (open_of_left (plan_of p s).actions (place_of h) (known p h s) (standing_of p h s) f o.rule_4).0
 lost_open p h s Memory words f o = o.rule_11.0.stays
 
-closed_now : (b : Bool) → (b && false) ≡ false
+pub closed_now : (b : Bool) → (b && false) ≡ false
 closed_now true = refl
 closed_now false = refl
 

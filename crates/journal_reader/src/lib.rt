@@ -1,0 +1,17 @@
+//! Reads journal texts.
+#![tactic(auto)]
+
+mod event;
+mod fault;
+mod laws;
+mod number;
+mod pieces;
+mod reading;
+mod word;
+
+pub use fault::JournalFault;
+pub use laws::journal_texts_are_told_apart;
+pub use reading::read_journal;
+
+#[cfg(test)]
+mod tests;

@@ -1,0 +1,62 @@
+ghost use Rattle.std.specs.Prelude.{◌≡◌, ◌+◌, ◌≤◌, ◌<◌, ◌∷◌, ◌++◌, length, take, drop, position, IfOk, IfErr, IfSome, MatchOption};
+ghost use Rattle.script_words.specs.Text.{ends_line};
+ghost use Rattle.journal_reader.specs.Reading.{HasNoFeed, IsJournal, IsFault};
+
+use crate::event::event;
+use crate::fault::JournalFault;
+use gpu_journal::Event;
+use std::alloc::Global;
+
+// The place of the first line feed.
+fn line_end(text: &[u8]) -> Option<usize>
+    ensures { result ≡ position ends_line text.now }
+{
+    text.iter().position(|byte| *byte == b'\n')
+}
+
+// What stands before a byte, and behind it.
+fn cut_at(text: &[u8], at: usize) -> (&[u8], &[u8])
+    requires { at < length text.now }
+    ensures before { result.0.now ≡ take at text.now }
+    ensures behind { result.1.now ≡ drop (at + 1) text.now }
+{
+    let (front, back) = text.split_at(at);
+    let (_, behind) = back.split_at(1);
+    (front, behind)
+}
+
+// The first line, without its line feed, and what stands behind it.
+fn first_line(text: &[u8]) -> Option<(&[u8], &[u8])>
+    ensures cut { IfSome result (λ cut. text.now ≡ cut.0.now ++ 10 ∷ cut.1.now) }
+    ensures first { MatchOption result (HasNoFeed text.now) (λ cut. HasNoFeed cut.0.now) }
+{
+    match line_end(text) {
+        Some(end) => Some(cut_at(text, end)),
+        None => None,
+    }
+}
+
+/// The events of a journal text, which has at most 16,777,216 bytes.
+///
+/// Refused: the first line that is no event line in its exact spelling with a line feed, of numbers of 32 bits.
+pub fn read_journal(alloc: Global, text: &[u8]) -> Result<Vec<Event>, JournalFault>
+    requires { length text.now ≤ 16777216 }
+    ensures ok { IfOk result (λ events. IsJournal text.now events.items) }
+    ensures err { IfErr result (λ fault. IsFault text.now fault) }
+{
+    let mut events = Vec::new(alloc);
+    let mut room = Vec::new(alloc);
+    let mut rest = text;
+    while !rest.is_empty() {
+        let line = events.len() as u32 + 1;
+        let Some((front, behind)) = first_line(rest) else {
+            return Err(JournalFault::Refused { line });
+        };
+        let Some(said) = event(alloc, &mut room, front)? else {
+            return Err(JournalFault::Refused { line });
+        };
+        events.push(said)?;
+        rest = behind;
+    }
+    Ok(events)
+}

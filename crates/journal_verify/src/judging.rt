@@ -1,0 +1,180 @@
+//! The rules of each event, and then what it does.
+ghost use Rattle.std.specs.Prelude.{◌≡◌, ◌<◌, ◌^◌, length, None, IfOk, OnOk};
+ghost use Rattle.journal_verify.specs.Faults.{order_fault, step_fault, lost_fault, fetch_outcome, finish_fault, memory_fault, close_fault, fault_of};
+ghost use Rattle.journal_verify.specs.Entered.{FitsPlans, HasCounted, HasEntered};
+
+use crate::judge::Judge;
+use crate::outcome::Outcome;
+use gpu_cmd::CmdError;
+use gpu_journal::{Event, Why};
+use gpu_plan::Plans;
+use gpu_word::Memory;
+
+impl Judge {
+    // Rules 4, 5 and 10.
+    fn finish_fault(&self, plans: &Plans, s: u32, n: u32) -> Option<u32>
+        requires fits { FitsPlans plans.now self.now }
+        ensures { result ≡ finish_fault plans.now self.now s n }
+    {
+        match self.core.front(s) {
+            Some(front) if front == n => {}
+            _ => return Some(4),
+        }
+        if self.core.blocked(s) {
+            return Some(5);
+        }
+        let facts = self.facts(plans, s);
+        if facts.get != facts.put {
+            return Some(10);
+        }
+        None
+    }
+
+    // Rule 12.
+    fn close_fault(&self, plans: &Plans, s: u32) -> Option<u32>
+        requires fits { FitsPlans plans.now self.now }
+        ensures { result ≡ close_fault plans.now self.now s }
+    {
+        match self.watch(s) {
+            Some(watch) if watch.may_close(plans.plan(s).actions()) => None,
+            _ => Some(12),
+        }
+    }
+
+    // An order: rules 1 to 3.
+    fn order(&mut self, plans: &Plans, s: u32, n: u32, c: u32) -> Result<Option<u32>, Memory>
+        requires fits { FitsPlans plans.now self.old }
+        requires counted { HasCounted 4294967294 self.old }
+        ensures fault { IfOk result (λ fault. fault ≡ order_fault self.old s n c) }
+        ensures entered { IfOk result (λ fault. fault ≡ None → HasEntered plans.now (Event.Order s n c) self.old self.new) }
+        ensures fits { OnOk result (FitsPlans plans.now self.new) }
+    {
+        if let Some(rule) = self.order_fault(s, n, c) {
+            return Ok(Some(rule));
+        }
+        self.enter_order(plans, s, c)?;
+        Ok(None)
+    }
+
+    // A step: rules 4 to 9.
+    fn step(
+        &mut self,
+        plans: &Plans,
+        s: u32,
+        words: &[(u32, u32)],
+        values: &mut Vec<u32>,
+    ) -> Result<Option<u32>, Memory>
+        requires fits { FitsPlans plans.now self.old }
+        ensures fault { IfOk result (λ fault. fault ≡ step_fault (fetch_outcome plans.now self.old s words.now)) }
+        ensures entered { IfOk result (λ fault. fault ≡ None → HasEntered plans.now (Event.Step s words.now) self.old self.new) }
+        ensures fits { OnOk result (FitsPlans plans.now self.new) }
+    {
+        match self.fetch_outcome(plans, s, words, values)? {
+            Outcome::Broken(rule) => Ok(Some(rule)),
+            Outcome::Refused(_) => Ok(Some(9)),
+            Outcome::Valid(command) => {
+                self.enter_step(plans, s, &command, words)?;
+                Ok(None)
+            }
+        }
+    }
+
+    // A loss by an error: rules 4 to 9.
+    fn lose(
+        &mut self,
+        plans: &Plans,
+        s: u32,
+        error: CmdError,
+        words: &[(u32, u32)],
+        values: &mut Vec<u32>,
+    ) -> Result<Option<u32>, Memory>
+        requires fits { FitsPlans plans.now self.old }
+        ensures fault { IfOk result (λ fault. fault ≡ lost_fault error (fetch_outcome plans.now self.old s words.now)) }
+        ensures entered { IfOk result (λ fault. fault ≡ None → HasEntered plans.now (Event.Lost s (Why.Error error) words.now) self.old self.new) }
+        ensures fits { OnOk result (FitsPlans plans.now self.new) }
+    {
+        match self.fetch_outcome(plans, s, words, values)? {
+            Outcome::Broken(rule) => Ok(Some(rule)),
+            Outcome::Valid(_) => Ok(Some(9)),
+            Outcome::Refused(other) => {
+                if other.code() != error.code() {
+                    return Ok(Some(9));
+                }
+                self.enter_loss(plans, s);
+                Ok(None)
+            }
+        }
+    }
+
+    // A finish: rules 4, 5 and 10.
+    fn finish(&mut self, plans: &Plans, s: u32, n: u32) -> Result<Option<u32>, Memory>
+        requires fits { FitsPlans plans.now self.old }
+        requires counted { HasCounted 4294967294 self.old }
+        ensures fault { IfOk result (λ fault. fault ≡ finish_fault plans.now self.old s n) }
+        ensures entered { IfOk result (λ fault. fault ≡ None → HasEntered plans.now (Event.Finish s n) self.old self.new) }
+        ensures fits { OnOk result (FitsPlans plans.now self.new) }
+    {
+        if let Some(rule) = self.finish_fault(plans, s, n) {
+            return Ok(Some(rule));
+        }
+        self.enter_finish(plans, s)?;
+        Ok(None)
+    }
+
+    // A loss for want of memory: rule 11.
+    fn lose_for_memory(&mut self, plans: &Plans, s: u32, words: &[(u32, u32)]) -> Option<u32>
+        requires fits { FitsPlans plans.now self.old }
+        ensures fault { result ≡ memory_fault self.old s words.now }
+        ensures entered { result ≡ None → HasEntered plans.now (Event.Lost s Why.Memory words.now) self.old self.new }
+        ensures fits { FitsPlans plans.now self.new }
+    {
+        if !self.is_open(s) || !words.is_empty() {
+            return Some(11);
+        }
+        self.enter_loss(plans, s);
+        None
+    }
+
+    // A close: rule 12.
+    fn close(&mut self, plans: &Plans, s: u32) -> Option<u32>
+        requires fits { FitsPlans plans.now self.old }
+        ensures fault { result ≡ close_fault plans.now self.old s }
+        ensures entered { result ≡ None → HasEntered plans.now (Event.Close s) self.old self.new }
+        ensures fits { FitsPlans plans.now self.new }
+    {
+        if let Some(rule) = self.close_fault(plans, s) {
+            return Some(rule);
+        }
+        self.enter_close(plans, s);
+        None
+    }
+
+    /// The first rule that an event breaks. Where it breaks none, it is taken up. `values` is memory to work in.
+    pub(crate) fn take(
+        &mut self,
+        plans: &Plans,
+        event: &Event,
+        values: &mut Vec<u32>,
+    ) -> Result<Option<u32>, Memory>
+        requires fits { FitsPlans plans.now self.old }
+        requires counted { HasCounted 4294967294 self.old }
+        ensures fault { IfOk result (λ fault. fault ≡ fault_of plans.now self.old event.now) }
+        ensures entered { IfOk result (λ fault. fault ≡ None → HasEntered plans.now event.now self.old self.new) }
+        ensures fits { OnOk result (FitsPlans plans.now self.new) }
+    {
+        match event {
+            Event::Order {
+                stream,
+                order,
+                place,
+            } => self.order(plans, *stream, *order, *place),
+            Event::Step { stream, words } => self.step(plans, *stream, words.as_slice(), values),
+            Event::Finish { stream, order } => self.finish(plans, *stream, *order),
+            Event::Lost { stream, why, words } => match why {
+                Why::Error(error) => self.lose(plans, *stream, *error, words.as_slice(), values),
+                Why::Memory => Ok(self.lose_for_memory(plans, *stream, words.as_slice())),
+            },
+            Event::Close { stream } => Ok(self.close(plans, *stream)),
+        }
+    }
+}

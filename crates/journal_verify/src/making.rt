@@ -1,0 +1,81 @@
+//! What is kept before any event.
+ghost use Rattle.std.specs.Prelude.{◌≡◌, false, [], length, replicate, IsTrue, IfOk};
+ghost use Rattle.stream_state.specs.State.{first_state};
+ghost use Rattle.journal_verify.specs.Faults.{AreSettled};
+ghost use Rattle.journal_verify.specs.Entered.{FitsPlans, HasCounted};
+ghost use Rattle.journal_verify.specs.Follows.{AreFirst, Follows};
+
+use crate::judge::Judge;
+use crate::watch::Watch;
+use gpu_plan::Plans;
+use gpu_store::Images;
+use gpu_word::Memory;
+use std::alloc::{AllocError, Global};
+use stream_state::StreamState;
+use sync_core::SyncCore;
+
+// The states of so many streams before any event.
+fn first_states(alloc: Global, streams: u32) -> Result<Vec<StreamState>, AllocError>
+    ensures { IfOk result (λ states. states.items ≡ replicate streams first_state) }
+{
+    let mut states = Vec::with_capacity(alloc, streams as usize)?;
+    for _ in 0..streams {
+        states.push(StreamState::make(alloc))?;
+    }
+    Ok(states)
+}
+
+// What is kept of each stream before any event.
+fn first_watches(alloc: Global, plans: &Plans) -> Result<Vec<Watch>, Memory>
+    ensures count { IfOk result (λ watches. length watches.items ≡ length plans.now.plans) }
+    ensures first { IfOk result (λ watches. AreFirst plans.now watches.items) }
+{
+    let mut watches = Vec::new(alloc);
+    for index in 0..plans.count() {
+        let watch = Watch::make(alloc, plans.plan(index + 1))?;
+        watches.push(watch)?;
+    }
+    Ok(watches)
+}
+
+impl Judge {
+    /// Before any event.
+    pub(crate) fn make(alloc: Global, plans: &Plans) -> Result<Judge, Memory>
+        ensures follows { IfOk result (λ judge. Follows plans.now [] judge) }
+        ensures counted { IfOk result (λ judge. HasCounted 0 judge) }
+    {
+        let count = plans.count();
+        let core = SyncCore::make(alloc, count)?;
+        let states = first_states(alloc, count)?;
+        let watches = first_watches(alloc, plans)?;
+        Ok(Judge {
+            drawn: 0,
+            core,
+            images: Images::make(alloc),
+            states,
+            watches,
+        })
+    }
+
+    /// Whether each stream is lost or closed, or done.
+    pub(crate) fn is_complete(&self, plans: &Plans) -> bool
+        requires { FitsPlans plans.now self.now }
+        ensures settled { IsTrue result → AreSettled plans.now self.now.watches }
+        ensures open { result ≡ false → AreSettled plans.now self.now.watches → ⊥ }
+    {
+        for index in 0..plans.count() {
+            let watch = &self.watches[index as usize];
+            if !watch.is_settled(plans.plan(index + 1)) {
+                return false;
+            }
+        }
+        true
+    }
+
+    /// The images.
+    pub(crate) fn into_images(self) -> Images
+        ensures { result ≡ self.images }
+    {
+        self.images
+    }
+}

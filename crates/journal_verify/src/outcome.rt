@@ -1,0 +1,12 @@
+use gpu_cmd::{CmdError, Command};
+
+/// What is found of words that were fetched.
+#[derive(Clone, Copy, Debug, PartialEq, Eq)]
+pub(crate) enum Outcome {
+    /// They break this rule first.
+    Broken(u32),
+    /// They are a valid command.
+    Valid(Command),
+    /// They have this error.
+    Refused(CmdError),
+}

@@ -1,0 +1,33 @@
+ghost use Rattle.std.specs.Prelude.{◌<◌, ◌^◌, length, IfOk};
+ghost use Rattle.journal_verify.specs.Answers.{Says};
+
+use crate::judge::Judge;
+use crate::verdict::Verdict;
+use gpu_journal::Event;
+use gpu_plan::Plans;
+use gpu_word::Memory;
+use serial_laws::plans_are_lawful;
+use std::alloc::Global;
+
+/// Whether events, the oldest first, are a legal and complete history of these plans.
+///
+/// No: exactly at the first event that breaks a rule, with the least rule that it breaks. NotComplete: exactly where all
+/// events are legal and some stream is not done. Yes: else, with the images that the history leaves.
+pub fn verify(alloc: Global, plans: &Plans, events: &[Event]) -> Result<Verdict, Memory>
+    requires { length events.now < 2 ^ 32 }
+    ensures { IfOk result (λ verdict. Says plans.now events.now verdict) }
+{
+    plans_are_lawful(plans);
+    let mut judge = Judge::make(alloc, plans)?;
+    let mut values = Vec::new(alloc);
+    for (index, event) in events.iter().enumerate() {
+        if let Some(rule) = judge.take(plans, event, &mut values)? {
+            let event = index as u32 + 1;
+            return Ok(Verdict::No { event, rule });
+        }
+    }
+    if judge.is_complete(plans) {
+        return Ok(Verdict::Yes(judge.into_images()));
+    }
+    Ok(Verdict::NotComplete)
+}

@@ -1,0 +1,198 @@
+-- The head of a journal text.
+use Rattle.std.proofs.Common.{◌≡◌, ◌≢◌, ℕ, zero, suc, ◌+◌, ◌-◌, ◌%◌, ◌/◌, ◌<◌, ◌≤◌, Bool, true, false, not, ltb, Option, Some, None, MatchOption, Bor, List, [], ◌∷◌, ◌++◌, map, length, length-append, refl, sym, ap, subst, ◌∙◌, append_assoc, arith}
+use Rattle.std.specs.Prelude.{codes, option_map, slice_get}
+use Rattle.std.specs.List.{list_all, concat, range_with_len}
+use Rattle.std.proofs.lemmas.Bool.{and_parts, ne_eqb}
+use Rattle.std.proofs.lemmas.Bool.Decides.{nat_tests}
+use Rattle.std.proofs.lemmas.List.{append-nil}
+use Rattle.std.proofs.lemmas.List.Elements.{All-nil, All-cons, All-append}
+use Rattle.gpu_cmd.specs.declared.name.Name.{Name}
+use Rattle.script_words.specs.Text.{ends_line}
+use Rattle.gpu_plan.specs.Plans.{PlanData, PlansData, plan_of}
+use Rattle.gpu_journal.specs.Digits.{digits_within, numeral, number_text}
+use Rattle.gpu_journal.specs.Lines.{journal_head, name_text}
+use Rattle.gpu_journal.specs.Output.{streams_of}
+use Rattle.gpu_journal.proofs.Following.{plan_here}
+use Rattle.journal_reader.specs.Reading.{HasNoFeed, IsFirstBad, whole_lines}
+use Rattle.verify_input.specs.Cuts.{IsLine}
+use Rattle.verify_input.specs.Found.{head_of, IsFirstOther}
+use Rattle.verify_input.proofs.Wholes.{concat_whole, few_whole, line_first}
+
+-- ---- the lines of a head are lines
+
+abbrev IsOther : ℕ → Type 0
+IsOther byte = ends_line byte ≡ false
+
+no_feed_letters : (text : List ℕ) → list_all (λ byte. not (ends_line byte)) text ≡ true → HasNoFeed text
+no_feed_letters [] e = All-nil IsOther
+no_feed_letters (byte ∷ text) e =
+    let both = and_parts (not (ends_line byte)) (list_all (λ byte. not (ends_line byte)) text) e in
+    All-cons IsOther byte text (other (ends_line byte) both.0) (no_feed_letters text both.1)
+  where
+    other : (b : Bool) → not b ≡ true → b ≡ false
+    other true e = absurd (cc)
+    other false e = refl
+
+digit_other : (digit : ℕ) → ends_line (48 + digit) ≡ false
+digit_other digit = grind (arith, nat_tests)
+
+-- one digit more, or the last
+no_feed_next : (b : Bool) (front : List ℕ) (number last : ℕ) → HasNoFeed front → HasNoFeed (elim b [ true ↦ (48 + number) ∷ [] | false ↦ front ++ (48 + last) ∷ [] ])
+no_feed_next true front number last none = All-cons IsOther (48 + number) [] (digit_other number) (All-nil IsOther)
+no_feed_next false front number last none = All-append IsOther front ((48 + last) ∷ []) none (All-cons IsOther (48 + last) [] (digit_other last) (All-nil IsOther))
+
+no_feed_digits : (count number : ℕ) → HasNoFeed (digits_within count number)
+no_feed_digits zero number = All-nil IsOther
+no_feed_digits (suc count) number = no_feed_next (ltb number 10) (digits_within count (number / 10)) number (number % 10) (no_feed_digits count (number / 10))
+
+no_feed_number : (number : ℕ) → HasNoFeed (number_text number)
+unfolding numeral
+no_feed_number number = All-cons IsOther 32 (digits_within (suc number) number) refl (no_feed_digits (suc number) number)
+
+pub head_line : IsLine journal_head
+head_line = record { line = codes "gpu-journal 2"; none = no_feed_letters (codes "gpu-journal 2") refl; is = refl }
+
+pub name_line : (stream : ℕ) (name : Name) → IsLine (name_text stream name)
+unfolding name_text
+name_line stream name = record {
+  line = codes "name" ++ number_text stream ++ number_text name.namespace ++ number_text name.id;
+  none =
+      All-append IsOther (codes "name" ++ number_text stream ++ number_text name.namespace) (number_text name.id)
+      (All-append IsOther (codes "name" ++ number_text stream) (number_text name.namespace)
+      (All-append IsOther (codes "name") (number_text stream) (no_feed_letters (codes "name") refl) (no_feed_number stream))
+      (no_feed_number name.namespace))
+      (no_feed_number name.id);
+  is = refl;
+}
+
+-- ---- a text that begins with a line, or does not
+
+other_line : (text line : List ℕ) → ((rest : List ℕ) → text ≢ line ++ rest) → IsFirstOther (line ∷ []) (whole_lines text) 0
+other_line text line none = by (whole_lines text) refl
+  where
+    by : (lines : List (List ℕ)) → whole_lines text ≡ lines → IsFirstOther (line ∷ []) lines 0
+    by [] e = tt
+    by (first ∷ lines) e = λ same. none (concat lines) (sym (concat_whole text) ∙ ap concat e ∙ ap (λ (first : List ℕ). first ++ concat lines) same)
+
+-- what a prefix that is cut off says, where it is a line
+pub stripped : (text line : List ℕ) (rest : Option (Bor (List ℕ))) → IsLine line → MatchOption rest ((behind : List ℕ) → text ≢ line ++ behind) (λ behind. text ≡ line ++ behind.now)
+    → MatchOption rest (IsFirstOther (line ∷ []) (whole_lines text) 0) (λ behind. whole_lines text ≡ line ∷ whole_lines behind.now)
+stripped text line None one none = other_line text line none
+stripped text line (Some behind) one is = ap whole_lines is ∙ line_first line behind.now one
+
+-- ---- the first line that is another
+
+-- the same lines before
+other_behind : (done heads lines : List (List ℕ)) (k : ℕ) → IsFirstOther heads lines k → IsFirstOther (done ++ heads) (done ++ lines) (length done + k)
+other_behind [] heads lines k other = let same : 0 + k ≡ k = omega arith in subst (λ k. IsFirstOther heads lines k) (sym same) other
+other_behind (line ∷ done) heads lines k other =
+    let next : suc (length done) + k ≡ suc (length done + k) = omega arith in
+    subst (λ k. IsFirstOther (line ∷ (done ++ heads)) (line ∷ (done ++ lines)) k) (sym next) (refl, other_behind done heads lines k other)
+
+-- further lines behind the first that is another
+other_before : (line : List ℕ) (heads lines : List (List ℕ)) → IsFirstOther (line ∷ []) lines 0 → IsFirstOther (line ∷ heads) lines 0
+other_before line heads [] other = tt
+other_before line heads (first ∷ lines) other = other
+
+bad_within : (lines : List (List ℕ)) (k : ℕ) → IsFirstBad lines k → k < length lines
+bad_within [] k bad = absurd bad
+bad_within (line ∷ lines) zero bad = omega arith
+bad_within (line ∷ lines) (suc k) bad = let less = bad_within lines k bad.1 in omega arith
+
+other_within : (heads lines : List (List ℕ)) (k : ℕ) → IsFirstOther heads lines k → k ≤ length lines
+other_within [] lines k other = let less = bad_within lines k other in omega arith
+other_within (head ∷ heads) [] zero other = omega arith
+other_within (head ∷ heads) [] (suc k) other = absurd other
+other_within (head ∷ heads) (line ∷ lines) zero other = omega arith
+other_within (head ∷ heads) (line ∷ lines) (suc k) other = let less = other_within heads lines k other.1 in omega arith
+
+pub bad_early : (text : List ℕ) (k : ℕ) → IsFirstBad (whole_lines text) k → k < length text
+bad_early text k bad = omega (arith, bad_within (whole_lines text) k bad, few_whole text)
+
+pub other_early : (heads : List (List ℕ)) (text : List ℕ) (k : ℕ) → IsFirstOther heads (whole_lines text) k → k ≤ length text
+other_early heads text k other = omega (arith, other_within heads (whole_lines text) k other, few_whole text)
+
+-- ---- the head, line by line
+
+abbrev pub line_of : PlansData → ℕ → List ℕ
+line_of p s = name_text s (plan_of p s).name
+
+-- the head line and the name lines of so many streams are read, and this is behind them
+pub record IsHeaded (p : PlansData) (text rest : List ℕ) (index : ℕ) : Type 0 where
+  pub done : List (List ℕ)
+  pub head : head_of p ≡ done ++ map (line_of p) (range_with_len (1 + index) (length p.plans - index))
+  pub lines : whole_lines text ≡ done ++ whole_lines rest
+  pub counted : length done ≡ index + 1
+  pub few : index + 1 + length rest ≤ length text
+
+second : (p : PlansData) → p.version ≡ 2 → head_of p ≡ journal_head ∷ map (line_of p) (streams_of p)
+second p two = rw two refl
+
+pub headed_none : (p : PlansData) (text rest : List ℕ) → p.version ≡ 2 → whole_lines text ≡ journal_head ∷ whole_lines rest → 1 + length rest ≤ length text → IsHeaded p text rest 0
+headed_none p text rest two first less =
+    let all : length p.plans - 0 ≡ length p.plans = omega arith in
+    record {
+      done = journal_head ∷ [];
+      head = second p two ∙ ap (λ n. journal_head ∷ map (line_of p) (range_with_len 1 n)) (sym all);
+      lines = first;
+      counted = refl;
+      few = omega arith;
+    }
+
+left_streams : (p : PlansData) (index : ℕ) → index < length p.plans → map (line_of p) (range_with_len (1 + index) (length p.plans - index)) ≡ line_of p (index + 1) ∷ map (line_of p) (range_with_len (1 + (index + 1)) (length p.plans - (index + 1)))
+left_streams p index more =
+    let one : length p.plans - index ≡ suc (length p.plans - (index + 1)) = omega arith in
+    let this : 1 + index ≡ index + 1 = omega arith in
+    let next : 1 + index + 1 ≡ 1 + (index + 1) = omega arith in
+    ap (λ n. map (line_of p) (range_with_len (1 + index) n)) one
+    ∙ (λ i. line_of p (this i) ∷ map (line_of p) (range_with_len (next i) (length p.plans - (index + 1))))
+
+pub headed_more : (p : PlansData) (text rest behind line : List ℕ) (index : ℕ) → index < length p.plans → line ≡ line_of p (index + 1) → IsHeaded p text rest index → whole_lines rest ≡ line ∷ whole_lines behind → 1 + length behind ≤ length rest → IsHeaded p text behind (index + 1)
+headed_more p text rest behind line index more named on first less =
+    let counted = on.counted in
+    let few = on.few in
+    let own = left_streams p index more ∙ ap (λ (line : List ℕ). line ∷ map (line_of p) (range_with_len (1 + (index + 1)) (length p.plans - (index + 1)))) (sym named) in
+    record {
+      done = on.done ++ line ∷ [];
+      head = on.head ∙ ap (λ (lines : List (List ℕ)). on.done ++ lines) own ∙ sym (append_assoc on.done (line ∷ []) _);
+      lines = on.lines ∙ ap (λ (lines : List (List ℕ)). on.done ++ lines) first ∙ sym (append_assoc on.done (line ∷ []) (whole_lines behind));
+      counted = omega (arith, length-append on.done (line ∷ []));
+      few = omega arith;
+    }
+
+pub headed_all : (p : PlansData) (text rest : List ℕ) (index : ℕ) → length p.plans ≤ index → IsHeaded p text rest index → (whole_lines text ≡ head_of p ++ whole_lines rest) × (length (head_of p) ≡ index + 1)
+headed_all p text rest index none on =
+    let zero : length p.plans - index ≡ 0 = omega arith in
+    let all : head_of p ≡ on.done = on.head ∙ ap (λ n. on.done ++ map (line_of p) (range_with_len (1 + index) n)) zero ∙ append-nil on.done in
+    (on.lines ∙ ap (λ (lines : List (List ℕ)). lines ++ whole_lines rest) (sym all), ap length all ∙ on.counted)
+
+pub headed_other : (p : PlansData) (text rest line : List ℕ) (index : ℕ) → index < length p.plans → line ≡ line_of p (index + 1) → IsHeaded p text rest index → IsFirstOther (line ∷ []) (whole_lines rest) 0 → IsFirstOther (head_of p) (whole_lines text) (index + 1)
+headed_other p text rest line index more named on other =
+    let own = left_streams p index more ∙ ap (λ (line : List ℕ). line ∷ map (line_of p) (range_with_len (1 + (index + 1)) (length p.plans - (index + 1)))) (sym named) in
+    let all = other_behind on.done (line ∷ map (line_of p) (range_with_len (1 + (index + 1)) (length p.plans - (index + 1)))) (whole_lines rest) 0 (other_before line _ (whole_lines rest) other) in
+    let place : length on.done + 0 ≡ index + 1 = let counted = on.counted in omega arith in
+    let heads : head_of p ≡ on.done ++ line ∷ map (line_of p) (range_with_len (1 + (index + 1)) (length p.plans - (index + 1))) = on.head ∙ ap (λ (lines : List (List ℕ)). on.done ++ lines) own in
+    subst (λ (heads : List (List ℕ)). IsFirstOther heads (whole_lines text) (index + 1)) (sym heads)
+    (subst (λ (lines : List (List ℕ)). IsFirstOther (on.done ++ line ∷ map (line_of p) (range_with_len (1 + (index + 1)) (length p.plans - (index + 1)))) lines (index + 1)) (sym on.lines)
+    (subst (λ k. IsFirstOther (on.done ++ line ∷ map (line_of p) (range_with_len (1 + (index + 1)) (length p.plans - (index + 1)))) (on.done ++ whole_lines rest) k) place all))
+
+pub head_other : (p : PlansData) (text : List ℕ) → p.version ≡ 2 → IsFirstOther (journal_head ∷ []) (whole_lines text) 0 → IsFirstOther (head_of p) (whole_lines text) 0
+head_other p text two other = subst (λ (heads : List (List ℕ)). IsFirstOther heads (whole_lines text) 0) (sym (second p two)) (other_before journal_head (map (line_of p) (streams_of p)) (whole_lines text) other)
+
+-- the name of a stream
+pub name_here : (p : PlansData) (s : ℕ) (name : Name) → 1 ≤ s → option_map (λ (plan : PlanData). plan.name) (slice_get p.plans (s - 1)) ≡ Some name → name_text s name ≡ line_of p s
+name_here p s name some e = by (slice_get p.plans (s - 1)) refl e
+  where
+    by : (found : Option PlanData) → slice_get p.plans (s - 1) ≡ found → option_map (λ (plan : PlanData). plan.name) found ≡ Some name → name_text s name ≡ line_of p s
+    by None at e = absurd (cc)
+    by (Some plan) at e = let same : plan.name ≡ name = cc in ap (name_text s) (sym same ∙ ap (λ (plan : PlanData). plan.name) (sym (plan_here p s plan some at)))
+
+pub headless : (p : PlansData) → p.version ≢ 2 → head_of p ≡ []
+headless p other = rw (ne_eqb p.version 2 other) refl
+
+-- behind the head
+pub bad_behind_head : (p : PlansData) (text rest : List ℕ) (k : ℕ) → whole_lines text ≡ head_of p ++ whole_lines rest → IsFirstBad (whole_lines rest) k → IsFirstOther (head_of p) (whole_lines text) (length (head_of p) + k)
+bad_behind_head p text rest k lines bad =
+    let all = other_behind (head_of p) [] (whole_lines rest) k bad in
+    subst (λ (lines : List (List ℕ)). IsFirstOther (head_of p) lines (length (head_of p) + k)) (sym lines)
+    (subst (λ (heads : List (List ℕ)). IsFirstOther heads (head_of p ++ whole_lines rest) (length (head_of p) + k)) (append-nil (head_of p)) all)

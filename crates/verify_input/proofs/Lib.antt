@@ -1,0 +1,6 @@
+pub mod Wholes
+pub mod Borders
+pub mod Heads
+pub mod Counts
+pub mod Joining
+pub mod Onlys

@@ -1,0 +1,58 @@
+ghost use Rattle.std.specs.Prelude.{◌≡◌, bytes_eq};
+ghost use Rattle.std.specs.List.{list_any};
+ghost use Rattle.script_words.specs.Text.{words_of};
+ghost use Rattle.verify_input.specs.Parts.{is_journal, part_words, begins_part, is_end};
+
+use script_words::Words;
+
+/// Where a part of the input ends.
+#[derive(Clone, Copy, Debug, PartialEq, Eq)]
+pub(crate) enum Border {
+    /// The script ends before the line `journal`.
+    Script,
+    /// The journal text ends before the next part of an output.
+    Journal,
+}
+
+// Whether the only word is `journal`.
+fn is_journal(mut words: Words<'_>) -> bool
+    ensures { result ≡ is_journal (words_of words.entry.rest.now) }
+{
+    match (words.next(), words.next()) {
+        (Some(word), None) => word == b"journal".as_slice(),
+        _ => false,
+    }
+}
+
+// Whether a word is the first of another part of an output.
+fn is_part(word: &[u8]) -> bool
+    ensures { result ≡ list_any (bytes_eq word.now) part_words }
+{
+    word == b"image".as_slice()
+        || word == b"stream".as_slice()
+        || word == b"mark".as_slice()
+        || word == b"dump".as_slice()
+        || word == b"view".as_slice()
+}
+
+// Whether another part of an output begins with these words.
+fn begins_part(mut words: Words<'_>) -> bool
+    ensures { result ≡ begins_part (words_of words.entry.rest.now) }
+{
+    match words.next() {
+        Some(word) => is_part(word),
+        None => false,
+    }
+}
+
+impl Border {
+    /// Whether a line with these words ends the part.
+    pub(crate) fn is_end(self, words: Words<'_>) -> bool
+        ensures { result ≡ is_end self (words_of words.entry.rest.now) }
+    {
+        match self {
+            Border::Script => is_journal(words),
+            Border::Journal => begins_part(words),
+        }
+    }
+}

@@ -1,0 +1,80 @@
+ghost use Rattle.std.specs.Prelude.{◌≡◌, ◌+◌, ◌<◌, ◌≤◌, ◌^◌, [], None, Some, length, take, drop, position, MatchOption};
+ghost use Rattle.script_words.specs.Text.{ends_line};
+ghost use Rattle.journal_reader.specs.Reading.{whole_lines};
+ghost use Rattle.verify_input.specs.Cuts.{IsFirstLine};
+ghost use Rattle.verify_input.specs.Parts.{before, behind};
+
+use crate::border::Border;
+use script_words::Words;
+
+/// A text, cut at the first line that ends a part of the input.
+#[derive(Clone, Copy, Debug)]
+pub(crate) struct Cut<'a> {
+    /// What stands before the line, or the whole text where there is none.
+    pub(crate) part: &'a [u8],
+    /// How many lines these are.
+    pub(crate) lines: u32,
+    /// What stands behind the line.
+    pub(crate) rest: Option<&'a [u8]>,
+}
+
+// The place of the first line feed.
+fn line_end(text: &[u8]) -> Option<usize>
+    ensures { result ≡ position ends_line text.now }
+{
+    text.iter().position(|byte| *byte == b'\n')
+}
+
+// What stands before a byte, and behind it.
+fn cut_at(text: &[u8], at: usize) -> (&[u8], &[u8])
+    requires { at < length text.now }
+    ensures before { result.0.now ≡ take at text.now }
+    ensures behind { result.1.now ≡ drop (at + 1) text.now }
+{
+    let (front, back) = text.split_at(at);
+    let (_, behind) = back.split_at(1);
+    (front, behind)
+}
+
+// The first line, without its line feed, and what stands behind it.
+fn first_line(text: &[u8]) -> Option<(&[u8], &[u8])>
+    ensures { MatchOption result (text.now ≡ []) (λ cut. IsFirstLine text.now cut.0.now cut.1.now) }
+{
+    if text.is_empty() {
+        return None;
+    }
+    match line_end(text) {
+        Some(end) => Some(cut_at(text, end)),
+        None => Some((text, &[])),
+    }
+}
+
+/// Cuts a text at the first line that ends a part.
+pub(crate) fn cut_at_border(text: &[u8], border: Border) -> Cut<'_>
+    requires { length text.now < 2 ^ 32 }
+    ensures before { whole_lines result.part.now ≡ before border (whole_lines text.now) }
+    ensures lines { result.lines ≡ length (before border (whole_lines text.now)) }
+    ensures behind { MatchOption result.rest (behind border (whole_lines text.now) ≡ None) (λ rest. behind border (whole_lines text.now) ≡ Some (whole_lines rest.now)) }
+    ensures shorter { length result.part.now ≤ length text.now }
+    ensures few { MatchOption result.rest (result.lines ≤ length text.now) (λ rest. result.lines + 1 + length rest.now ≤ length text.now) }
+{
+    let mut rest = text;
+    let mut lines = 0;
+    while let Some((line, more)) = first_line(rest) {
+        if border.is_end(Words { rest: line }) {
+            let (part, _) = text.split_at(text.len() - rest.len());
+            return Cut {
+                part,
+                lines,
+                rest: Some(more),
+            };
+        }
+        lines += 1;
+        rest = more;
+    }
+    Cut {
+        part: text,
+        lines,
+        rest: None,
+    }
+}

@@ -1,0 +1,68 @@
+ghost use Rattle.std.specs.Prelude.{◌≡◌, ◌+◌, ◌<◌, ◌≤◌, ◌^◌, length, IfOk};
+ghost use Rattle.journal_reader.specs.Reading.{whole_lines};
+ghost use Rattle.verify_input.specs.Parts.{before};
+ghost use Rattle.verify_input.specs.Found.{Finds};
+ghost use Rattle.verify_input.specs.Steps.{FindsOf, FindsIn};
+
+use crate::border::Border;
+use crate::cutting::cut_at_border;
+use crate::finding::Finding;
+use crate::heading::read_behind_head;
+use gpu_journal::Event;
+use gpu_plan::{Plans, ScriptFault, parse};
+use gpu_word::Memory;
+use journal_reader::JournalFault;
+use journal_verify::{Verdict, verify};
+use std::alloc::Global;
+
+// What is found of events.
+fn judge(alloc: Global, plans: &Plans, events: &[Event]) -> Result<Finding, Memory>
+    requires { length events.now < 2 ^ 32 }
+    ensures { IfOk result (λ finding. FindsOf plans.now events.now finding) }
+{
+    match verify(alloc, plans, events)? {
+        Verdict::Yes(images) => Ok(Finding::Yes {
+            images,
+            events: events.len() as u32,
+        }),
+        Verdict::No { event, rule } => Ok(Finding::No { event, rule }),
+        Verdict::NotComplete => Ok(Finding::NotComplete),
+    }
+}
+
+// What is found of the text behind a line `journal`, before which stand so many lines of a script.
+fn examine_journal(alloc: Global, plans: &Plans, lines: u32, text: &[u8]) -> Result<Finding, Memory>
+    requires { lines + 1 + length text.now ≤ 16777216 }
+    ensures { IfOk result (λ finding. FindsIn plans.now lines (before Border.Journal (whole_lines text.now)) finding) }
+{
+    let cut = cut_at_border(text, Border::Journal);
+    match read_behind_head(alloc, plans, cut.part) {
+        Ok(events) => judge(alloc, plans, events.as_slice()),
+        Err(JournalFault::Refused { line }) => Ok(Finding::NoJournal {
+            line: lines + 1 + line,
+        }),
+        Err(JournalFault::Memory) => Err(Memory),
+    }
+}
+
+/// What is found of an input of at most 16,777,216 bytes: a script, a line whose only word is `journal`, and a journal
+/// text, behind which the rest of an output may stand.
+///
+/// The script is looked at first, then the whole journal text, and then its events. No other finding would hold.
+pub fn examine(alloc: Global, input: &[u8]) -> Result<Finding, Memory>
+    requires { length input.now ≤ 16777216 }
+    ensures { IfOk result (λ finding. Finds input.now finding) }
+{
+    let cut = cut_at_border(input, Border::Script);
+    let plans = match parse(alloc, cut.part) {
+        Ok(plans) => plans,
+        Err(ScriptFault::Refused { line, kind }) => return Ok(Finding::Refused { line, kind }),
+        Err(ScriptFault::Memory) => return Err(Memory),
+    };
+    match cut.rest {
+        Some(text) => examine_journal(alloc, &plans, cut.lines, text),
+        None => Ok(Finding::NoJournal {
+            line: cut.lines + 1,
+        }),
+    }
+}
