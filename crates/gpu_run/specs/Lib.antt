@@ -1,2 +1,6 @@
-pub mod BuiltWorld
-pub mod Built
+pub mod Dumps
+pub mod Making
+pub mod Reading
+pub mod Clients
+pub mod Rounds
+pub mod Served

@@ -1,14 +1,19 @@
-//! Runs scripts.
+//! Runs of whole scripts.
 #![tactic(auto)]
 
-mod copy;
-mod drawing;
-mod report;
+mod acting;
+mod client;
+mod closing;
+#[cfg(test)]
+mod dump_tests;
+mod dumps;
+mod parts;
+mod reading;
+mod rounds;
+mod running;
 mod serial;
-mod values;
-
-pub use report::Report;
-pub use serial::run_one;
-
 #[cfg(test)]
 mod tests;
+
+pub use dumps::Dumps;
+pub use serial::run_one;

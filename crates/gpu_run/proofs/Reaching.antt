@@ -1,0 +1,123 @@
+-- One action of a client, by the rule.
+use Rattle.std.proofs.Common.{◌≡◌, ℕ, suc, ◌+◌, ◌-◌, ◌≤◌, ◌<◌, Bool, true, false, Option, None, Some, List, [], ◌∷◌, length, get_or, set, take, refl, sym, ap, subst, ◌∙◌, arith}
+use Rattle.std.proofs.lemmas.List.{set-get_or}
+use Rattle.std.specs.Prelude.{slice_get, unwrap_or, option_map}
+use Rattle.std.specs.Option.{IsSomeAnd}
+use Rattle.gpu_plan.specs.declared.plan.Action.{Action}
+use Rattle.gpu_plan.specs.declared.plan.Action.TheVariants as actions
+use Rattle.gpu_plan.specs.Plans.{PlansData, PlanData, plan_of}
+use Rattle.gpu_plan.specs.Passes.{flushes, passes, bound, greatest, flush_count}
+use Rattle.gpu_plan.specs.Places.{flush_places}
+use Rattle.gpu_plan.proofs.Passing.{bound_one_further, passes_below_bound, flushes_one_further}
+use Rattle.gpu_fetch.specs.Plain.{PlainData, one_further, IsFlush, IsNext}
+use Rattle.sync_core.specs.Standing.{IsKnown}
+use Rattle.gpu_journal.specs.declared.event.Event.{Event}
+use Rattle.gpu_journal.specs.World.{known}
+use Rattle.gpu_journal.specs.Facts.{reach}
+use Rattle.gpu_journal.specs.Serial.{stays}
+use Rattle.serial_laws.proofs.Flushes.{flush_there, flushes_all, flushes_grow, place_below, below_place}
+use Rattle.run_laws.proofs.Tokens.{reach_is}
+use Rattle.gpu_house.specs.Slots.{mark_of}
+use Rattle.gpu_run.specs.Clients.{ClientData, client_at, done_at, flushes_to}
+use Rattle.gpu_run.specs.Rounds.{GoesFurther, StandsStill}
+use Rattle.gpu_run.specs.Served.{IsClientOf}
+use Rattle.gpu_run.proofs.Rows.{client_same, client_other}
+
+-- ---- whether the next action passes
+
+-- how far the client can be, by the numbers that the house tells
+reach_by : (p : PlansData) (h : List Event) (s f t : ℕ) (plan : PlanData) → plan_of p s ≡ plan → f ≡ (known p h s).finished → t ≡ greatest (known p h s).tokens → reach p h s ≡ bound plan.actions f (t ∷ [])
+reach_by p h s f t plan is is_f is_t =
+    reach_is p h s
+    ∙ ap (λ (q : PlanData). bound q.actions (known p h s).finished (greatest (known p h s).tokens ∷ [])) is
+    ∙ ap (λ (n : ℕ). bound plan.actions n (greatest (known p h s).tokens ∷ [])) (sym is_f)
+    ∙ ap (λ (n : ℕ). bound plan.actions f (n ∷ [])) (sym is_t)
+
+-- where it passes, the client is not yet at its bound
+pub passes_below : (p : PlansData) (h : List Event) (s f t done : ℕ) (plan : PlanData) → plan_of p s ≡ plan → f ≡ (known p h s).finished → t ≡ greatest (known p h s).tokens → done ≤ reach p h s → passes plan.actions done f (t ∷ []) ≡ true → done < reach p h s
+passes_below p h s f t done plan is is_f is_t le passing =
+    let far = reach_by p h s f t plan is is_f is_t in
+    let more = bound_one_further plan.actions done f (t ∷ []) (omega (arith, far, le)) passing in
+    omega (arith, far, more)
+
+-- where it does not, the client is there
+pub stops_there : (p : PlansData) (h : List Event) (s f t done : ℕ) (plan : PlanData) → plan_of p s ≡ plan → f ≡ (known p h s).finished → t ≡ greatest (known p h s).tokens → done ≤ reach p h s → passes plan.actions done f (t ∷ []) ≡ false → done ≡ reach p h s
+stops_there p h s f t done plan is is_f is_t le stops =
+    let far = reach_by p h s f t plan is is_f is_t in
+    let not_below : done < reach p h s → ⊥ = λ lt. clash (passes plan.actions done f (t ∷ [])) (passes_below_bound plan.actions done f (t ∷ []) (omega (arith, far, lt))) stops in
+    omega (arith, le, not_below)
+  where
+    clash : (b : Bool) → b ≡ true → b ≡ false → ⊥
+    clash b x y = cc
+
+-- the client stands still, with each of its flushes ordered
+pub stands_still : (p : PlansData) (h : List Event) (s : ℕ) (clients : List ClientData) → stays p h s ≡ true → IsClientOf p h s (client_at clients s).words → done_at clients s ≡ reach p h s → StandsStill p h (done_at clients) s
+stands_still p h s clients o client there = record { there = there; ordered = client.passed o ∙ ap (flushes_to (plan_of p s)) there }
+
+-- ---- the client goes further
+
+pub goes_further : (p : PlansData) (h : List Event) (s : ℕ) (clients : List ClientData) (now : ClientData) → IsKnown (length clients) s → now.words ≡ one_further (client_at clients s).words → done_at clients s < reach p h s
+    → GoesFurther p h (done_at clients) (done_at (set clients (s - 1) now)) s
+goes_further p h s clients now known is below = record {
+  further = ap (λ (c : ClientData). c.words.done) (client_same clients s now known) ∙ ap (λ (w : PlainData). w.done) is;
+  others = λ t off. ap (λ (c : ClientData). c.words.done) (client_other clients s t now known.0 off);
+  below = below;
+}
+
+-- nothing has changed
+pub nothing_done : (clients : List ClientData) (s : ℕ) (other : ClientData) → done_at (set clients (s - 1) (get_or clients (s - 1) other)) ≡ done_at clients
+nothing_done clients s other = ap done_at (set-get_or clients (s - 1) other)
+
+-- ---- a flush that is next
+
+pub flush_counts : (xs : List Action) (k : ℕ) → IsNext IsFlush xs k → flushes (take (k + 1) xs) ≡ flushes (take k xs) + 1
+flush_counts xs k next = by (slice_get xs k) refl next
+  where
+    one : (a : Action) → IsFlush a → flush_count a ≡ 1
+    one (actions.Put place value) is = absurd is
+    one (actions.Flush put fences) is = refl
+    one actions.Finish is = absurd is
+    one (actions.Token token) is = absurd is
+    one actions.Close is = absurd is
+
+    by : (o : Option Action) → slice_get xs k ≡ o → IsSomeAnd o IsFlush → flushes (take (k + 1) xs) ≡ flushes (take k xs) + 1
+    by None e is = absurd is
+    by (Some a) e is = let step = flushes_one_further xs k a e in let counted = one a is in omega (arith, step, counted)
+
+-- its number is that of the flushes before it
+pub flush_stands : (xs : List Action) (k : ℕ) → IsNext IsFlush xs k → slice_get (flush_places xs) (flushes (take k xs)) ≡ Some k
+flush_stands xs k next =
+    let more = flush_counts xs k next in
+    let all = flushes_all xs (k + 1) in
+    let c = flush_there xs (flushes (take k xs)) (omega (arith, more, all)) in
+    let low = place_below xs (flushes (take k xs)) c.0 (k + 1) c.1 (omega (arith, more)) in
+    let not_below : c.0 < k → ⊥ = λ lt. absurd (above c.0 c.1 lt) in
+    c.1 ∙ ap Some (omega (arith, low, not_below))
+  where
+    above : (c : ℕ) → slice_get (flush_places xs) (flushes (take k xs)) ≡ Some c → c < k → ⊥
+    above c e lt = let more = below_place xs (flushes (take k xs)) c k e lt in omega arith
+
+-- so the note of the flush is that of the stream's next order
+pub note_fits : (p : PlansData) (h : List Event) (s note : ℕ) (words : PlainData) (plan : PlanData) → plan_of p s ≡ plan → stays p h s ≡ true → IsClientOf p h s words → IsNext IsFlush plan.actions words.done → note ≡ words.done + 1 → note ≡ mark_of (plan_of p s) (known p h s).ordered
+note_fits p h s note words plan is o client next e =
+    let at : slice_get (flush_places (plan_of p s).actions) (flushes (take words.done (plan_of p s).actions)) ≡ Some words.done = flush_stands (plan_of p s).actions words.done (subst (λ (q : PlanData). IsNext IsFlush q.actions words.done) (sym is) next) in
+    let place : slice_get (flush_places (plan_of p s).actions) (known p h s).ordered ≡ Some words.done = ap (slice_get (flush_places (plan_of p s).actions)) (client.passed o) ∙ at in
+    e ∙ (omega arith) ∙ sym (ap (λ (q : Option ℕ). unwrap_or (option_map suc q) (length (plan_of p s).actions)) place)
+
+-- and there is such a flush
+pub flush_left : (p : PlansData) (h : List Event) (s : ℕ) (words : PlainData) (plan : PlanData) → plan_of p s ≡ plan → stays p h s ≡ true → IsClientOf p h s words → IsNext IsFlush plan.actions words.done → (known p h s).ordered < flushes (plan_of p s).actions
+flush_left p h s words plan is o client next =
+    let here = subst (λ (q : PlanData). IsNext IsFlush q.actions words.done) (sym is) next in
+    let more = flush_counts (plan_of p s).actions words.done here in
+    let all = flushes_all (plan_of p s).actions (words.done + 1) in
+    let ordered = client.passed o in
+    omega (arith, more, all, ordered)
+
+-- within the client's reach
+pub flush_reached : (p : PlansData) (h : List Event) (s : ℕ) (words : PlainData) (plan : PlanData) → plan_of p s ≡ plan → stays p h s ≡ true → IsClientOf p h s words → IsNext IsFlush plan.actions words.done → words.done < reach p h s → (known p h s).ordered < flushes_to (plan_of p s) (reach p h s)
+flush_reached p h s words plan is o client next below =
+    let here = subst (λ (q : PlanData). IsNext IsFlush q.actions words.done) (sym is) next in
+    let more = flush_counts (plan_of p s).actions words.done here in
+    let grow = flushes_grow (plan_of p s).actions (words.done + 1) (reach p h s) (omega (arith, below)) in
+    let ordered = client.passed o in
+    omega (arith, more, grow, ordered)

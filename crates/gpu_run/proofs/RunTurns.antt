@@ -1,0 +1,124 @@
+-- One turn of a run, in the terms of the code.
+use Rattle.std.proofs.Common.{◌≡◌, ◌≢◌, ℕ, ◌-◌, true, false, None, Some, List, ◌∷◌, ◌++◌, length, get_or, refl, sym, ap, subst, ◌∙◌, arith}
+use Rattle.std.proofs.lemmas.List.Elements.{All-weaker}
+use Rattle.std.specs.List.{All}
+use Rattle.gpu_cmd.specs.declared.facts.StreamFacts.{StreamFacts}
+use Rattle.gpu_cmd.specs.declared.command.Command.{Command}
+use Rattle.gpu_cmd.specs.declared.error.CmdError.{CmdError}
+use Rattle.gpu_cmd.specs.Copied.{fetched_places, places_listed, IsCopy}
+use Rattle.std.specs.Prelude.{Result}
+use Rattle.gpu_plan.specs.Plans.{PlansData}
+use Rattle.gpu_fetch.specs.Side.{SideData}
+use Rattle.gpu_fetch.specs.Plain.{PlainData, IsBeside, IsNoteBeside, IsHeld}
+use Rattle.sync_core.specs.Standing.{IsKnown, is_open}
+use Rattle.gpu_journal.specs.declared.event.Event.{Event}
+use Rattle.gpu_journal.specs.declared.event.Event.TheVariants.{Finish}
+use Rattle.gpu_journal.specs.Waits.{standing_of}
+use Rattle.gpu_journal.specs.Serial.{count, stays, is_runnable, run_event, IsPlayed, runner}
+use Rattle.serial_laws.specs.Scripts.{AreLawfulPlans}
+use Rattle.serial_laws.proofs.Obeying.{can_run, played_is_legal}
+use Rattle.run_laws.proofs.Fronts.{left_open}
+use Rattle.house_core.specs.Answers.{IsMovedBy}
+use Rattle.house_core.specs.Core.{with_out, IsRunOf}
+use Rattle.house_core.specs.Desks.{at_home}
+use Rattle.gpu_house.specs.Slots.{slot_at}
+use Rattle.gpu_house.specs.House.{OutData}
+use Rattle.gpu_house.specs.Changes.{CameDone}
+use Rattle.gpu_house.specs.Steps.{MatchNext}
+use Rattle.gpu_house.specs.declared.answers.Next.{Next}
+use Rattle.gpu_house.specs.declared.answers.Next.TheVariants.{More, Paused, FlushEnd, Invalid, Lost, Closed}
+use Rattle.gpu_run.specs.Clients.{ClientData, client_at, done_at}
+use Rattle.gpu_run.specs.Rounds.{IsRunning, goes_on}
+use Rattle.gpu_run.specs.Served.{PlainHouse, IsClientOf, IsServed, IsOut}
+use Rattle.gpu_run.proofs.Rows.{client_there}
+use Rattle.gpu_run.proofs.Serving.{client_on, has_event}
+use Rattle.gpu_run.proofs.Turns.{Ran, run_turn, run_ordered}
+use Rattle.gpu_run.proofs.RunEvents.{event_finish}
+use Rattle.gpu_run.proofs.Homing.{home_served}
+use Rattle.gpu_run.proofs.Stepping.{HasFetched, has_fetched, goes_further}
+use Rattle.std.proofs.lemmas.Bool.{ne_eqb}
+
+-- a stream that can run is open
+pub runs_open : (p : PlansData) (h : List Event) (s : ℕ) → AreLawfulPlans p → IsPlayed p h → is_runnable p h s ≡ true → stays p h s ≡ true
+runs_open p h s lawful played runs =
+    let legal = played_is_legal p h lawful played in
+    (left_open p h s legal (can_run p h s legal runs).some).0
+
+-- the words that the code takes are those of the run's client
+pub words_are : (p : PlansData) (clients : List ClientData) (s at : ℕ) (client : ClientData) (w : PlainData) → IsKnown (length p.plans) s → length clients ≡ length p.plans → at ≡ s → client ≡ get_or clients (at - 1) client → w ≡ client.words → w ≡ (client_at clients s).words
+words_are p clients s at client w is_known count same read is =
+    let high = is_known.1 in
+    let here : client ≡ client_at clients s = read ∙ ap (λ (k : ℕ). get_or clients (k - 1) client) same ∙ client_there clients s client (is_known.0, omega (arith, high, count)) in
+    is ∙ ap (λ (c : ClientData). c.words) here
+
+-- ---- a finish
+
+pub record HasFinished (p : PlansData) (house new : PlainHouse) (clients : List ClientData) (s : ℕ) : Type 0 where
+  pub event : new.core.past ≡ run_event p house.core.past s ∷ house.core.past
+  pub goes : false ≡ goes_on p new.core.past s
+  pub served : IsServed p new clients
+
+pub has_finished : (p : PlansData) (house new : PlainHouse) (clients : List ClientData) (run : OutData SideData ℕ) (w : PlainData) → AreLawfulPlans p → IsPlayed p house.core.past → IsOut p house clients run → is_runnable p house.core.past run.run.stream ≡ true
+    → w ≡ (client_at clients run.run.stream).words → run.run.facts.get ≡ run.run.facts.put
+    → (is_open (standing_of p house.core.past run.run.stream) ≡ true → new.core.past ≡ Finish run.run.stream run.run.order ∷ house.core.past)
+    → new.core.outs ≡ with_out house.core.outs run.run.stream at_home
+    → (is_open (standing_of p house.core.past run.run.stream) ≡ true → CameDone (λ (x : SideData). x) (λ (n : ℕ). n) IsBeside IsNoteBeside w house.slots new.slots run.run.stream run.side run.note)
+    → HasFinished p house new clients run.run.stream
+has_finished p house new clients run w lawful played out runs its_words ends event outs done =
+    let s = run.run.stream in
+    let h = house.core.past in
+    let o = runs_open p h s lawful played runs in
+    let past = event o in
+    let came = done o in
+    let mine = (client_at clients s).words in
+    let slot = slot_at house.slots s in
+    record {
+      event = past ∙ ap (λ (e : Event). e ∷ h) (sym (event_finish p h s run.run.order out.run.order (subst (λ (f : StreamFacts). f.get ≡ f.put) out.run.facts ends)));
+      goes = subst (λ (g : List Event). false ≡ goes_on p g s) (sym past) refl;
+      served = home_served p house new clients s record slot { side = Some came.done; begun = false; first = None } out.is_known out.many out.others (λ t off. has_event (Finish s run.run.order) past (ne_eqb s t (λ q. off (sym q))))
+          outs came.slots (subst (λ (g : List Event). IsClientOf p g s mine) (sym past) (client_on p (Finish s run.run.order) h s mine (run_ordered p (Finish s run.run.order) s h s refl) out.client))
+          record {
+            side_beside = subst (IsBeside came.done) its_words came.still.beside;
+            first_beside = tt;
+            notes_beside = All-weaker (IsNoteBeside run.side mine) (IsNoteBeside came.done mine) (λ n b. subst (λ (v : PlainData). IsNoteBeside came.done v n) its_words (came.still.notes n (subst (λ (v : PlainData). IsNoteBeside run.side v n) (sym its_words) b))) slot.notes out.beside.notes_beside;
+          };
+    }
+
+-- ---- a fetch
+
+pub fetched_with : (p : PlansData) (house : PlainHouse) (clients : List ClientData) (run new : OutData SideData ℕ) (words list : List (ℕ × ℕ)) (facts : StreamFacts) (verdict : Result Command CmdError) (w : PlainData) → IsOut p house clients run → done_at clients run.run.stream ≡ count p house.core.past run.run.stream
+    → w ≡ (client_at clients run.run.stream).words → run.run.facts.get ≢ run.run.facts.put → new.run ≡ run.run → new.note ≡ None → new.side.fetched ≡ run.side.fetched ++ words → All (IsHeld w) words → list ≡ words → facts ≡ run.run.facts → IsCopy list facts verdict
+    → IsBeside new.side w → ((n : ℕ) → IsNoteBeside run.side w n → IsNoteBeside new.side w n) → HasFetched p house clients new words
+fetched_with p house clients run new words list facts verdict w out there is more same met grows held listed its_facts copy beside notes =
+    let mine = (client_at clients run.run.stream).words in
+    has_fetched p house clients run new words out there more same met grows (subst (λ (v : PlainData). All (IsHeld v) words) is held)
+    (subst (λ (f : StreamFacts). places_listed words ≡ fetched_places words f) its_facts (subst (λ (l : List (ℕ × ℕ)). places_listed l ≡ fetched_places l facts) listed copy.places))
+    (subst (IsBeside new.side) is beside) (λ n b. subst (λ (v : PlainData). IsNoteBeside new.side v n) is (notes n (subst (λ (v : PlainData). IsNoteBeside run.side v n) (sym is) b)))
+
+-- the note that a fetch has met is met after the step
+pub stays_met : (p : PlansData) (new : PlainHouse) (run now : OutData SideData ℕ) (words : List (ℕ × ℕ)) (next : Next) → run.note ≡ None → MatchNext next (λ kept. now.note ≡ None) (λ error. now.note ≡ None) (Unit {0}) (Unit {0})
+    → MatchNext next (λ kept. IsMovedBy run.run now.run words kept × IsRunOf p new.core.past now.run) (λ error. now.run ≡ run.run) (now ≡ run) (now ≡ run) → now.note ≡ run.note
+stays_met p new run now words More met still moved = still ∙ sym met
+stays_met p new run now words Paused met still moved = still ∙ sym met
+stays_met p new run now words FlushEnd met still moved = still ∙ sym met
+stays_met p new run now words (Invalid error) met still moved = still ∙ sym met
+stays_met p new run now words Lost met still moved = ap (λ (r : OutData SideData ℕ). r.note) moved
+stays_met p new run now words Closed met still moved = ap (λ (r : OutData SideData ℕ). r.note) moved
+
+-- what is neither of the answers to go on is one to stop
+pub stops : (next : Next) → (next ≡ More → ⊥) → (next ≡ FlushEnd → ⊥) → goes_further next ≡ false
+stops More not_more not_end = absurd (not_more refl)
+stops Paused not_more not_end = refl
+stops FlushEnd not_more not_end = absurd (not_end refl)
+stops (Invalid error) not_more not_end = refl
+stops Lost not_more not_end = refl
+stops Closed not_more not_end = refl
+
+-- ---- the loop over turns
+
+-- where the rule has the client of a stream that runs
+pub there_of : (p : PlansData) (h : List Event) (done : ℕ → ℕ) (s : ℕ) → AreLawfulPlans p → IsPlayed p h → IsRunning p h done → IsKnown (length p.plans) s → is_runnable p h s ≡ true → done s ≡ count p h s
+there_of p h done s lawful played running is_known runs = running.there s is_known.0 is_known.1 (runs_open p h s lawful played runs)
+
+pub ran : (p : PlansData) (h g : List Event) (done : ℕ → ℕ) (s : ℕ) → g ≡ run_event p h s ∷ h → IsPlayed p h → IsRunning p h done → IsKnown (length p.plans) s → runner p h ≡ Some s → Ran p g done s
+ran p h g done s event played running is_known chosen = subst (λ (x : List Event). Ran p x done s) (sym event) (run_turn p h done s played running is_known.0 is_known.1 chosen)

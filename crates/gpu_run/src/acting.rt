@@ -1,0 +1,131 @@
+//! The first phase of a round: each client goes as far as it can.
+ghost use Rattle.std.specs.Prelude.{◌≡◌, ℕ, ◌+◌, ◌-◌, ◌≤◌, length, true, IfOk, OnOk};
+ghost use Rattle.sync_core.specs.Standing.{IsKnown, is_open};
+ghost use Rattle.gpu_journal.specs.Waits.{standing_of};
+ghost use Rattle.gpu_journal.specs.Serial.{stays};
+ghost use Rattle.gpu_run.specs.Clients.{done_at};
+ghost use Rattle.gpu_run.specs.Reading.{HaveRead};
+ghost use Rattle.gpu_run.specs.Rounds.{ActsAs, IsRising, HaveActed};
+ghost use Rattle.gpu_run.specs.Served.{IsServed};
+
+use crate::client::Client;
+use gpu_fetch::PlainPass;
+use gpu_house::{Doing, House, Naming};
+use gpu_word::Memory;
+use wait_hooks::Hook;
+
+/// What a client did.
+#[derive(Clone, Copy, Debug, Drop)]
+pub(crate) enum Act {
+    /// Nothing: it can do no action more.
+    Stays,
+    /// An action that is no flush.
+    Passed,
+    /// A flush, which was ordered.
+    Ordered,
+}
+
+/// Whether a stream is neither lost nor closed.
+pub(crate) fn is_open<N: Naming, H: Hook>(house: &House<N, PlainPass, H>, stream: u32) -> bool
+    requires { IsKnown (length N.plans.plans) stream }
+    ensures { result ≡ is_open (standing_of N.plans house.now.core.past stream) }
+{
+    match house.state(stream) {
+        Doing::Open => true,
+        Doing::AllDone => true,
+        Doing::Lost => false,
+        Doing::Closed => false,
+    }
+}
+
+/// The client of a stream does its next action, if that passes. A dump of the action is read, and a flush is ordered.
+///
+/// # Errors
+///
+/// `Memory`: nothing is known of the house and the clients.
+fn act_once<N: Naming, H: Hook>(
+    house: &mut House<N, PlainPass, H>,
+    clients: &mut [Client],
+    stream: u32,
+) -> Result<Act, Memory>
+    requires known { IsKnown (length N.plans.plans) stream }
+    requires rising { IsRising N.plans house.old.core.past }
+    requires served { IsServed N.plans house.old clients.old }
+    requires read { HaveRead N.plans house.old.core.past clients.old }
+    requires open { stays N.plans house.old.core.past stream ≡ true }
+    ensures served { OnOk result (IsServed N.plans house.new clients.new) }
+    ensures read { OnOk result (HaveRead N.plans house.new.core.past clients.new) }
+    ensures acts { IfOk result (λ act. ActsAs N.plans act house.old.core.past house.new.core.past (done_at clients.old) (done_at clients.new) stream) }
+{
+    let finishes = house.finishes(stream);
+    let token = house.greatest(stream);
+    let plan = house.plans().plan(stream);
+    let client = &mut clients[stream as usize - 1];
+    if !client.passes(plan, finishes, token) {
+        return Ok(Act::Stays);
+    }
+    client.read(plan, house.stream(stream))?;
+    match client.act(plan, finishes, token) {
+        None => Ok(Act::Passed),
+        Some(note) => match house.order(stream, note) {
+            Ok(_) => Ok(Act::Ordered),
+            Err(_) => Err(Memory),
+        },
+    }
+}
+
+/// The client of a stream goes as far as it can.
+///
+/// # Errors
+///
+/// `Memory`: nothing is known of the house and the clients.
+fn act_on<N: Naming, H: Hook>(
+    house: &mut House<N, PlainPass, H>,
+    clients: &mut [Client],
+    stream: u32,
+) -> Result<(), Memory>
+    requires known { IsKnown (length N.plans.plans) stream }
+    requires rising { IsRising N.plans house.old.core.past }
+    requires served { IsServed N.plans house.old clients.old }
+    requires read { HaveRead N.plans house.old.core.past clients.old }
+    requires acted { HaveActed N.plans house.old.core.past (done_at clients.old) (stream - 1) }
+    ensures rising { OnOk result (IsRising N.plans house.new.core.past) }
+    ensures served { OnOk result (IsServed N.plans house.new clients.new) }
+    ensures read { OnOk result (HaveRead N.plans house.new.core.past clients.new) }
+    ensures acted { OnOk result (HaveActed N.plans house.new.core.past (done_at clients.new) stream) }
+    ensures longer { OnOk result (length house.old.core.past ≤ length house.new.core.past) }
+{
+    if !is_open(house, stream) {
+        return Ok(());
+    }
+    loop {
+        match act_once(house, clients, stream)? {
+            Act::Stays => return Ok(()),
+            _ => {}
+        }
+    }
+}
+
+/// Each client, in rising order of streams, goes as far as it can.
+///
+/// # Errors
+///
+/// `Memory`: nothing is known of the house and the clients.
+pub(crate) fn act_all<N: Naming, H: Hook>(
+    house: &mut House<N, PlainPass, H>,
+    clients: &mut [Client],
+) -> Result<(), Memory>
+    requires rising { IsRising N.plans house.old.core.past }
+    requires served { IsServed N.plans house.old clients.old }
+    requires read { HaveRead N.plans house.old.core.past clients.old }
+    ensures rising { OnOk result (IsRising N.plans house.new.core.past) }
+    ensures served { OnOk result (IsServed N.plans house.new clients.new) }
+    ensures read { OnOk result (HaveRead N.plans house.new.core.past clients.new) }
+    ensures acted { OnOk result (HaveActed N.plans house.new.core.past (done_at clients.new) (length N.plans.plans)) }
+    ensures longer { OnOk result (length house.old.core.past ≤ length house.new.core.past) }
+{
+    for stream in 1..=house.plans().count() {
+        act_on(house, clients, stream)?;
+    }
+    Ok(())
+}

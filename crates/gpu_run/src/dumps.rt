@@ -1,0 +1,52 @@
+ghost use Rattle.std.specs.Prelude.{◌≡◌, [], ◌∷◌, ◌++◌, IfOk, OnOk};
+
+use gpu_word::Memory;
+use std::alloc::Global;
+use std::marker::Model;
+
+/// What the client of one stream has read of its results, seen as the list of (action place, result place, value).
+#[derive(Debug, Drop)]
+pub struct Dumps {
+    items: Vec<(u32, u32, u32)>,
+}
+
+impl Model for Dumps {
+    ghost use Rattle.std.specs.Prelude.{ℕ, List};
+
+    ghost Value = { List (ℕ × ℕ × ℕ) };
+
+    ghost view = { λ dumps. dumps.items.items };
+}
+
+impl Dumps {
+    // No dump, with room for so many.
+    pub(crate) fn make(alloc: Global, room: usize) -> Result<Dumps, Memory>
+        ensures { IfOk result (λ dumps. dumps ≡ []) }
+    {
+        Ok(Dumps {
+            items: Vec::with_capacity(alloc, room)?,
+        })
+    }
+
+    // One dump more.
+    pub(crate) fn push(&mut self, action: u32, place: u32, value: u32) -> Result<(), Memory>
+        ensures { OnOk result (self.new ≡ self.old ++ (action, place, value) ∷ []) }
+    {
+        self.items.push((action, place, value))?;
+        Ok(())
+    }
+
+    // Forgets all dumps.
+    pub(crate) fn clear(&mut self)
+        ensures { self.new ≡ [] }
+    {
+        self.items.clear();
+    }
+
+    /// The dumps that were read, in the order of the script.
+    pub fn as_slice(&self) -> &[(u32, u32, u32)]
+        ensures { result.now ≡ self.now }
+    {
+        &self.items
+    }
+}
