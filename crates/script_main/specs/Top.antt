@@ -1,69 +1,85 @@
 -- What the program does.
-use Rattle.std.specs.Prelude.{◌≡◌, ℕ, ◌<◌, ◌≤◌, Bool, false, List, [], ◌∷◌, length, Option, Some, None, Result, Ok, Err, codes, bytes_eq, IsSome, IsOk}
+use Rattle.std.specs.Prelude.{◌≡◌, ℕ, ◌<◌, ◌≤◌, Bool, true, false, List, length, Option, Some, Result, Ok, Err, IsOk}
+use Rattle.std.specs.Io.KnownBytes.{Appends}
 use Rattle.script_lines.specs.declared.fault.Kind.{Kind}
+use Rattle.script_generator.specs.Generator.{generated}
 use Rattle.gpu_plan.specs.Plans.{PlansData}
 use Rattle.gpu_plan.specs.Script.{script_of}
-use Rattle.gpu_run.specs.Built.{Ran, run_of}
+use Rattle.gpu_journal.specs.Serial.{serial}
+use Rattle.trial_line.specs.Trials.{trial_text}
+use Rattle.verify_input.specs.Found.{script_in}
+use Rattle.whole_input.specs.Whole.{most_bytes, ReadsAll}
+use Rattle.run_output.specs.Pieces.{AppendsFront}
+use Rattle.script_main.specs.declared.command.Command.{Command}
+use Rattle.script_main.specs.declared.command.Command.TheVariants.{Run, Check, Verify}
 use Rattle.script_main.specs.declared.status.Status.{Status}
 use Rattle.script_main.specs.declared.status.Status.TheVariants as status
-use Rattle.script_main.specs.declared.stop.Stop.{Stop}
-use Rattle.script_main.specs.declared.stop.Stop.TheVariants as stop
-use Rattle.script_main.specs.Whole.{most_bytes, ReadsAll}
+use Rattle.script_main.specs.Input.{ReadsScript}
+use Rattle.script_main.specs.Runs.{prints_loss, whole_output}
+use Rattle.script_main.specs.Counts.{check_text}
 
--- the number that ends the program
-abbrev pub code_of : Status → ℕ
-code_of status.Ok = 0
-code_of status.Usage = 2
-code_of status.ReadFault = 3
-code_of status.WriteFault = 4
-code_of (status.Refused line kind) = 5
-code_of status.NoMemory = 6
-code_of status.TooLong = 7
-code_of status.NotBuilt = 12
+-- the command reads its source
+abbrev pub reads : Option Command → Bool
+reads (Some Run) = true
+reads (Some Check) = true
+reads (Some Verify) = true
+reads _ = false
 
--- the words are the one word `run`
-abbrev pub is_run : List (List ℕ) → Bool
-is_run (word ∷ []) = bytes_eq word (codes "run")
-is_run _ = false
+-- what the bytes that a command reads say as a script: with `verify` those before the line `journal`, and else all
+abbrev pub script_by : Option Command → List ℕ → Result PlansData (ℕ × Kind)
+script_by (Some Verify) text = script_in text
+script_by command text = script_of text
 
--- the run of what was read of a text, where that is a script of the built form
-abbrev pub built : Result PlansData (ℕ × Kind) → Option Ran
-built (Ok plans) = run_of plans
-built (Err refusal) = None
+-- the source was read to its end, and this line is the first bad one of the script, of this kind
+abbrev pub ReadsBad : Option Command → Option (List ℕ) → Option (List ℕ) → ℕ → Kind → Type 0
+ReadsBad command left left_then line kind = (text : List ℕ) × ReadsAll left left_then text × (script_by command text ≡ Err (line, kind))
 
--- the run of a text, where it is a script of the built form
-unfoldable pub built_of : List ℕ → Option Ran
-built_of text = built (script_of text)
+-- a script was read, and all of its output was written, in which a stream is lost by an error or none is
+abbrev pub HasRun : Option (List ℕ) → Option (List ℕ) → ℕ → Bool → Option (List ℕ) → Option (List ℕ) → Type 0
+HasRun left left_then base lost written written_then =
+    (p : PlansData) × ReadsScript left left_then p × (prints_loss (serial p) ≡ lost) × Appends written written_then (whole_output p base)
 
--- the source was read to its end, and its bytes are of the built form and have this run
-abbrev pub ReadsBuilt : Option (List ℕ) → Option (List ℕ) → Ran → Type 0
-ReadsBuilt old new ran = (text : List ℕ) × ReadsAll old new text × (built_of text ≡ Some ran)
+-- a script was read, and a front of its output was written
+abbrev pub HasBegun : Option (List ℕ) → Option (List ℕ) → ℕ → Option (List ℕ) → Option (List ℕ) → Type 0
+HasBegun left left_then base written written_then =
+    (p : PlansData) × ReadsScript left left_then p × AppendsFront written written_then (whole_output p base)
 
--- the source was read to its end, and this line of its bytes is the first bad one, of this kind
-abbrev pub ReadsRefused : Option (List ℕ) → Option (List ℕ) → ℕ → Kind → Type 0
-ReadsRefused old new line kind = (text : List ℕ) × ReadsAll old new text × (script_of text ≡ Err (line, kind))
+-- a script was read, and the line of its counts was written
+abbrev pub HasChecked : Option (List ℕ) → Option (List ℕ) → Option (List ℕ) → Option (List ℕ) → Type 0
+HasChecked left left_then written written_then = (p : PlansData) × ReadsScript left left_then p × Appends written written_then (check_text p)
 
--- the text is a script, and not of the built form
-abbrev pub IsNotBuilt : List ℕ → Type 0
-IsNotBuilt text = IsOk (script_of text) × (built_of text ≡ None)
+-- a script was read, and a front of the line of its counts was written
+abbrev pub HasBegunCheck : Option (List ℕ) → Option (List ℕ) → Option (List ℕ) → Option (List ℕ) → Type 0
+HasBegunCheck left left_then written written_then = (p : PlansData) × ReadsScript left left_then p × AppendsFront written written_then (check_text p)
 
--- the source was read to its end, and its bytes are a script that is not of the built form
-abbrev pub ReadsNotBuilt : Option (List ℕ) → Option (List ℕ) → Type 0
-ReadsNotBuilt old new = (text : List ℕ) × ReadsAll old new text × IsNotBuilt text
+-- the line of a trial: its generated script is one, and was run on one thread
+abbrev pub IsTrial : ℕ → ℕ → List ℕ → Type 0
+IsTrial size seed text = (p : PlansData) × (script_of (generated size seed) ≡ Ok p) × (text ≡ trial_text size seed p (serial p))
 
--- why a text was not run
-abbrev pub Stops : Stop → List ℕ → Type 0
-Stops (stop.Refused line kind) text = script_of text ≡ Err (line, kind)
-Stops stop.NotBuilt text = IsNotBuilt text
-Stops stop.Memory text = Unit {0}
+-- the line of a trial was written
+abbrev pub HasTried : ℕ → ℕ → Option (List ℕ) → Option (List ℕ) → Type 0
+HasTried size seed written written_then = (text : List ℕ) × IsTrial size seed text × Appends written written_then text
 
--- what the program may answer to the word `run` where the source holds this text, and the counts of faults may have risen
-abbrev pub Answers : Status → List ℕ → Type 0 → Type 0 → Type 0
-Answers status.Ok text read_rose write_rose = (length text ≤ most_bytes) × IsSome (built_of text)
-Answers status.Usage text read_rose write_rose = ⊥
-Answers status.ReadFault text read_rose write_rose = read_rose
-Answers status.WriteFault text read_rose write_rose = (length text ≤ most_bytes) × IsSome (built_of text) × write_rose
-Answers (status.Refused line kind) text read_rose write_rose = (length text ≤ most_bytes) × (script_of text ≡ Err (line, kind))
-Answers status.NoMemory text read_rose write_rose = Unit {0}
-Answers status.TooLong text read_rose write_rose = most_bytes < length text
-Answers status.NotBuilt text read_rose write_rose = (length text ≤ most_bytes) × IsNotBuilt text
+-- a front of the line of a trial was written
+abbrev pub HasBegunTrial : ℕ → ℕ → Option (List ℕ) → Option (List ℕ) → Type 0
+HasBegunTrial size seed written written_then = (text : List ℕ) × IsTrial size seed text × AppendsFront written written_then text
+
+-- what `run` may answer where the source holds this text, and the counts of faults may have risen
+abbrev pub AnswersRun : Status → List ℕ → Type 0 → Type 0 → Type 0
+AnswersRun status.Ok text read_rose write_rose = (length text ≤ most_bytes) × IsOk (script_of text)
+AnswersRun status.SomeLost text read_rose write_rose = (length text ≤ most_bytes) × IsOk (script_of text)
+AnswersRun status.Usage text read_rose write_rose = ⊥
+AnswersRun status.ReadFault text read_rose write_rose = read_rose
+AnswersRun status.WriteFault text read_rose write_rose = (length text ≤ most_bytes) × IsOk (script_of text) × write_rose
+AnswersRun (status.Refused line kind) text read_rose write_rose = (length text ≤ most_bytes) × (script_of text ≡ Err (line, kind))
+AnswersRun status.NoMemory text read_rose write_rose = Unit {0}
+AnswersRun status.TooLong text read_rose write_rose = most_bytes < length text
+AnswersRun status.MemoryLost text read_rose write_rose = ⊥
+AnswersRun (status.No event rule) text read_rose write_rose = ⊥
+AnswersRun status.NotComplete text read_rose write_rose = ⊥
+AnswersRun (status.NoJournal line) text read_rose write_rose = ⊥
+
+-- what `check` may answer there: the same, but it tells of no loss
+abbrev pub AnswersCheck : Status → List ℕ → Type 0 → Type 0 → Type 0
+AnswersCheck status.SomeLost text read_rose write_rose = ⊥
+AnswersCheck ending text read_rose write_rose = AnswersRun ending text read_rose write_rose

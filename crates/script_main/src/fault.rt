@@ -5,6 +5,8 @@ use thiserror::Error;
 /// The text of a status other than `Ok`, as standard error shows it.
 #[derive(Clone, Copy, Debug, Error)]
 pub(crate) enum Fault {
+    #[error("some streams were lost")]
+    SomeLost,
     #[error("bad command line")]
     Usage,
     #[error("read fault")]
@@ -17,20 +19,30 @@ pub(crate) enum Fault {
     Memory,
     #[error("input too long")]
     TooLong,
-    #[error("not built yet")]
-    NotBuilt,
+    #[error("streams were lost for want of memory")]
+    MemoryLost,
+    #[error("no: event {event} rule {rule}")]
+    No { event: u32, rule: u32 },
+    #[error("not complete")]
+    NotComplete,
+    #[error("refused: journal line {line}")]
+    NoJournal { line: u32 },
 }
 
 /// What there is to tell of a status.
 pub(crate) fn fault_of(status: Status) -> Option<Fault> {
     match status {
         Status::Ok => None,
+        Status::SomeLost => Some(Fault::SomeLost),
         Status::Usage => Some(Fault::Usage),
         Status::ReadFault => Some(Fault::Read),
         Status::WriteFault => Some(Fault::Write),
         Status::Refused { line, kind } => Some(Fault::Refused { line, kind }),
         Status::NoMemory => Some(Fault::Memory),
         Status::TooLong => Some(Fault::TooLong),
-        Status::NotBuilt => Some(Fault::NotBuilt),
+        Status::MemoryLost => Some(Fault::MemoryLost),
+        Status::No { event, rule } => Some(Fault::No { event, rule }),
+        Status::NotComplete => Some(Fault::NotComplete),
+        Status::NoJournal { line } => Some(Fault::NoJournal { line }),
     }
 }

@@ -1,12 +1,16 @@
-//! The program: it reads a script from standard input, runs it, and writes what the run gives to standard output.
+//! The program: it does what its words ask for, from standard input to standard output.
 #![tactic(auto)]
 
+mod command;
+mod counts;
 mod fault;
-mod reading;
+mod input;
+mod serial_run;
 mod status;
-mod stop;
+mod texts;
 mod top;
-mod writing;
+mod trial;
+mod verifying;
 
 use fault::fault_of;
 use gpu_io::{RealSink, RealSource};
@@ -15,6 +19,10 @@ use std::env;
 use std::io::{self, ErrorKind};
 use std::process::ExitCode;
 use top::plain_top;
+use wait_hooks::Marker;
+
+/// The base of the marks.
+const BASE: u32 = 1000;
 
 // The words of the command line, without the program's name.
 fn words_of(rt: &HostRuntime) -> io::Result<Vec<String>> {
@@ -27,7 +35,13 @@ fn run(rt: &HostRuntime) -> Status {
         Ok(words) => {
             let mut source = RealSource::make(rt.stdin());
             let mut sink = RealSink::make(rt.stdout());
-            plain_top(rt.alloc(), &words, &mut source, &mut sink)
+            plain_top(
+                rt.alloc(),
+                &words,
+                &mut source,
+                &mut sink,
+                Marker::make(BASE),
+            )
         }
         Err(error) if error.kind() == ErrorKind::OutOfMemory => Status::NoMemory,
         Err(_) => Status::Usage,

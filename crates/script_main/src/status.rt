@@ -1,16 +1,18 @@
 ghost use Rattle.std.specs.Prelude.{◌≡◌};
-ghost use Rattle.script_main.specs.Top.{code_of};
+ghost use Rattle.script_main.specs.Statuses.{code_of};
 
 use gpu_plan::Kind;
 
 /// How the program ended.
 #[derive(Clone, Copy, Debug, PartialEq, Eq)]
 pub enum Status {
-    /// The script was run, and all of its output was written.
+    /// All is written that was asked for, and no stream of it was lost by an error.
     Ok,
-    /// The command line is none that the program knows.
+    /// The script was run and all of its output written, in which a stream is lost by an error.
+    SomeLost,
+    /// The command line is none that the program knows; nothing was read or written.
     Usage,
-    /// The input could not be read.
+    /// The input could not be read; nothing was written.
     ReadFault,
     /// The output could not be written; a front of it stands.
     WriteFault,
@@ -20,8 +22,14 @@ pub enum Status {
     NoMemory,
     /// The input is longer than 16,777,216 bytes; nothing was written.
     TooLong,
-    /// The input is a script, and not of the form that is built so far; nothing was written.
-    NotBuilt,
+    /// The script was run and all of its output written, in which a stream is lost for want of memory.
+    MemoryLost,
+    /// The journal is not legal: the first event that breaks a rule, counted from 1, and the least rule that it breaks.
+    No { event: u32, rule: u32 },
+    /// The journal is legal, and not complete.
+    NotComplete,
+    /// No journal stands behind the script: the first line that is none, counted from 1.
+    NoJournal { line: u32 },
 }
 
 impl Status {
@@ -31,13 +39,17 @@ impl Status {
     {
         match self {
             Status::Ok => 0,
+            Status::SomeLost => 1,
             Status::Usage => 2,
             Status::ReadFault => 3,
             Status::WriteFault => 4,
             Status::Refused { .. } => 5,
             Status::NoMemory => 6,
             Status::TooLong => 7,
-            Status::NotBuilt => 12,
+            Status::MemoryLost => 8,
+            Status::No { .. } => 9,
+            Status::NotComplete => 10,
+            Status::NoJournal { .. } => 11,
         }
     }
 }

@@ -1,85 +1,12 @@
-ghost use Rattle.std.specs.Prelude.{◌<◌, ◌^◌};
+ghost use Rattle.std.specs.Prelude.{◌<◌};
 
-use crate::reading::{ReadError, read_all, read_within};
 use crate::status::Status;
 use crate::top::plain_top;
-use crate::writing::write_all;
 use gpu_io::{MemorySink, MemorySource};
 use gpu_plan::Kind;
-use std::alloc::{AllocError, Global};
+use std::alloc::Global;
 use std::test::Fail;
-
-// What reading `abcde` gives in pieces of two bytes, where the reads of these numbers fail.
-fn read_letters(
-    alloc: Global,
-    most: usize,
-    fails: &[u32],
-) -> Result<Result<Vec<u8>, ReadError>, AllocError>
-    requires { most < 2 ^ 63 }
-{
-    let bytes = Vec::from_slice(alloc, b"abcde")?;
-    let fails = Vec::from_slice(alloc, fails)?;
-    let mut source = MemorySource::make(bytes, 2, fails);
-    Ok(read_within(alloc, &mut source, most, &mut [0; 8]))
-}
-
-// What stands after these bytes were written in pieces of two into so much room, and a '!' where that failed.
-fn written(alloc: Global, bytes: &[u8], room: usize) -> Result<Vec<u8>, Fail> {
-    let Ok(mut sink) = MemorySink::make(alloc, room, 2, Vec::new(alloc)) else {
-        return Err(Fail::from("memory is ample"));
-    };
-    let done = write_all(&mut sink, bytes);
-    let mut stands = Vec::from_slice(alloc, sink.bytes())?;
-    if done.is_err() {
-        stands.push(b'!')?;
-    }
-    Ok(stands)
-}
-
-#[test]
-fn reading_stops_at_the_first_fault_or_byte_past_the_limit(rt: HostRuntime) -> Result<(), Fail> {
-    for (most, failing, want) in [
-        (4, 9, ReadError::TooLong),
-        (3, 2, ReadError::Fault),
-        (1, 2, ReadError::TooLong),
-        (1, 1, ReadError::Fault),
-        (5, 4, ReadError::Fault),
-    ] {
-        let read = read_letters(rt.alloc(), most, &[failing])?;
-        assert_eq!(rt;
-            read.err(),
-            Some(want),
-            "{failing} fails, and {most} are allowed"
-        );
-    }
-    let Ok(read) = read_letters(rt.alloc(), 5, &[])? else {
-        return Err(Fail::from("no read fails"));
-    };
-    assert_eq!(rt; read.as_slice(), b"abcde".as_slice());
-    Ok(())
-}
-
-#[test]
-fn a_whole_text_is_read(rt: HostRuntime) -> Result<(), Fail> {
-    let bytes = Vec::from_slice(rt.alloc(), b"abc")?;
-    let mut source = MemorySource::make(bytes, 1, Vec::new(rt.alloc()));
-    let Ok(read) = read_all(rt.alloc(), &mut source) else {
-        return Err(Fail::from("memory is ample"));
-    };
-    assert_eq!(rt; read.as_slice(), b"abc".as_slice());
-    Ok(())
-}
-
-#[test]
-fn a_front_stands_after_a_failed_write(rt: HostRuntime) -> Result<(), Fail> {
-    let whole = written(rt.alloc(), b"abcde", 5)?;
-    assert_eq!(rt; whole.as_slice(), b"abcde".as_slice());
-    let front = written(rt.alloc(), b"abcde", 3)?;
-    assert_eq!(rt; front.as_slice(), b"abc!".as_slice());
-    let nothing = written(rt.alloc(), b"", 0)?;
-    assert_eq!(rt; nothing.as_slice(), b"".as_slice());
-    Ok(())
-}
+use wait_hooks::Marker;
 
 const TWO_TEXELS: &[u8] = b"gpu-script 1
 stream 1 normal 16
@@ -96,9 +23,24 @@ ff0000ff ff0000ff
 stream 1 done entries 11 release 0 token 0 words 11 errors 0 0 0
 ";
 
-const EMPTY_FLUSH_OUTPUT: &[u8] = b"order 1 1 0
+// The script and its output, as `verify` reads them.
+const TWO_TEXELS_VERIFIED: &[u8] = b"gpu-script 1
+stream 1 normal 16
+put 0 20400004 1 2 1 20800007 1 0 0 2 1 ff0000ff
+flush 11
+ journal \r
+order 1 1 11
+step 1 0:20400004 1:00000001 2:00000002 3:00000001
+step 1 4:20800007 5:00000001 6:00000000 7:00000000 8:00000002 9:00000001 10:ff0000ff
 finish 1 1
-stream 1 done entries 0 release 0 token 0 words 0 errors 0 0 0
+image 1 2 1
+ff0000ff ff0000ff
+stream 1 done entries 11 release 0 token 0 words 11 errors 0 0 0
+";
+
+const ONE_FLUSH: &[u8] = b"gpu-script 1
+stream 1 normal 16
+flush 0
 ";
 
 // How a source and a sink behave: the sizes of their pieces, and the number of a call that fails, or 0.
@@ -112,10 +54,27 @@ struct Edges {
     ghost write_some: { 0 < write_piece },
 }
 
-// How the program ends on a word and a text, and what stands in its sink then.
-fn ended(alloc: Global, word: &str, text: &[u8], edges: &Edges) -> Result<(Status, Vec<u8>), Fail> {
-    let mut words = Vec::new(alloc);
-    words.push(String::from_str(alloc, word)?)?;
+// Edges at which nothing fails.
+fn steady() -> Edges {
+    Edges {
+        read_piece: 16,
+        read_fails: 0,
+        write_piece: 10,
+        write_fails: 0,
+    }
+}
+
+// How the program ends on some words and a text, and what stands in its sink then.
+fn ended(
+    alloc: Global,
+    words: &[&str],
+    text: &[u8],
+    edges: &Edges,
+) -> Result<(Status, Vec<u8>), Fail> {
+    let mut given = Vec::new(alloc);
+    for word in words {
+        given.push(String::from_str(alloc, word)?)?;
+    }
     let bytes = Vec::from_slice(alloc, text)?;
     let read_fails = Vec::from_slice(alloc, &[edges.read_fails])?;
     let write_fails = Vec::from_slice(alloc, &[edges.write_fails])?;
@@ -123,114 +82,277 @@ fn ended(alloc: Global, word: &str, text: &[u8], edges: &Edges) -> Result<(Statu
     let Ok(mut sink) = MemorySink::make(alloc, 4096, edges.write_piece, write_fails) else {
         return Err(Fail::from("memory is ample"));
     };
-    let status = plain_top(alloc, &words, &mut source, &mut sink);
+    let status = plain_top(alloc, &given, &mut source, &mut sink, Marker::make(1000));
     Ok((status, Vec::from_slice(alloc, sink.bytes())?))
 }
 
 #[test]
-fn the_program_ends_as_its_text_says(rt: HostRuntime) -> Result<(), Fail> {
-    let edges = Edges {
-        read_piece: 16,
-        read_fails: 0,
-        write_piece: 10,
-        write_fails: 0,
-    };
-    let cases: [(&str, &[u8], Status, &[u8]); 12] = [
-        ("run", TWO_TEXELS, Status::Ok, TWO_TEXELS_OUTPUT),
-        (
-            "run",
-            b"gpu-script 1\nstream 1 normal 16\nflush 0\n",
-            Status::Ok,
-            EMPTY_FLUSH_OUTPUT,
-        ),
-        ("check", TWO_TEXELS, Status::Usage, b""),
-        ("run", b"gpu-script 1\n", Status::NotBuilt, b""),
-        (
-            "run",
-            b"",
-            Status::Refused {
-                line: 1,
-                kind: Kind::Head,
-            },
-            b"",
-        ),
-        (
-            "run",
-            b"gpu-script 1\n# remark\nstream 1 low 15\n",
+fn check_tells_the_counts(rt: HostRuntime) -> Result<(), Fail> {
+    let (status, stands) = ended(rt.alloc(), &["check"], TWO_TEXELS, &steady())?;
+    assert_eq!(rt; status, Status::Ok);
+    assert_eq!(rt;
+        stands.as_slice(),
+        b"ok streams 1 actions 12 flushes 1\n".as_slice()
+    );
+    Ok(())
+}
+
+#[test]
+fn a_bad_line_is_refused(rt: HostRuntime) -> Result<(), Fail> {
+    let text = b"gpu-script 1\n# remark\nstream 1 low 15\n";
+    for word in ["check", "run"] {
+        let (status, stands) = ended(rt.alloc(), &[word], text, &steady())?;
+        assert_eq!(rt;
+            status,
             Status::Refused {
                 line: 3,
-                kind: Kind::Limit,
-            },
-            b"",
-        ),
-        // A memory, and a finish.
-        (
-            "run",
-            b"gpu-script 1\nstream 1 low 16\nresults 0 1\nflush 0\n",
-            Status::NotBuilt,
-            b"",
-        ),
-        (
-            "run",
-            b"gpu-script 1\nstream 1 low 16\nfinish\nflush 0\n",
-            Status::NotBuilt,
-            b"",
-        ),
-        // A put at the ring's length, a Noop, an image that is there already, and a fence.
-        (
-            "run",
-            b"gpu-script 1\nstream 1 low 16\nflush 16\n",
-            Status::NotBuilt,
-            b"",
-        ),
-        (
-            "run",
-            b"gpu-script 1\nstream 1 low 16\nput 0 1\nflush 1\n",
-            Status::NotBuilt,
-            b"",
-        ),
-        (
-            "run",
-            b"gpu-script 1\nstream 1 low 16\nput 0 20400004 1 1 1 20400004 1 1 1\nflush 8\n",
-            Status::NotBuilt,
-            b"",
-        ),
-        (
-            "run",
-            b"gpu-script 1\nstream 1 low 16\nflush 0 1 1\n",
-            Status::NotBuilt,
-            b"",
-        ),
-    ];
-    for (word, text, want, written) in cases {
-        let (status, stands) = ended(rt.alloc(), word, text, &edges)?;
-        assert_eq!(rt; status, want);
-        assert_eq!(rt; stands.as_slice(), written);
+                kind: Kind::Limit
+            }
+        );
+        assert_eq!(rt; stands.as_slice(), b"".as_slice());
     }
     Ok(())
 }
 
 #[test]
-fn faults_end_the_program(rt: HostRuntime) -> Result<(), Fail> {
-    let failing_sink = Edges {
-        read_piece: 4096,
-        read_fails: 0,
-        write_piece: 10,
-        write_fails: 3,
-    };
-    let (status, stands) = ended(rt.alloc(), "run", TWO_TEXELS, &failing_sink)?;
+fn other_words_are_no_command(rt: HostRuntime) -> Result<(), Fail> {
+    let lists: [&[&str]; 15] = [
+        &[],
+        &["run", "--workers"],
+        &["run", "--workers", "00"],
+        &["run", "--workers=9"],
+        &["0"],
+        &["check", "check"],
+        &["generate", "0", "1"],
+        &["generate", "2001", "1"],
+        &["generate", "1", "4294967296"],
+        &["trial"],
+        &["trial", "1"],
+        &["trial", "0", "1"],
+        &["trial", "2001", "1"],
+        &["trial", "1", "+1"],
+        &["verify", "run"],
+    ];
+    for words in lists {
+        let (status, stands) = ended(rt.alloc(), words, TWO_TEXELS, &steady())?;
+        assert_eq!(rt; status, Status::Usage);
+        assert_eq!(rt; status.code(), 2);
+        assert_eq!(rt; stands.as_slice(), b"".as_slice());
+    }
+    Ok(())
+}
+
+#[test]
+fn generate_writes_its_script(rt: HostRuntime) -> Result<(), Fail> {
+    let (status, stands) = ended(rt.alloc(), &["generate", "0001", "0"], b"", &steady())?;
+    assert_eq!(rt; status, Status::Ok);
+    assert!(rt; is_front(b"gpu-script 1\nstream 1 low 64\nmemory 0 16\n", &stands));
+    Ok(())
+}
+
+#[test]
+fn a_script_is_run(rt: HostRuntime) -> Result<(), Fail> {
+    let (status, stands) = ended(rt.alloc(), &["run", "--workers=0"], TWO_TEXELS, &steady())?;
+    assert_eq!(rt; status, Status::Ok);
+    assert_eq!(rt; stands.as_slice(), TWO_TEXELS_OUTPUT);
+    Ok(())
+}
+
+#[test]
+fn a_front_of_the_output_stands(rt: HostRuntime) -> Result<(), Fail> {
+    let mut edges = steady();
+    edges.write_fails = 3;
+    let (status, stands) = ended(rt.alloc(), &["run"], TWO_TEXELS, &edges)?;
     assert_eq!(rt; status, Status::WriteFault);
     assert_eq!(rt; status.code(), 4);
     assert_eq!(rt; stands.as_slice(), b"order 1 1 11\nstep 1 ".as_slice());
-    let failing_source = Edges {
-        read_piece: 16,
-        read_fails: 2,
-        write_piece: 10,
-        write_fails: 0,
-    };
-    let (status, stands) = ended(rt.alloc(), "run", TWO_TEXELS, &failing_source)?;
+    Ok(())
+}
+
+#[test]
+fn a_failing_source_ends_the_program(rt: HostRuntime) -> Result<(), Fail> {
+    let mut edges = steady();
+    edges.read_fails = 2;
+    let (status, stands) = ended(rt.alloc(), &["run"], TWO_TEXELS, &edges)?;
     assert_eq!(rt; status, Status::ReadFault);
-    assert_eq!(rt; status.code(), 3);
     assert_eq!(rt; stands.as_slice(), b"".as_slice());
+    Ok(())
+}
+
+// Whether these bytes are the first of those.
+fn is_front(front: &[u8], whole: &[u8]) -> bool {
+    front.len() <= whole.len() && &whole[..front.len()] == front
+}
+
+#[test]
+fn each_failing_read_ends_the_program(rt: HostRuntime) -> Result<(), Fail> {
+    for read_fails in 1..=TWO_TEXELS.len() as u32 + 1 {
+        let mut edges = steady();
+        edges.read_piece = 1;
+        edges.read_fails = read_fails;
+        let (status, stands) = ended(rt.alloc(), &["run"], TWO_TEXELS, &edges)?;
+        assert_eq!(rt; status, Status::ReadFault, "read {read_fails} fails");
+        assert_eq!(rt; stands.as_slice(), b"".as_slice());
+    }
+    Ok(())
+}
+
+#[test]
+fn each_failing_write_leaves_a_front(rt: HostRuntime) -> Result<(), Fail> {
+    for write_fails in 1..=TWO_TEXELS_OUTPUT.len() as u32 {
+        let mut edges = steady();
+        edges.write_piece = 1;
+        edges.write_fails = write_fails;
+        let (status, stands) = ended(rt.alloc(), &["run"], TWO_TEXELS, &edges)?;
+        assert_eq!(rt; status, Status::WriteFault, "write {write_fails} fails");
+        assert_eq!(rt; stands.len(), write_fails as usize - 1);
+        assert!(rt; is_front(&stands, TWO_TEXELS_OUTPUT));
+    }
+    Ok(())
+}
+
+#[test]
+fn nothing_to_write_makes_no_write(rt: HostRuntime) -> Result<(), Fail> {
+    let mut edges = steady();
+    edges.write_fails = 1;
+    let (status, stands) = ended(rt.alloc(), &["run"], b"gpu-script 1\n", &edges)?;
+    assert_eq!(rt; status, Status::Ok);
+    assert_eq!(rt; stands.as_slice(), b"".as_slice());
+    Ok(())
+}
+
+#[test]
+fn a_lost_stream_is_told(rt: HostRuntime) -> Result<(), Fail> {
+    let text = b"gpu-script 1\nstream 1 normal 16\nput 0 6\nflush 4\n";
+    let (status, stands) = ended(rt.alloc(), &["run", "--workers", "0"], text, &steady())?;
+    assert_eq!(rt; status, Status::SomeLost);
+    assert_eq!(rt; status.code(), 1);
+    assert_eq!(rt;
+        stands.as_slice(),
+        b"order 1 1 1\nlost 1 2 0:00000006\nstream 1 lost 2 entries 0 release 0 token 0 words 0 errors 0 0 0\n".as_slice()
+    );
+    Ok(())
+}
+
+#[test]
+fn a_byte_past_the_limit_is_too_much(rt: HostRuntime) -> Result<(), Fail> {
+    let text = vec![in rt.alloc(); b'#'; 16_777_217]?;
+    let mut edges = steady();
+    edges.read_piece = 65_536;
+    for word in ["run", "check", "verify"] {
+        let (status, stands) = ended(rt.alloc(), &[word], &text, &edges)?;
+        assert_eq!(rt; status, Status::TooLong);
+        assert_eq!(rt; status.code(), 7);
+        assert_eq!(rt; stands.as_slice(), b"".as_slice());
+    }
+    Ok(())
+}
+
+#[test]
+fn trial_writes_its_line_and_reads_nothing(rt: HostRuntime) -> Result<(), Fail> {
+    let mut edges = steady();
+    edges.read_fails = 1;
+    let (status, stands) = ended(rt.alloc(), &["trial", "01", "000"], b"", &edges)?;
+    assert_eq!(rt; status, Status::Ok);
+    assert_eq!(rt;
+        stands.as_slice(),
+        b"trial 1 0 events 44 lost 0 images 4 endings 1 sum 95bc861b\n".as_slice()
+    );
+    Ok(())
+}
+
+#[test]
+fn a_front_of_a_trial_stands(rt: HostRuntime) -> Result<(), Fail> {
+    let mut edges = steady();
+    edges.write_fails = 2;
+    let (status, stands) = ended(rt.alloc(), &["trial", "1", "0"], b"", &edges)?;
+    assert_eq!(rt; status, Status::WriteFault);
+    assert_eq!(rt; stands.as_slice(), b"trial 1 0 ".as_slice());
+    Ok(())
+}
+
+#[test]
+fn a_right_journal_is_told_with_its_images(rt: HostRuntime) -> Result<(), Fail> {
+    let (status, stands) = ended(rt.alloc(), &["verify"], TWO_TEXELS_VERIFIED, &steady())?;
+    assert_eq!(rt; status, Status::Ok);
+    assert_eq!(rt;
+        stands.as_slice(),
+        b"yes events 4\nimage 1 2 1\nff0000ff ff0000ff\n".as_slice()
+    );
+    Ok(())
+}
+
+#[test]
+fn a_front_of_a_right_journal_stands(rt: HostRuntime) -> Result<(), Fail> {
+    let mut edges = steady();
+    edges.write_fails = 3;
+    let (status, stands) = ended(rt.alloc(), &["verify"], TWO_TEXELS_VERIFIED, &edges)?;
+    assert_eq!(rt; status, Status::WriteFault);
+    assert_eq!(rt; stands.as_slice(), b"yes events 4\nimage 1".as_slice());
+    Ok(())
+}
+
+#[test]
+fn a_failing_source_ends_verify(rt: HostRuntime) -> Result<(), Fail> {
+    let mut edges = steady();
+    edges.read_fails = 2;
+    let (status, stands) = ended(rt.alloc(), &["verify"], TWO_TEXELS_VERIFIED, &edges)?;
+    assert_eq!(rt; status, Status::ReadFault);
+    assert_eq!(rt; stands.as_slice(), b"".as_slice());
+    Ok(())
+}
+
+// How `verify` ends on a script of one flush and what stands behind it. Nothing is written.
+fn verified(alloc: Global, behind: &[u8]) -> Result<Status, Fail> {
+    let mut text = Vec::from_slice(alloc, ONE_FLUSH)?;
+    text.extend_from_slice(behind)?;
+    let (status, stands) = ended(alloc, &["verify"], &text, &steady())?;
+    if !stands.is_empty() {
+        return Err(Fail::from("nothing is written"));
+    }
+    Ok(status)
+}
+
+#[test]
+fn a_wrong_event_is_named(rt: HostRuntime) -> Result<(), Fail> {
+    let status = verified(rt.alloc(), b"journal\norder 1 1 0\nfinish 1 2\n")?;
+    assert_eq!(rt; status, Status::No { event: 2, rule: 4 });
+    assert_eq!(rt; status.code(), 9);
+    Ok(())
+}
+
+#[test]
+fn a_journal_may_be_cut_short(rt: HostRuntime) -> Result<(), Fail> {
+    let status = verified(rt.alloc(), b"journal\norder 1 1 0\n")?;
+    assert_eq!(rt; status, Status::NotComplete);
+    assert_eq!(rt; status.code(), 10);
+    Ok(())
+}
+
+#[test]
+fn a_line_that_is_no_event_is_named(rt: HostRuntime) -> Result<(), Fail> {
+    let status = verified(rt.alloc(), b"journal\norder 1 01 0\n")?;
+    assert_eq!(rt; status, Status::NoJournal { line: 5 });
+    assert_eq!(rt; status.code(), 11);
+    Ok(())
+}
+
+#[test]
+fn a_script_alone_has_no_journal(rt: HostRuntime) -> Result<(), Fail> {
+    let status = verified(rt.alloc(), b"")?;
+    assert_eq!(rt; status, Status::NoJournal { line: 4 });
+    Ok(())
+}
+
+#[test]
+fn a_bad_line_of_the_script_comes_first(rt: HostRuntime) -> Result<(), Fail> {
+    let status = verified(rt.alloc(), b"flush\njournal\nno event\n")?;
+    assert_eq!(rt;
+        status,
+        Status::Refused {
+            line: 4,
+            kind: Kind::Word
+        }
+    );
     Ok(())
 }

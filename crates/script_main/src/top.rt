@@ -1,135 +1,180 @@
-ghost use Rattle.std.specs.Prelude.{◌≡◌, ◌↔◌, ◌≤◌, ℕ, List, Some, true, false, length, map, string_bytes, IfOk, MatchResult, option_map};
+ghost use Rattle.std.specs.Prelude.{◌≡◌, ◌↔◌, ℕ, List, Some, None, false, true, map, string_bytes};
 ghost use Rattle.std.specs.Io.KnownBytes.{Appends};
 ghost use Rattle.gpu_io.specs.Faults.{HasRisen};
-ghost use Rattle.gpu_run.specs.Built.{Ran, output};
 ghost use Rattle.script_lines.specs.declared.fault.Kind.{Kind};
-ghost use Rattle.script_main.specs.Whole.{most_bytes, ReadsAtMost, ReadsMoreThan, AppendsFront};
-ghost use Rattle.script_main.specs.Top.{is_run, built_of, ReadsBuilt, ReadsRefused, ReadsNotBuilt, Stops, Answers};
+ghost use Rattle.script_generator.specs.Generator.{generated};
+ghost use Rattle.verify_input.specs.declared.finding.Finding.{Finding};
+ghost use Rattle.whole_input.specs.Whole.{most_bytes, ReadsAtMost, ReadsMoreThan};
+ghost use Rattle.run_output.specs.Pieces.{AppendsFront};
+ghost use Rattle.script_main.specs.declared.command.Command.TheVariants.{Run, Check, Generate, Trial, Verify};
+ghost use Rattle.script_main.specs.Commands.{command_of};
+ghost use Rattle.script_main.specs.Input.{ReadsRefused, status_of};
+ghost use Rattle.script_main.specs.Runs.{IsTextEnd, IsRunAnswer, IsCheckAnswer};
+ghost use Rattle.script_main.specs.Top.{reads, ReadsBad, HasRun, HasBegun, HasChecked, HasBegunCheck, HasTried, HasBegunTrial, AnswersRun, AnswersCheck};
+ghost use Rattle.script_main.specs.Verified.{HasVerified, HasBegunVerified, HasFound, AnswersVerify};
 
-use crate::reading::{ReadError, read_all};
+use crate::command::{Command, command_of};
+use crate::counts::check_text;
+use crate::input::{Stop, read_script};
+use crate::serial_run::run_plans;
 use crate::status::Status;
-use crate::stop::Stop;
-use crate::writing::write_all;
+use crate::texts::{write_generated, write_text};
+use crate::trial::write_trial;
+use crate::verifying::verify_journal;
 use gpu_io::{Sink, Source};
-use gpu_journal::{End, journal_text, picture_text, tally_text};
-use gpu_plan::{ScriptFault, parse};
-use gpu_run::{Report, run_one};
-use gpu_word::Memory;
 use std::alloc::Global;
+use wait_hooks::Hook;
 
-/// The one stream of a script of the built form.
-const FIRST: u32 = 1;
-
-// Whether the words are the one word `run`.
-fn is_run(words: &[String]) -> bool
-    ensures { result ≡ is_run (map string_bytes words.now) }
+// The status where no script was read.
+fn stopped(stop: Stop) -> Status
+    ensures { result ≡ status_of stop }
 {
-    match words {
-        [word] => word.as_str() == "run",
-        _ => false,
+    match stop {
+        Stop::Fault => Status::ReadFault,
+        Stop::TooLong => Status::TooLong,
+        Stop::Refused { line, kind } => Status::Refused { line, kind },
+        Stop::Memory => Status::NoMemory,
     }
 }
 
-// What the run of a text leaves, where the text is a script of the built form.
-#[tactic(auto, unfolding(crate::specs::Top::built_of))]
-fn run_text(alloc: Global, text: &[u8]) -> Result<Report, Stop>
-    requires { length text.now ≤ most_bytes }
-    ensures { MatchResult result (λ report. built_of text.now ≡ Some report) (λ stop. Stops stop text.now) }
+// Runs the script that a source holds.
+#[tactic(auto, using(crate::proofs::Stopping::run_ends, crate::proofs::Stopping::stop_run))]
+fn run_script<S: Source, K: Sink, H: Hook>(
+    alloc: Global,
+    source: &mut S,
+    sink: &mut K,
+    hook: H,
+) -> Status
+    ensures ok { result ≡ Status.Ok → HasRun (S.left source.old) (S.left source.new) (H.base hook) false (K.written sink.old) (K.written sink.new) }
+    ensures some_lost { result ≡ Status.SomeLost → HasRun (S.left source.old) (S.left source.new) (H.base hook) true (K.written sink.old) (K.written sink.new) }
+    ensures front { result ≡ Status.WriteFault → HasBegun (S.left source.old) (S.left source.new) (H.base hook) (K.written sink.old) (K.written sink.new) }
+    ensures write_fault { result ≡ Status.WriteFault → HasRisen (K.faults sink.old) (K.faults sink.new) }
+    ensures refused { (line : ℕ) → (kind : Kind) → result ≡ Status.Refused line kind
+        → ReadsRefused (S.left source.old) (S.left source.new) line kind }
+    ensures too_long { result ≡ Status.TooLong → ReadsMoreThan most_bytes (S.left source.old) (S.left source.new) }
+    ensures read_fault { result ≡ Status.ReadFault → HasRisen (S.faults source.old) (S.faults source.new) }
+    ensures early { result ≡ Status.ReadFault → ReadsAtMost most_bytes (S.left source.old) (S.left source.new) }
+    ensures ends { IsRunAnswer result }
+    ensures nothing { (result ≡ Status.Ok → ⊥) → (result ≡ Status.SomeLost → ⊥) → (result ≡ Status.WriteFault → ⊥) → K.written sink.new ≡ K.written sink.old }
+    ensures complete { (text : List ℕ) → S.left source.old ≡ Some text
+        → AnswersRun result text (HasRisen (S.faults source.old) (S.faults source.new)) (HasRisen (K.faults sink.old) (K.faults sink.new)) }
 {
-    let plans = match parse(alloc, text) {
+    match read_script(alloc, source) {
+        Ok(plans) => run_plans(alloc, plans, sink, hook),
+        Err(stop) => stopped(stop),
+    }
+}
+
+// Writes the line of the counts of the script that a source holds.
+#[tactic(auto, using(crate::proofs::Stopping::text_check, crate::proofs::Stopping::stop_check))]
+fn check_script<S: Source, K: Sink>(alloc: Global, source: &mut S, sink: &mut K) -> Status
+    ensures ok { result ≡ Status.Ok → HasChecked (S.left source.old) (S.left source.new) (K.written sink.old) (K.written sink.new) }
+    ensures front { result ≡ Status.WriteFault → HasBegunCheck (S.left source.old) (S.left source.new) (K.written sink.old) (K.written sink.new) }
+    ensures write_fault { result ≡ Status.WriteFault → HasRisen (K.faults sink.old) (K.faults sink.new) }
+    ensures refused { (line : ℕ) → (kind : Kind) → result ≡ Status.Refused line kind
+        → ReadsRefused (S.left source.old) (S.left source.new) line kind }
+    ensures too_long { result ≡ Status.TooLong → ReadsMoreThan most_bytes (S.left source.old) (S.left source.new) }
+    ensures read_fault { result ≡ Status.ReadFault → HasRisen (S.faults source.old) (S.faults source.new) }
+    ensures early { result ≡ Status.ReadFault → ReadsAtMost most_bytes (S.left source.old) (S.left source.new) }
+    ensures ends { IsCheckAnswer result }
+    ensures nothing { (result ≡ Status.Ok → ⊥) → (result ≡ Status.WriteFault → ⊥) → K.written sink.new ≡ K.written sink.old }
+    ensures complete { (text : List ℕ) → S.left source.old ≡ Some text
+        → AnswersCheck result text (HasRisen (S.faults source.old) (S.faults source.new)) (HasRisen (K.faults sink.old) (K.faults sink.new)) }
+{
+    let plans = match read_script(alloc, source) {
         Ok(plans) => plans,
-        Err(ScriptFault::Refused { line, kind }) => return Err(Stop::Refused { line, kind }),
-        Err(ScriptFault::Memory) => return Err(Stop::Memory),
+        Err(stop) => return stopped(stop),
     };
-    match run_one(alloc, &plans) {
-        Ok(Some(report)) => Ok(report),
-        Ok(None) => Err(Stop::NotBuilt),
-        Err(_) => Err(Stop::Memory),
+    match check_text(alloc, &plans) {
+        Ok(text) => write_text(sink, &text),
+        Err(_) => Status::NoMemory,
     }
 }
 
-// The output of a run.
-#[tactic(auto, unfolding(gpu_run::specs::Built::output))]
-fn output(alloc: Global, report: &Report) -> Result<Vec<u8>, Memory>
-    ensures { IfOk result (λ text. text.items ≡ output report.now) }
-{
-    let mut text = journal_text(alloc, report.journal().events())?;
-    let picture = picture_text(alloc, report.images())?;
-    let stream = tally_text(alloc, FIRST, report.tally(), End::Done)?;
-    text.extend_from_slice(&picture)?;
-    text.extend_from_slice(&stream)?;
-    Ok(text)
-}
-
-// The output of a text's run, where the text is a script of the built form.
-fn output_of(alloc: Global, text: &[u8]) -> Result<Vec<u8>, Stop>
-    requires { length text.now ≤ most_bytes }
-    ensures { MatchResult result (λ bytes. option_map output (built_of text.now) ≡ Some bytes.items) (λ stop. Stops stop text.now) }
-{
-    match run_text(alloc, text) {
-        Ok(report) => match output(alloc, &report) {
-            Ok(bytes) => Ok(bytes),
-            Err(_) => Err(Stop::Memory),
-        },
-        Err(stop) => Err(stop),
-    }
-}
-
-/// The program without its threads: it reads a script from the source, runs it, and writes what the run gives to the sink.
+/// The program on one thread: it does what its words ask for.
 ///
-/// The script has to be of the built form: one stream with a ring alone, whose actions are puts and one last flush
-/// without fences, whose commands all create or clear images, each with the answer Done. It takes no Wait, and always
-/// returns.
-pub fn plain_top<S: Source, K: Sink>(
+/// `run` reads a script, runs it by the rule for one thread, and writes the output; `check` writes how much a script has;
+/// `generate` writes a script, and `trial` one line of what comes of such a script; `verify` judges a journal; every other
+/// list of words is refused. It takes no Wait, and always returns.
+pub fn plain_top<S: Source, K: Sink, H: Hook>(
     alloc: Global,
     words: &[String],
     source: &mut S,
     sink: &mut K,
+    hook: H,
 ) -> Status
-    // A script of the built form was read, and the text of its serial history was written.
-    ensures ok { result ≡ Status.Ok → (ran : Ran)
-        × ReadsBuilt (S.left source.old) (S.left source.new) ran
-        × Appends (K.written sink.old) (K.written sink.new) (output ran) }
-    ensures usage { result ≡ Status.Usage ↔ (is_run (map string_bytes words.now) ≡ false) }
-    ensures too_long { result ≡ Status.TooLong → ReadsMoreThan most_bytes (S.left source.old) (S.left source.new) }
+    ensures usage { result ≡ Status.Usage ↔ (command_of (map string_bytes words.now) ≡ None) }
+    ensures unread { reads (command_of (map string_bytes words.now)) ≡ false → source.new ≡ source.old }
+
+    // `run`: a script was read, and the output of its serial history was written, in which a stream is lost by an error or
+    // none is; after a fault of the sink a front of that output stands.
+    ensures run_ok { command_of (map string_bytes words.now) ≡ Some Run → result ≡ Status.Ok
+        → HasRun (S.left source.old) (S.left source.new) (H.base hook) false (K.written sink.old) (K.written sink.new) }
+    ensures run_some_lost { result ≡ Status.SomeLost
+        → HasRun (S.left source.old) (S.left source.new) (H.base hook) true (K.written sink.old) (K.written sink.new) }
+    ensures run_front { command_of (map string_bytes words.now) ≡ Some Run → result ≡ Status.WriteFault
+        → HasBegun (S.left source.old) (S.left source.new) (H.base hook) (K.written sink.old) (K.written sink.new) }
+
+    // `check`: a script was read, and the line of its counts was written, or a front of it.
+    ensures check_ok { command_of (map string_bytes words.now) ≡ Some Check → result ≡ Status.Ok
+        → HasChecked (S.left source.old) (S.left source.new) (K.written sink.old) (K.written sink.new) }
+    ensures check_front { command_of (map string_bytes words.now) ≡ Some Check → result ≡ Status.WriteFault
+        → HasBegunCheck (S.left source.old) (S.left source.new) (K.written sink.old) (K.written sink.new) }
+
+    // `generate`: the generated script was written, or a front of it.
+    ensures generate_ok { (size seed : ℕ) → command_of (map string_bytes words.now) ≡ Some (Generate size seed) → result ≡ Status.Ok
+        → Appends (K.written sink.old) (K.written sink.new) (generated size seed) }
+    ensures generate_front { (size seed : ℕ) → command_of (map string_bytes words.now) ≡ Some (Generate size seed) → result ≡ Status.WriteFault
+        → AppendsFront (K.written sink.old) (K.written sink.new) (generated size seed) }
+    ensures generate_ends { (size seed : ℕ) → command_of (map string_bytes words.now) ≡ Some (Generate size seed) → IsTextEnd result }
+
+    // `trial`: the line for the serial history of the generated script was written, or a front of it.
+    ensures trial_ok { (size seed : ℕ) → command_of (map string_bytes words.now) ≡ Some (Trial size seed) → result ≡ Status.Ok
+        → HasTried size seed (K.written sink.old) (K.written sink.new) }
+    ensures trial_front { (size seed : ℕ) → command_of (map string_bytes words.now) ≡ Some (Trial size seed) → result ≡ Status.WriteFault
+        → HasBegunTrial size seed (K.written sink.old) (K.written sink.new) }
+    ensures trial_ends { (size seed : ℕ) → command_of (map string_bytes words.now) ≡ Some (Trial size seed) → IsTextEnd result }
+
+    // `verify`: a script and a legal and complete journal of it were read, and the text of a right journal was written, or a
+    // front of it; or something else is found of what was read.
+    ensures verify_ok { command_of (map string_bytes words.now) ≡ Some Verify → result ≡ Status.Ok
+        → HasVerified (S.left source.old) (S.left source.new) (K.written sink.old) (K.written sink.new) }
+    ensures verify_front { command_of (map string_bytes words.now) ≡ Some Verify → result ≡ Status.WriteFault
+        → HasBegunVerified (S.left source.old) (S.left source.new) (K.written sink.old) (K.written sink.new) }
+    ensures no { (event rule : ℕ) → result ≡ Status.No event rule
+        → HasFound (command_of (map string_bytes words.now)) (S.left source.old) (S.left source.new) (Finding.No event rule) }
+    ensures not_complete { result ≡ Status.NotComplete
+        → HasFound (command_of (map string_bytes words.now)) (S.left source.old) (S.left source.new) Finding.NotComplete }
+    ensures no_journal { (line : ℕ) → result ≡ Status.NoJournal line
+        → HasFound (command_of (map string_bytes words.now)) (S.left source.old) (S.left source.new) (Finding.NoJournal line) }
+
     ensures refused { (line : ℕ) → (kind : Kind) → result ≡ Status.Refused line kind
-        → ReadsRefused (S.left source.old) (S.left source.new) line kind }
-    ensures not_built { result ≡ Status.NotBuilt → ReadsNotBuilt (S.left source.old) (S.left source.new) }
+        → ReadsBad (command_of (map string_bytes words.now)) (S.left source.old) (S.left source.new) line kind }
+    ensures too_long { result ≡ Status.TooLong → ReadsMoreThan most_bytes (S.left source.old) (S.left source.new) }
+    ensures memory_lost { result ≡ Status.MemoryLost → ⊥ }
 
     // A fault of the source came before a byte past the limit.
     ensures read_fault { result ≡ Status.ReadFault → HasRisen (S.faults source.old) (S.faults source.new) }
     ensures early { result ≡ Status.ReadFault → ReadsAtMost most_bytes (S.left source.old) (S.left source.new) }
-
-    // After a fault of the sink a front of the text stands.
     ensures write_fault { result ≡ Status.WriteFault → HasRisen (K.faults sink.old) (K.faults sink.new) }
-    ensures front { result ≡ Status.WriteFault → (ran : Ran)
-        × ReadsBuilt (S.left source.old) (S.left source.new) ran
-        × AppendsFront (K.written sink.old) (K.written sink.new) (output ran) }
 
     // Where the source tells its text, the answer is the one that the text has, but for faults and want of memory.
-    ensures complete { (text : List ℕ) → is_run (map string_bytes words.now) ≡ true → S.left source.old ≡ Some text
-        → Answers result text (HasRisen (S.faults source.old) (S.faults source.new)) (HasRisen (K.faults sink.old) (K.faults sink.new)) }
+    ensures run_complete { (text : List ℕ) → command_of (map string_bytes words.now) ≡ Some Run → S.left source.old ≡ Some text
+        → AnswersRun result text (HasRisen (S.faults source.old) (S.faults source.new)) (HasRisen (K.faults sink.old) (K.faults sink.new)) }
+    ensures check_complete { (text : List ℕ) → command_of (map string_bytes words.now) ≡ Some Check → S.left source.old ≡ Some text
+        → AnswersCheck result text (HasRisen (S.faults source.old) (S.faults source.new)) (HasRisen (K.faults sink.old) (K.faults sink.new)) }
+    ensures verify_complete { (text : List ℕ) → command_of (map string_bytes words.now) ≡ Some Verify → S.left source.old ≡ Some text
+        → AnswersVerify result text (HasRisen (S.faults source.old) (S.faults source.new)) (HasRisen (K.faults sink.old) (K.faults sink.new)) }
 
     // Every other answer adds nothing to the sink.
-    ensures nothing { (result ≡ Status.Ok → ⊥) → (result ≡ Status.WriteFault → ⊥) → K.written sink.new ≡ K.written sink.old }
+    ensures nothing { (result ≡ Status.Ok → ⊥) → (result ≡ Status.SomeLost → ⊥) → (result ≡ Status.WriteFault → ⊥) → K.written sink.new ≡ K.written sink.old }
 {
-    if !is_run(words) {
-        return Status::Usage;
-    }
-    let text = match read_all(alloc, source) {
-        Ok(text) => text,
-        Err(ReadError::Fault) => return Status::ReadFault,
-        Err(ReadError::TooLong) => return Status::TooLong,
-        Err(ReadError::Memory) => return Status::NoMemory,
-    };
-    let written = match output_of(alloc, &text) {
-        Ok(written) => written,
-        Err(Stop::Refused { line, kind }) => return Status::Refused { line, kind },
-        Err(Stop::NotBuilt) => return Status::NotBuilt,
-        Err(Stop::Memory) => return Status::NoMemory,
-    };
-    match write_all(sink, &written) {
-        Ok(()) => Status::Ok,
-        Err(_) => Status::WriteFault,
+    match command_of(words) {
+        Some(Command::Run) => run_script(alloc, source, sink, hook),
+        Some(Command::Check) => check_script(alloc, source, sink),
+        Some(Command::Generate { size, seed }) => write_generated(alloc, size, seed, sink),
+        Some(Command::Trial { size, seed }) => write_trial(alloc, size, seed, sink, hook),
+        Some(Command::Verify) => verify_journal(alloc, source, sink),
+        None => Status::Usage,
     }
 }

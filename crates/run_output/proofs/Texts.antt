@@ -1,0 +1,122 @@
+-- The texts of the parts of the output.
+use Rattle.std.proofs.Common.{◌≡◌, ℕ, zero, suc, List, [], ◌∷◌, ◌++◌, ◌+◌, ◌<◌, Option, Some, inl, inr, map, length, get_or, reverse, sym, ap, ◌∙◌, append_assoc, refl, arith}
+use Rattle.std.proofs.lemmas.Bool.{ne_eqb}
+use Rattle.std.specs.Prelude.{◌≢◌, slice_get, slice_index_or, option_map}
+use Rattle.std.specs.List.{concat, flat_map, range_with_len}
+use Rattle.std.proofs.lemmas.List.{get_or-map, length-map}
+use Rattle.std.proofs.lemmas.List.Folds.{flat_map-map}
+use Rattle.std.proofs.lemmas.List.FromFn.{length-range_with_len}
+use Rattle.std.proofs.lemmas.Option.{slice_get-map, slice_get_cases}
+use Rattle.gpu_store.specs.Picture.{Picture, row_of}
+use Rattle.gpu_store.specs.Images.{Pictures, picture_of, numbers}
+use Rattle.gpu_journal.specs.Picture.{head_text as image_head, row_text, image_text, picture_text}
+use Rattle.gpu_journal.specs.Dumps.{dump_line, dumps_of, dump_lines}
+use Rattle.gpu_run.specs.Dumps.{dump_read, dumps_read, all_dumps}
+use Rattle.gpu_plan.specs.Plans.{PlansData, plan_of}
+use Rattle.wait_hooks.specs.Marks.{mark}
+use Rattle.gpu_journal.specs.declared.event.Event.{Event}
+use Rattle.gpu_journal.specs.Text.{event_text, journal_text, tally_of, stream_text}
+use Rattle.gpu_journal.specs.Lines.{journal_head, name_text, mark_text}
+use Rattle.gpu_journal.specs.World.{state_of, replay}
+use Rattle.gpu_journal.specs.Waits.{endings_in}
+use Rattle.gpu_journal.specs.Output.{streams_of, end_of, head_lines, stream_lines, mark_lines, output}
+use Rattle.run_output.specs.Runs.{RunData, run_text}
+use Rattle.run_output.specs.Parts.{heads, streams, marks, image_lines, dump_read_text, dump_texts, body_text}
+
+-- the text of each item is that of all of them
+pub concat-map : {A : Type 0} (f : A → List ℕ) (xs : List A) → concat (map f xs) ≡ flat_map f xs
+concat-map f [] = refl
+concat-map f (x ∷ xs) = ap (λ (r : List ℕ). f x ++ r) (concat-map f xs)
+
+pub head_text : (p : PlansData) → p.version ≡ 2 → concat (heads p) ≡ head_lines p
+head_text p two = rw two (ap (λ (r : List ℕ). journal_head ++ r) (concat-map (λ (s : ℕ). name_text s (plan_of p s).name) (streams_of p)))
+
+pub no_head : (p : PlansData) → p.version ≢ 2 → head_lines p ≡ []
+no_head p other = rw (ne_eqb p.version 2 other) refl
+
+pub event_lines_text : (events : List Event) → concat (map event_text events) ≡ journal_text events
+unfolding journal_text
+event_lines_text events = concat-map event_text events
+
+pub streams_text : (p : PlansData) (h : List Event) → concat (streams p h) ≡ stream_lines p h
+streams_text p h = concat-map (λ (s : ℕ). stream_text s (tally_of (state_of p h s)) (end_of h s)) (streams_of p)
+
+pub marks_text : (p : PlansData) (base : ℕ) (h : List Event) → concat (marks p base h) ≡ mark_lines p (mark base) h
+marks_text p base h = concat-map (λ ending. mark_text ending (mark base ending)) (endings_in p h)
+
+-- ---- images
+
+shown : (picture : Picture) (image : ℕ) → concat (image_lines image (Some picture)) ≡ image_text (image, picture)
+unfolding image_text
+shown picture image = ap (λ (r : List ℕ). image_head image picture.width picture.height ++ r) (concat-map (λ (y : ℕ). row_text (row_of picture y)) (range_with_len 0 picture.height))
+
+no_entry : ℕ × Picture
+no_entry = (0, record { width = 0; height = 0; texels = [] })
+
+-- the lines of the image at a place in the order are the text of what stands there
+pub image_shown : (images : Pictures) (index image : ℕ) → index < length images → slice_get (numbers images) index ≡ Some image
+    → picture_of images image ≡ option_map (λ (entry : ℕ × Picture). entry.1) (slice_get images index)
+    → concat (image_lines image (picture_of images image)) ≡ slice_index_or (map image_text images) index []
+image_shown images index image lt number found =
+    elim ((slice_get_cases images index).1) [
+      | inl here ↦
+          let entry = here.0 in
+          let keyed : slice_get (numbers images) index ≡ Some entry.0 = slice_get-map (λ (e : ℕ × Picture). e.0) images index ∙ ap (option_map (λ (e : ℕ × Picture). e.0)) here.2 in
+          let same : image ≡ entry.0 = cc in
+          let there : picture_of images image ≡ Some entry.1 = found ∙ ap (option_map (λ (e : ℕ × Picture). e.1)) here.2 in
+          ap (λ (o : Option Picture). concat (image_lines image o)) there
+          ∙ shown entry.1 image
+          ∙ ap (λ n. image_text (n, entry.1)) same
+          ∙ ap image_text (sym here.3)
+          ∙ sym (get_or-map image_text images index _ [] lt)
+      | inr past ↦ absurd (omega arith)
+    ]
+
+pub images_text : (images : Pictures) → concat (map image_text images) ≡ picture_text images
+unfolding picture_text
+images_text images = concat-map image_text images
+
+-- ---- dumps
+
+pub length-dump_texts : (s : ℕ) (dumps : List (List (ℕ × ℕ × ℕ))) → length (dump_texts s dumps) ≡ length dumps
+length-dump_texts s [] = refl
+length-dump_texts s (own ∷ more) = ap suc (length-dump_texts (s + 1) more)
+
+pub dumps_at : (s : ℕ) (dumps : List (List (ℕ × ℕ × ℕ))) (i : ℕ) (d : List (ℕ × ℕ × ℕ)) → i < length dumps → slice_index_or (dump_texts s dumps) i [] ≡ flat_map (dump_read_text (i + s)) (get_or dumps i d)
+dumps_at s [] i d lt = absurd (omega arith)
+dumps_at s (own ∷ more) zero d lt = ap (λ n. flat_map (dump_read_text n) own) (omega arith)
+dumps_at s (own ∷ more) (suc i) d lt =
+    let next : i + (s + 1) ≡ suc i + s = omega arith in
+    dumps_at (s + 1) more i d (omega arith) ∙ ap (λ n. flat_map (dump_read_text n) (get_or more i d)) next
+
+-- what the clients of n streams from s on have read, as text
+dumps_from : (p : PlansData) (h : List Event) (s n : ℕ) → concat (dump_texts s (map (dumps_read p h) (range_with_len s n))) ≡ flat_map (λ t. flat_map (dump_line p h t) (dumps_of p h t)) (range_with_len s n)
+dumps_from p h s zero = refl
+dumps_from p h s (suc n) =
+    ap (λ (r : List ℕ). flat_map (dump_read_text s) (dumps_read p h s) ++ r) (dumps_from p h (s + 1) n)
+    ∙ ap (λ (r : List ℕ). r ++ flat_map (λ t. flat_map (dump_line p h t) (dumps_of p h t)) (range_with_len (s + 1) n)) (flat_map-map (dump_read_text s) (dump_read p h s) (dumps_of p h s))
+
+pub dumps_text : (p : PlansData) (h : List Event) → concat (dump_texts 1 (all_dumps p h)) ≡ dump_lines p h
+unfolding dump_lines
+dumps_text p h = dumps_from p h 1 (length p.plans)
+
+pub length_all_dumps : (p : PlansData) (h : List Event) → length (all_dumps p h) ≡ length p.plans
+length_all_dumps p h = length-map (streams_of p) (dumps_read p h) ∙ length-range_with_len 1 (length p.plans)
+
+-- ---- the whole output
+
+output_parts : (p : PlansData) (base : ℕ) (h : List Event) → body_text p base h ≡ output p (mark base) h
+unfolding output
+output_parts p base h =
+    let state = stream_lines p h ++ mark_lines p (mark base) h in
+    let front = head_lines p ++ journal_text (reverse h) in
+    sym (append_assoc (front ++ picture_text (replay p h)) (stream_lines p h) (mark_lines p (mark base) h) ∙ append_assoc front (picture_text (replay p h)) state ∙ append_assoc (head_lines p) (journal_text (reverse h)) (picture_text (replay p h) ++ state))
+
+pub whole_text : (run : RunData) → body_text run.report.plans run.report.base run.report.past ++ concat (dump_texts 1 run.dumps) ≡ run_text run
+whole_text run = ap (λ (r : List ℕ). r ++ concat (dump_texts 1 run.dumps)) (output_parts run.report.plans run.report.base run.report.past)
+
+-- where the dumps are those that the run on one thread reads, the whole output has their lines behind it
+pub serial_text : (run : RunData) → run.dumps ≡ all_dumps run.report.plans run.report.past → run_text run ≡ output run.report.plans (mark run.report.base) run.report.past ++ dump_lines run.report.plans run.report.past
+serial_text run are =
+    ap (λ (d : List (List (ℕ × ℕ × ℕ))). output run.report.plans (mark run.report.base) run.report.past ++ concat (dump_texts 1 d)) are
+    ∙ ap (λ (r : List ℕ). output run.report.plans (mark run.report.base) run.report.past ++ r) (dumps_text run.report.plans run.report.past)

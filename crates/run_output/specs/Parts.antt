@@ -1,0 +1,60 @@
+-- The parts of the output as lists of lines.
+use Rattle.std.specs.Prelude.{ℕ, ◌+◌, ◌++◌, reverse, ◌<◌, ◌≤◌, List, [], ◌∷◌, length, map, Option, Some, None}
+use Rattle.std.specs.List.{All, flat_map, range_with_len}
+use Rattle.gpu_store.specs.Picture.{Picture, row_of}
+use Rattle.gpu_plan.specs.Plans.{PlansData, plan_of}
+use Rattle.wait_hooks.specs.Marks.{mark}
+use Rattle.gpu_journal.specs.declared.event.Event.{Event}
+use Rattle.gpu_journal.specs.Text.{words_of, tally_of, stream_text, journal_text}
+use Rattle.gpu_journal.specs.Picture.{head_text, row_text, picture_text}
+use Rattle.gpu_journal.specs.Lines.{journal_head, name_text, mark_text, dump_text}
+use Rattle.gpu_journal.specs.World.{state_of, replay}
+use Rattle.gpu_journal.specs.Waits.{endings_in}
+use Rattle.gpu_journal.specs.Output.{streams_of, end_of, head_lines, stream_lines, mark_lines}
+
+-- the words of an event are so few, and at places so low, that its line has room
+pub record HasRoom (e : Event) : Type 0 where
+  pub few : length (words_of e) ≤ 69632
+  pub near : All (λ word. word.0 < 69632) (words_of e)
+
+-- the head line of version 2, and the line of each stream's name
+abbrev pub heads : PlansData → List (List ℕ)
+heads p = journal_head ∷ map (λ s. name_text s (plan_of p s).name) (streams_of p)
+
+-- an image that is there: its own line, and the line of each of its rows
+abbrev pub image_lines : ℕ → Option Picture → List (List ℕ)
+image_lines image None = []
+image_lines image (Some picture) = head_text image picture.width picture.height ∷ map (λ y. row_text (row_of picture y)) (range_with_len 0 picture.height)
+
+-- the line of each stream
+abbrev pub streams : PlansData → List Event → List (List ℕ)
+streams p h = map (λ s. stream_text s (tally_of (state_of p h s)) (end_of h s)) (streams_of p)
+
+-- the line of each ending, with its mark over a base
+abbrev pub marks : PlansData → ℕ → List Event → List (List ℕ)
+marks p base h = map (λ ending. mark_text ending (mark base ending)) (endings_in p h)
+
+-- the line of a dump that the client of stream s has read: action place, result place and value
+abbrev pub dump_read_text : ℕ → ℕ × ℕ × ℕ → List ℕ
+dump_read_text s found = dump_text s found.0 found.1 found.2
+
+-- the lines of the dumps that the client of each stream has read, counted from stream s on
+abbrev pub dump_texts : ℕ → List (List (ℕ × ℕ × ℕ)) → List (List ℕ)
+dump_texts s [] = []
+dump_texts s (dumps ∷ more) = flat_map (dump_read_text s) dumps ∷ dump_texts (s + 1) more
+
+-- how the streams ended, and the marks
+abbrev pub ends_text : PlansData → ℕ → List Event → List ℕ
+ends_text p base h = stream_lines p h ++ mark_lines p (mark base) h
+
+-- the images, and what comes behind them
+abbrev pub world_text : PlansData → ℕ → List Event → List ℕ
+world_text p base h = picture_text (replay p h) ++ ends_text p base h
+
+-- the events, and what comes behind them
+abbrev pub past_text : PlansData → ℕ → List Event → List ℕ
+past_text p base h = journal_text (reverse h) ++ world_text p base h
+
+-- the whole output but for the dumps
+abbrev pub body_text : PlansData → ℕ → List Event → List ℕ
+body_text p base h = head_lines p ++ past_text p base h

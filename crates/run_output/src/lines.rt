@@ -1,0 +1,22 @@
+ghost use Rattle.std.specs.Prelude.{◌≡◌, ℕ, ◌<◌, List, [], length, slice_index_or};
+
+use gpu_journal::Line;
+
+/// Lines of the output, each of which is made when it is asked for.
+pub(crate) trait Lines {
+    // The lines, in order.
+    ghost lines: { Self → List (List ℕ) };
+
+    // What has to hold so that each of them can be made.
+    ghost fits: { Self → Type 0 } = { λ _. Unit {0} };
+
+    /// How many lines there are.
+    fn count(&self) -> usize
+        ensures { result ≡ length (lines self.now) };
+
+    /// Puts the line of this place, counted from 0, in place of the line before.
+    fn make(&self, index: usize, line: &mut Line)
+        requires fits { fits self.now }
+        requires within { index < length (lines self.now) }
+        ensures { line.new ≡ slice_index_or (lines self.now) index [] };
+}

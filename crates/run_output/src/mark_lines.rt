@@ -1,0 +1,24 @@
+ghost use Rattle.run_output.specs.Parts.{marks};
+
+use crate::lines::Lines;
+use gpu_house::Report;
+use gpu_journal::Line;
+use wait_hooks::Hook;
+
+/// A line for each ending, with its mark.
+#[derive(Drop)]
+pub(crate) struct MarkLines<'a, H: Hook> {
+    pub(crate) report: &'a Report<H>,
+}
+
+impl<'a, H: Hook> Lines for MarkLines<'a, H> {
+    ghost lines = { λ m. marks m.report.now.plans m.report.now.base m.report.now.past };
+
+    fn count(&self) -> usize {
+        self.report.endings().len()
+    }
+
+    fn make(&self, index: usize, line: &mut Line) {
+        line.mark(&self.report.endings()[index], self.report.marks()[index]);
+    }
+}

@@ -1,0 +1,44 @@
+ghost use Rattle.std.specs.Prelude.{◌≡◌, ◌≤◌, length};
+ghost use Rattle.run_output.specs.Parts.{heads};
+
+use crate::lines::Lines;
+use gpu_journal::Line;
+use gpu_plan::Plans;
+
+/// The head line of a script of version 2, and the line of each stream's name.
+#[derive(Drop)]
+pub(crate) struct NameLines<'a> {
+    plans: &'a Plans,
+    count: u32,
+    ghost counted: { count ≡ length plans.now.plans },
+    ghost few: { count ≤ 16 },
+}
+
+impl<'a> NameLines<'a> {
+    /// The lines of a script's streams.
+    pub(crate) fn of(plans: &'a Plans) -> NameLines<'a>
+        ensures { result.plans.now ≡ plans.now }
+    {
+        NameLines {
+            plans,
+            count: plans.count(),
+        }
+    }
+}
+
+impl<'a> Lines for NameLines<'a> {
+    ghost lines = { λ n. heads n.plans.now };
+
+    fn count(&self) -> usize {
+        self.count as usize + 1
+    }
+
+    fn make(&self, index: usize, line: &mut Line) {
+        if index == 0 {
+            line.head();
+        } else {
+            let stream = index as u32;
+            line.name(stream, self.plans.name(stream));
+        }
+    }
+}

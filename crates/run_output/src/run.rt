@@ -1,0 +1,100 @@
+ghost use Rattle.std.specs.Prelude.{◌≡◌, ◌≤◌, length, map, reverse, IfOk, OnOk, OnErr};
+ghost use Rattle.std.specs.List.{All};
+ghost use Rattle.std.specs.Io.KnownBytes.{Appends};
+ghost use Rattle.gpu_io.specs.Faults.{HasRisen};
+ghost use Rattle.gpu_journal.specs.Output.{streams_of, end_of};
+ghost use Rattle.run_output.specs.Pieces.{AppendsFront};
+ghost use Rattle.run_output.specs.Parts.{HasRoom};
+ghost use Rattle.run_output.specs.Runs.{run_text};
+
+use crate::ends::ends_of;
+use crate::output::write_output;
+use crate::page::Page;
+use gpu_house::Report;
+use gpu_io::{Failed, Sink};
+use gpu_journal::End;
+use gpu_run::Dumps;
+use gpu_word::Memory;
+use serial_laws::plans_are_lawful;
+use std::alloc::Global;
+use std::marker::Model;
+use wait_hooks::Hook;
+
+// How each stream of a run ended.
+fn ends_in<H: Hook>(alloc: Global, report: &Report<H>) -> Result<Vec<End>, Memory>
+    ensures { IfOk result (λ ends. ends.items ≡ map (end_of report.now.past) (streams_of report.now.plans)) }
+{
+    let count = report.plans().count();
+    ends_of(alloc, count, report.journal().events())
+}
+
+// The lines of a run's events have room, and its streams are few.
+#[tactic(auto, using(crate::proofs::Rooms::legal_room))]
+fn lines_have_room<H: Hook>(report: &Report<H>)
+    ensures room { All HasRoom (reverse report.now.past) }
+    ensures few { length report.now.plans.plans ≤ 16 }
+{
+    plans_are_lawful(report.plans());
+    report.journal();
+}
+
+/// A run with all memory that writing its output takes, seen as the run and the dumps that its clients have read.
+#[derive(Drop)]
+pub struct RunOutput<H: Hook> {
+    report: Report<H>,
+    dumps: Vec<Dumps>,
+    ends: Vec<End>,
+    page: Page,
+}
+
+impl<H: Hook> Model for RunOutput<H> {
+    ghost use Rattle.run_output.specs.Runs.{RunData, IsReady};
+
+    ghost Value = { RunData };
+
+    ghost view = { λ run. record { report = run.report; dumps = run.dumps.items } };
+
+    ghost invariant = { λ run. IsReady (record { report = run.report; dumps = run.dumps.items }) run.ends.items run.page };
+}
+
+impl<H: Hook> RunOutput<H> {
+    /// Takes all memory that writing the output of a run takes.
+    pub fn make(alloc: Global, report: Report<H>, dumps: Vec<Dumps>) -> Result<RunOutput<H>, Memory>
+        requires { length dumps.items ≡ length report.plans.plans }
+        ensures report { IfOk result (λ run. run.report ≡ report) }
+        ensures dumps { IfOk result (λ run. run.dumps ≡ dumps.items) }
+    {
+        lines_have_room(&report);
+        let ends = ends_in(alloc, &report)?;
+        let page = Page::make(alloc)?;
+        Ok(RunOutput {
+            report,
+            dumps,
+            ends,
+            page,
+        })
+    }
+
+    /// The run.
+    pub fn report(&self) -> &Report<H>
+        ensures { result.now ≡ self.now.report }
+    {
+        &self.report
+    }
+
+    /// Writes the output and the lines of the dumps. After a fault a front of both stands.
+    pub fn write<K: Sink>(self, sink: &mut K) -> Result<(), Failed>
+        ensures all { OnOk result (Appends (K.written sink.old) (K.written sink.new) (run_text self)) }
+        ensures front { OnErr result (AppendsFront (K.written sink.old) (K.written sink.new) (run_text self)) }
+        ensures fault { OnErr result (HasRisen (K.faults sink.old) (K.faults sink.new)) }
+        ensures later { K.faults sink.old ≤ K.faults sink.new }
+    {
+        let RunOutput {
+            report,
+            dumps,
+            ends,
+            mut page,
+        } = self;
+        write_output(&mut page, sink, &report, &dumps, &ends)
+    }
+}

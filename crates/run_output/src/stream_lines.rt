@@ -1,0 +1,46 @@
+ghost use Rattle.std.specs.Prelude.{◌≡◌, ◌≤◌, length, map};
+ghost use Rattle.gpu_journal.specs.Output.{streams_of, end_of};
+ghost use Rattle.run_output.specs.Parts.{streams};
+
+use crate::lines::Lines;
+use gpu_house::Report;
+use gpu_journal::{End, Line};
+use wait_hooks::Hook;
+
+/// A line for each stream: how it ended, and what it counted.
+#[derive(Drop)]
+pub(crate) struct StreamLines<'a, H: Hook> {
+    report: &'a Report<H>,
+    ends: &'a [End],
+    count: u32,
+    ghost counted: { count ≡ length report.now.plans.plans },
+    ghost few: { count ≤ 16 },
+    ghost ended: { ends.now ≡ map (end_of report.now.past) (streams_of report.now.plans) },
+}
+
+impl<'a, H: Hook> StreamLines<'a, H> {
+    /// The lines of a run's streams, which ended so.
+    pub(crate) fn of(report: &'a Report<H>, ends: &'a [End]) -> StreamLines<'a, H>
+        requires { ends.now ≡ map (end_of report.now.past) (streams_of report.now.plans) }
+        ensures { result.report.now ≡ report.now }
+    {
+        StreamLines {
+            report,
+            ends,
+            count: report.plans().count(),
+        }
+    }
+}
+
+impl<'a, H: Hook> Lines for StreamLines<'a, H> {
+    ghost lines = { λ s. streams s.report.now.plans s.report.now.past };
+
+    fn count(&self) -> usize {
+        self.count as usize
+    }
+
+    fn make(&self, index: usize, line: &mut Line) {
+        let stream = index as u32 + 1;
+        line.stream(stream, self.report.stream(stream), self.ends[index]);
+    }
+}

@@ -1,0 +1,13 @@
+-- The line of `check`.
+use Rattle.std.specs.Prelude.{ℕ, List, ◌++◌, length, codes, decimal}
+use Rattle.gpu_plan.specs.Plans.{PlansData, actions_in, flushes_in}
+
+-- a number behind what it counts
+abbrev pub counted : List ℕ → ℕ → List ℕ
+counted what number = what ++ decimal number
+
+-- how many streams, actions and flushes a script has
+abbrev pub check_text : PlansData → List ℕ
+check_text p =
+    counted (codes "ok streams ") (length p.plans) ++ counted (codes " actions ") (actions_in p.plans)
+    ++ counted (codes " flushes ") (flushes_in p.plans) ++ codes "\n"

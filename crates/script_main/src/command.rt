@@ -1,0 +1,108 @@
+ghost use Rattle.std.specs.Prelude.{◌≡◌, ◌≤◌, map, string_bytes, option_map, IfSome};
+ghost use Rattle.script_words.specs.Numbers.{decimal_of};
+ghost use Rattle.script_main.specs.declared.command.Command.TheVariants.{Generate, Trial};
+ghost use Rattle.script_main.specs.Commands.{sized, with_both, of_one, of_two, of_workers, of_three, command_of, IsSized};
+
+use script_words::decimal_u32;
+
+/// The largest size of a generated script.
+const MOST_SIZE: u32 = 2000;
+
+/// What the words of the command line ask for.
+#[derive(Clone, Copy, Debug, PartialEq, Eq)]
+pub enum Command {
+    /// Runs the script on standard input on one thread, and writes the output.
+    Run,
+    /// Reads a script, and writes how much it has.
+    Check,
+    /// Writes the generated script of a size, from 1 to 2000, and a seed.
+    Generate { size: u32, seed: u32 },
+    /// Runs the generated script of a size and a seed, and writes one line of what comes of it.
+    Trial { size: u32, seed: u32 },
+    /// Reads a script and a journal, and judges the journal.
+    Verify,
+}
+
+// The size that a word says, from 1 to 2000.
+fn size_in(word: &str) -> Option<u32>
+    ensures size { result ≡ sized (decimal_of word.now) }
+    ensures range { IfSome result (λ size. (1 ≤ size) × (size ≤ MOST_SIZE)) }
+{
+    let size = decimal_u32(word.as_bytes())?;
+    if size < 1 || size > MOST_SIZE {
+        return None;
+    }
+    Some(size)
+}
+
+// The size and the seed that two words say.
+fn both_in(size: &str, seed: &str) -> Option<(u32, u32)>
+    ensures generate { with_both Generate (sized (decimal_of size.now)) (decimal_of seed.now) ≡ option_map (λ both. Generate both.0 both.1) result }
+    ensures trial { with_both Trial (sized (decimal_of size.now)) (decimal_of seed.now) ≡ option_map (λ both. Trial both.0 both.1) result }
+    ensures range { IfSome result (λ both. (1 ≤ both.0) × (both.0 ≤ MOST_SIZE)) }
+{
+    Some((size_in(size)?, decimal_u32(seed.as_bytes())?))
+}
+
+fn of_one(name: &str) -> Option<Command>
+    ensures command { result ≡ of_one name.now }
+    ensures sized { IfSome result IsSized }
+{
+    match name {
+        "run" => Some(Command::Run),
+        "check" => Some(Command::Check),
+        "verify" => Some(Command::Verify),
+        _ => None,
+    }
+}
+
+fn of_two(name: &str, workers: &str) -> Option<Command>
+    ensures command { result ≡ of_two name.now workers.now }
+    ensures sized { IfSome result IsSized }
+{
+    if name == "run" && workers == "--workers=0" {
+        return Some(Command::Run);
+    }
+    None
+}
+
+fn of_workers(first: &str, second: &str) -> Option<Command>
+    ensures command { result ≡ of_workers first.now second.now }
+    ensures sized { IfSome result IsSized }
+{
+    if first == "--workers" && second == "0" {
+        return Some(Command::Run);
+    }
+    None
+}
+
+fn of_three(name: &str, first: &str, second: &str) -> Option<Command>
+    ensures command { result ≡ of_three name.now first.now second.now }
+    ensures sized { IfSome result IsSized }
+{
+    if name == "run" {
+        return of_workers(first, second);
+    }
+    if name == "generate" {
+        let (size, seed) = both_in(first, second)?;
+        return Some(Command::Generate { size, seed });
+    }
+    if name == "trial" {
+        let (size, seed) = both_in(first, second)?;
+        return Some(Command::Trial { size, seed });
+    }
+    None
+}
+
+/// The command that the words of the command line are, or `None` where they are none.
+pub fn command_of(words: &[String]) -> Option<Command>
+    ensures command { result ≡ command_of (map string_bytes words.now) }
+    ensures sized { IfSome result IsSized }
+{
+    match words {
+        [name] => of_one(name.as_str()),
+        [name, workers] => of_two(name.as_str(), workers.as_str()),
+        [name, first, second] => of_three(name.as_str(), first.as_str(), second.as_str()),
+        _ => None,
+    }
+}
