@@ -1,4 +1,4 @@
-ghost use Rattle.std.specs.Prelude.{◌≡◌, ◌≢◌, ℕ, ◌+◌, ◌≤◌, ◌<◌, ◌^◌, ◌⊎◌, map, IfOk, IfErr, OnOk};
+ghost use Rattle.std.specs.Prelude.{◌≡◌, ◌≢◌, ℕ, ◌+◌, ◌≤◌, ◌<◌, ◌^◌, ◌⊎◌, IfOk, IfErr, OnOk};
 ghost use Rattle.std.specs.List.{All};
 ghost use Rattle.std.specs.List.Sorted.{IsStrictlyIncreasing};
 ghost use Rattle.gpu_cmd.specs.Copied.{copied, fetched_places, places_listed};
@@ -9,7 +9,7 @@ ghost use Rattle.gpu_fetch.specs.Fetched.{FetchesRow, FetchesRowInPart, FetchesS
 use crate::fetched::Fetched;
 use crate::side::ServiceSide;
 use gpu_cmd::{CmdError, StreamFacts, decode, head};
-use gpu_word::Memory;
+use gpu_word::{Memory, values_of};
 use std::alloc::Global;
 
 // Fetches the words of so many places that follow one another, in rising order, and appends them to a list.
@@ -38,13 +38,6 @@ fn fetch_row<P: ServiceSide>(
         list.push((place, value))?;
     }
     Ok(())
-}
-
-// The values of words.
-fn values_of(alloc: Global, words: &[(u32, u32)]) -> Result<Vec<u32>, Memory>
-    ensures { IfOk result (λ values. values.items ≡ map (λ word. word.1) words.now) }
-{
-    Ok(words.iter().map(|word| word.1).collect(alloc)?)
 }
 
 /// Fetches the next command of a stream: its header alone, then its other ring entries, then its transfer words, each

@@ -1,10 +1,10 @@
 -- What a history says of a stream is a fold of its steps.
-use Rattle.std.proofs.Common.{◌≡◌, ℕ, zero, suc, Bool, true, false, List, [], ◌∷◌, ◌++◌, map, get_or, refl, sym, ap, ◌∙◌, arith}
+use Rattle.std.proofs.Common.{◌≡◌, ℕ, Bool, true, false, List, [], ◌∷◌, ◌++◌, get_or, refl, sym, ap, ◌∙◌, arith}
 use Rattle.std.specs.Prelude.{◌==◌, if◌then◌else◌}
 use Rattle.std.proofs.lemmas.Bool.Decides.{nat_tests}
 use Rattle.gpu_word.specs.Results as results
 use Rattle.gpu_plan.specs.Plans.{PlansData, plan_of}
-use Rattle.stream_state.specs.State.{State, noted, first_state, result_of}
+use Rattle.stream_state.specs.State.{State, noted, result_of}
 use Rattle.stream_state.specs.Steps as steps
 use Rattle.stream_state.specs.Steps.{stepped, writes}
 use Rattle.stream_state.specs.Writes as writing
@@ -43,7 +43,7 @@ written_none : (p : PlansData) (s : ℕ) → written p [] s ≡ []
 unfolding written
 written_none p s = refl
 
-written_then : (p : PlansData) (e : Event) (h : List Event) (s : ℕ) → written p (e ∷ h) s ≡ (if stream_in e == s then written p h s ++ written_by p h s e else written p h s)
+pub written_then : (p : PlansData) (e : Event) (h : List Event) (s : ℕ) → written p (e ∷ h) s ≡ (if stream_in e == s then written p h s ++ written_by p h s e else written p h s)
 unfolding written
 written_then p e h s = refl
 

@@ -1,6 +1,6 @@
 -- What replay keeps is what a longer and longer history says.
-use Rattle.std.proofs.Common.{◌≡◌, ◌≢◌, ℕ, zero, suc, ◌+◌, ◌-◌, ◌<◌, ◌≤◌, Bool, true, false, Some, List, [], ◌∷◌, ◌++◌, length, get_or, set, take, drop, reverse, replicate, refl, sym, ap, subst, ◌∙◌, ⊎_elim, arith, IsSome}
-use Rattle.std.specs.Prelude.{◌==◌, if◌then◌else◌, slice_get, slice_set, slice_index_or}
+use Rattle.std.proofs.Common.{◌≡◌, ◌≢◌, ℕ, zero, suc, ◌+◌, ◌-◌, ◌<◌, ◌≤◌, Bool, true, false, Some, List, [], ◌∷◌, ◌++◌, length, get_or, set, take, drop, reverse, replicate, refl, sym, ap, subst, ◌∙◌, ⊎_elim, arith}
+use Rattle.std.specs.Prelude.{◌==◌, if◌then◌else◌, slice_get}
 use Rattle.std.proofs.lemmas.Bool.{cases_lt}
 use Rattle.std.proofs.lemmas.Bool.Decides.{nat_tests}
 use Rattle.std.proofs.lemmas.List.{take_more, reverse-append, take-append-drop, get_or-set_same, get_or-set_other, get_or-replicate, get_or_past, length-replicate, length-set}
@@ -16,7 +16,7 @@ use Rattle.stream_state.specs.Laws.{IsTaken}
 use Rattle.sync_core.specs.Standing.{IsKnown}
 use Rattle.gpu_journal.specs.declared.event.Event.{Event}
 use Rattle.gpu_journal.specs.declared.event.Event.TheVariants.{Order, Step, Finish, Lost, Close}
-use Rattle.gpu_journal.specs.World.{Known, World, world, stream_in, asked_by, drawn_by, known, known_after, images_after, state_of, replay}
+use Rattle.gpu_journal.specs.World.{Known, World, world, stream_in, asked_by, drawn_by, known, known_after, images_after, state_of}
 use Rattle.gpu_journal.specs.Legal.{Obeys, IsLegal}
 use Rattle.gpu_journal.specs.Replaying.{IsWithin, Shows, state_in}
 use Rattle.gpu_journal.proofs.Worlds.{world_none, images_then, known_then, step_taken, states_within, known_of_left}

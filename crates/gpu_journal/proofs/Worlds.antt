@@ -1,5 +1,5 @@
 -- What a legal history says of its streams: their states are bounded, and a stream that runs is one of the script.
-use Rattle.std.proofs.Common.{◌≡◌, ◌≢◌, ℕ, zero, suc, ◌+◌, ◌<◌, ◌≤◌, Bool, true, false, Option, Some, None, Result, Ok, Err, List, [], ◌∷◌, ◌++◌, length, refl, sym, ap, subst, ◌∙◌, inl, inr, ◌⊎◌, ⊎_elim, arith, IsOk, IsSome, drop}
+use Rattle.std.proofs.Common.{◌≡◌, ℕ, ◌+◌, ◌≤◌, Bool, true, false, Option, Some, None, Result, Ok, Err, List, [], ◌∷◌, length, refl, sym, ap, subst, inl, inr, ◌⊎◌, ⊎_elim, arith, IsOk, IsSome, drop}
 use Rattle.std.specs.Prelude.{◌==◌, if◌then◌else◌}
 use Rattle.std.proofs.lemmas.Bool.Decides.{nat_tests}
 use Rattle.gpu_cmd.specs.declared.command.Command.{Command}
@@ -8,10 +8,9 @@ use Rattle.gpu_cmd.specs.declared.areas.Areas.{Areas}
 use Rattle.gpu_cmd.specs.Lawful.{IsLawfulAreas}
 use Rattle.gpu_store.specs.declared.op.Answer.{Answer}
 use Rattle.gpu_store.specs.declared.op.Answer.TheVariants.{Done, InvalidValue, InvalidOperation, OutOfTexels}
-use Rattle.gpu_store.specs.Images.{Applied}
 use Rattle.gpu_plan.specs.Plans.{PlansData, plan_of}
-use Rattle.stream_state.specs.State.{State, Errors, IsBounded, first_state, no_errors, counted, noted}
-use Rattle.stream_state.specs.Steps.{stepped, effect}
+use Rattle.stream_state.specs.State.{State, Errors, IsBounded, counted, noted}
+use Rattle.stream_state.specs.Steps.{stepped}
 use Rattle.stream_state.specs.Laws.{IsTaken}
 use Rattle.stream_state.proofs.Runs.{step_is_bounded, stepped_errors, stepped_fetched}
 use Rattle.stream_state.proofs.Telling.{verdict_taken}
@@ -21,11 +20,11 @@ use Rattle.sync_core.specs.Standing.{Standing, IsKnown, first_order, bumped}
 use Rattle.sync_core.specs.Events as sync
 use Rattle.gpu_journal.specs.declared.event.Event.{Event}
 use Rattle.gpu_journal.specs.declared.event.Event.TheVariants.{Order, Step, Finish, Lost, Close}
-use Rattle.gpu_journal.specs.World.{Known, World, world, first_world, nothing_known, stream_in, asked_by, drawn_by, known, known_after, images_after, state_of, replay}
+use Rattle.gpu_journal.specs.World.{Known, World, world, first_world, stream_in, asked_by, drawn_by, known, known_after, images_after, state_of, replay}
 use Rattle.stream_state.specs.declared.effect.Effect.{Effect}
 use Rattle.stream_state.specs.declared.effect.Effect.TheVariants.{Release, Wait, WaitName}
-use Rattle.gpu_journal.specs.Waits.{deed_asked, deed, sync_of, left_of, standing_of, IsOpen}
-use Rattle.gpu_journal.specs.Facts.{facts_at, put_of, verdict_at}
+use Rattle.gpu_journal.specs.Waits.{deed_asked, deed, sync_of, left_of, IsOpen}
+use Rattle.gpu_journal.specs.Facts.{put_of, verdict_at}
 use Rattle.gpu_journal.specs.Legal.{Obeys, IsLegal}
 use Rattle.gpu_journal.specs.Replaying.{total, IsWithin}
 

@@ -10,7 +10,7 @@ use Rattle.gpu_plan.specs.Passes.{bound}
 use Rattle.stream_state.specs.State.{facts_of}
 use Rattle.stream_state.specs.Verdict.{verdict}
 use Rattle.gpu_journal.specs.declared.event.Event.{Event}
-use Rattle.gpu_journal.specs.declared.event.Event.TheVariants.{Order, Step, Finish, Lost, Close}
+use Rattle.gpu_journal.specs.declared.event.Event.TheVariants.{Order}
 use Rattle.gpu_journal.specs.World.{known, state_of}
 use Rattle.gpu_journal.specs.Waits.{front}
 

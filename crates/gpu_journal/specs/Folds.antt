@@ -4,7 +4,7 @@ use Rattle.gpu_plan.specs.Plans.{PlansData, plan_of}
 use Rattle.stream_state.specs.State.{result_of}
 use Rattle.stream_state.specs.Steps as steps
 use Rattle.gpu_journal.specs.declared.event.Event.{Event}
-use Rattle.gpu_journal.specs.declared.event.Event.TheVariants.{Order, Step, Finish, Lost, Close}
+use Rattle.gpu_journal.specs.declared.event.Event.TheVariants.{Step}
 use Rattle.gpu_journal.specs.World.{World, world, stream_in, asked_by, drawn_by, state_of}
 use Rattle.gpu_journal.specs.Written.{result_at}
 

@@ -8,9 +8,9 @@ use Rattle.stream_state.specs.declared.effect.Effect.TheVariants.{Release, Wait,
 use Rattle.sync_core.specs.declared.wait.Number.{Number}
 use Rattle.sync_core.specs.declared.wait.Wait as waits
 use Rattle.sync_core.specs.declared.ending.Ending.{Ending}
-use Rattle.sync_core.specs.Standing.{Standing, IsKnown, is_open, first_order, front_of}
+use Rattle.sync_core.specs.Standing.{Standing, IsKnown, is_open, front_of}
 use Rattle.sync_core.specs.Events.{Deed, Ordered, Waited, Released, Finished, WasLost, WasClosed, SyncEvent, noted, orders, standing}
-use Rattle.sync_core.specs.Pending.{pending, endings, is_blocked}
+use Rattle.sync_core.specs.Pending.{pending, endings}
 use Rattle.gpu_journal.specs.declared.event.Event.{Event}
 use Rattle.gpu_journal.specs.declared.event.Event.TheVariants.{Order, Step, Finish, Lost, Close}
 use Rattle.gpu_journal.specs.World.{World, world, stream_in, asked_by}

@@ -4,7 +4,7 @@ use Rattle.gpu_word.specs.Results as results
 use Rattle.gpu_plan.specs.Plans.{PlansData, plan_of}
 use Rattle.stream_state.specs.Steps.{writes}
 use Rattle.gpu_journal.specs.declared.event.Event.{Event}
-use Rattle.gpu_journal.specs.declared.event.Event.TheVariants.{Order, Step, Finish, Lost, Close}
+use Rattle.gpu_journal.specs.declared.event.Event.TheVariants.{Step, Finish}
 use Rattle.gpu_journal.specs.World.{stream_in, state_of}
 
 -- what an event of stream s writes: a step its writes in rising order of places, a finish one finish

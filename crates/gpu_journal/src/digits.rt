@@ -49,7 +49,7 @@ fn pair(byte: u32) -> (u8, u8)
 }
 
 /// A space and a number as eight hexadecimal digits, which come two at a time.
-pub(crate) fn spaced_hex(number: u32) -> [u8; 9]
+pub fn spaced_hex(number: u32) -> [u8; 9]
     ensures { result ≡ 32 ∷ hex8 number }
 {
     let (a, b) = pair(number / 0x100_0000);

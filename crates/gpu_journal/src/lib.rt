@@ -16,6 +16,7 @@ mod stream_line;
 mod tally;
 mod text;
 
+pub use digits::spaced_hex;
 pub use end::End;
 pub use event::{Event, Why, Words};
 pub use journal::Journal;

@@ -16,21 +16,9 @@ use crate::event::Event;
 use gpu_cmd::{Areas, Command, command_of};
 use gpu_plan::Plans;
 use gpu_store::{Answer, Images};
-use gpu_word::{Memory, split};
+use gpu_word::{Memory, copy_values, split};
 use std::alloc::{AllocError, Global};
-use stream_state::{Effect, StreamState};
-
-// The values of words, in place of what was there.
-fn copy_values(values: &mut Vec<u32>, words: &[(u32, u32)]) -> Result<(), AllocError>
-    ensures { OnOk result (values.new.items ≡ values_of words.now) }
-{
-    values.clear();
-    values.reserve(words.len())?;
-    for word in words {
-        values.push(word.1)?;
-    }
-    Ok(())
-}
+use stream_state::{Effect, StreamState, first_states};
 
 // The command and the size that the words of a step say.
 fn command_taken(words: &[(u32, u32)], values: &mut Vec<u32>) -> Result<(Command, u32), AllocError>
@@ -65,17 +53,6 @@ fn execute(
     };
     state.note(answer);
     Ok(())
-}
-
-// The states of so many streams before any event.
-fn first_states(alloc: Global, streams: u32) -> Result<Vec<StreamState>, AllocError>
-    ensures { IfOk result (λ states. states.items ≡ replicate streams first_state) }
-{
-    let mut states = Vec::with_capacity(alloc, streams as usize)?;
-    for _ in 0..streams {
-        states.push(StreamState::make(alloc))?;
-    }
-    Ok(states)
 }
 
 /// The images of a legal history of these plans, uploads included: what its operations leave, one after the other, from

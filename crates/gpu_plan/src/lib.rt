@@ -8,12 +8,14 @@ mod copies;
 mod draft;
 mod growing;
 mod laws;
+mod places;
 mod plan;
 mod renumbering;
 mod script;
 mod spans;
 
 pub use laws::{bound_is_first, bound_never_falls, held_values, one_further};
+pub use places::flush_places;
 pub use plan::{Action, Fences, Plan, Plans};
 pub use script::parse;
 pub use script_generator::generate;

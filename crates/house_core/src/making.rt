@@ -1,15 +1,14 @@
 //! What a core is made of: where the flushes of each stream stand, and how streams are ranked.
-ghost use Rattle.std.specs.Prelude.{◌≡◌, ◌≤◌, length, map, IfOk};
+ghost use Rattle.std.specs.Prelude.{◌≡◌, length, map, IfOk};
 ghost use Rattle.std.specs.List.{All};
 ghost use Rattle.gpu_plan.specs.Plans.{PlanData};
-ghost use Rattle.gpu_plan.specs.Places.{flush_places};
 ghost use Rattle.gpu_journal.specs.Serial.{rank};
 ghost use Rattle.house_core.specs.Core.{names_of, IsFresh};
 ghost use Rattle.house_core.specs.Making.{desks_of};
 
 use crate::desk::Desk;
 use gpu_books::{Book, Half};
-use gpu_plan::{Action, Plans};
+use gpu_plan::{Plans, flush_places};
 use gpu_word::Memory;
 use script_lines::Priority;
 use std::alloc::Global;
@@ -35,20 +34,6 @@ pub(crate) fn ranks(alloc: Global, plans: &Plans) -> Result<Vec<u32>, Memory>
         ranks.push(rank(plans.plan(done + 1).priority()))?;
     }
     Ok(ranks)
-}
-
-// Where the flushes stand among actions.
-fn flush_places(alloc: Global, actions: &[Action]) -> Result<Vec<u32>, Memory>
-    requires { length actions.now ≤ 1000000 }
-    ensures { IfOk result (λ places. places.items ≡ flush_places actions.now) }
-{
-    let mut places = Vec::new(alloc);
-    for (place, action) in actions.iter().enumerate() {
-        if let Action::Flush { .. } = action {
-            places.push(place as u32)?;
-        }
-    }
-    Ok(places)
 }
 
 /// The desk of each stream, from stream 1 on, with these books.

@@ -1,7 +1,7 @@
 -- The lines of a journal text.
-use Rattle.std.proofs.Common.{◌≡◌, ℕ, zero, suc, ◌+◌, ◌^◌, ◌<◌, ◌≤◌, Bool, true, false, cond, eqb, ltb, Option, Some, None, List, [], ◌∷◌, ◌++◌, map, length, length-append, take, drop, get_or, refl, sym, ap, subst, ◌∙◌, append_assoc, arith}
+use Rattle.std.proofs.Common.{◌≡◌, ℕ, zero, suc, ◌+◌, ◌^◌, ◌<◌, ◌≤◌, Bool, true, false, cond, ltb, Some, None, List, [], ◌∷◌, ◌++◌, map, length, length-append, take, drop, get_or, refl, sym, ap, subst, ◌∙◌, append_assoc, arith}
 use Rattle.std.specs.Prelude.{codes, position}
-use Rattle.std.specs.Char.{digit_value, is_digit}
+use Rattle.std.specs.Char.{digit_value}
 use Rattle.std.specs.List.{All, list_all, flat_map, slice_split, join_with_byte, position_or_len}
 use Rattle.std.specs.Str.Parse.{AllDigits}
 use Rattle.std.proofs.lemmas.Bool.{ltb-true, ltb-false, and_parts}
@@ -14,7 +14,6 @@ use Rattle.std.proofs.lemmas.List.Quantifiers.{position-Some}
 use Rattle.std.proofs.lemmas.List.Sums.{fails_before_first}
 use Rattle.std.proofs.lemmas.List.Splits.{slice_split_none, slice_split_at, join_with_byte-slice_split}
 use Rattle.gpu_cmd.specs.declared.error.CmdError.TheVariants.{InvalidSize, OutOfBounds, UnknownCommand, InvalidArguments, Quota}
-use Rattle.gpu_cmd.specs.Errors.{code_of}
 use Rattle.gpu_journal.specs.declared.event.Event.{Event}
 use Rattle.gpu_journal.specs.declared.event.Event.TheVariants.{Order, Step, Finish, Lost, Close}
 use Rattle.gpu_journal.specs.declared.event.Why.{Why}
@@ -26,7 +25,7 @@ use Rattle.gpu_journal.proofs.Numerals.{numeral_decimal}
 use Rattle.gpu_journal.proofs.Telling.{different_texts}
 use Rattle.script_words.specs.Text.{ends_line}
 use Rattle.journal_reader.specs.Said.{is_space, pieces_said, line_said}
-use Rattle.journal_reader.specs.Reading.{IsWord, IsWritten, HasNoFeed, IsJournal, joined, whole_lines, IsLineOf, IsFirstBad, RefusedIsNoJournal, JournalIsOne}
+use Rattle.journal_reader.specs.Reading.{IsWord, IsWritten, HasNoFeed, IsJournal, whole_lines, IsLineOf, IsFirstBad, RefusedIsNoJournal, JournalIsOne}
 use Rattle.journal_reader.proofs.Numbers.{value_digits}
 use Rattle.journal_reader.proofs.Words.{word_piece}
 use Rattle.journal_reader.proofs.Events.{why_piece, event_pieces, pieces_told, pieces_there}

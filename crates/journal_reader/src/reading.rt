@@ -5,25 +5,8 @@ ghost use Rattle.journal_reader.specs.Reading.{HasNoFeed, IsJournal, IsFault};
 use crate::event::event;
 use crate::fault::JournalFault;
 use gpu_journal::Event;
+use script_words::{cut_at, line_end};
 use std::alloc::Global;
-
-// The place of the first line feed.
-fn line_end(text: &[u8]) -> Option<usize>
-    ensures { result ≡ position ends_line text.now }
-{
-    text.iter().position(|byte| *byte == b'\n')
-}
-
-// What stands before a byte, and behind it.
-fn cut_at(text: &[u8], at: usize) -> (&[u8], &[u8])
-    requires { at < length text.now }
-    ensures before { result.0.now ≡ take at text.now }
-    ensures behind { result.1.now ≡ drop (at + 1) text.now }
-{
-    let (front, back) = text.split_at(at);
-    let (_, behind) = back.split_at(1);
-    (front, behind)
-}
 
 // The first line, without its line feed, and what stands behind it.
 fn first_line(text: &[u8]) -> Option<(&[u8], &[u8])>

@@ -5,6 +5,7 @@ ghost use Rattle.stream_state.specs.Steps.{values_of, header_in};
 ghost use Rattle.journal_verify.specs.Copy.{is_row, transfer_read, entries_read, copy_read};
 
 use gpu_cmd::{CmdError, Command, Decoded, Shape, StreamFacts, decode, head};
+use gpu_word::copy_values;
 use std::alloc::AllocError;
 
 // The places of the words follow one another from this one on.
@@ -17,18 +18,6 @@ fn follow(words: &[(u32, u32)], from: u32) -> bool
         }
     }
     true
-}
-
-// The values of words, in place of what was there.
-fn copy_values(values: &mut Vec<u32>, words: &[(u32, u32)]) -> Result<(), AllocError>
-    ensures { OnOk result (values.new.items ≡ values_of words.now) }
-{
-    values.clear();
-    values.reserve(words.len())?;
-    for word in words {
-        values.push(word.1)?;
-    }
-    Ok(())
 }
 
 // What is behind the ring words of a command, by what they say.

@@ -1,6 +1,5 @@
 //! What is kept before any event.
-ghost use Rattle.std.specs.Prelude.{◌≡◌, false, [], length, replicate, IsTrue, IfOk};
-ghost use Rattle.stream_state.specs.State.{first_state};
+ghost use Rattle.std.specs.Prelude.{◌≡◌, false, [], length, IsTrue, IfOk};
 ghost use Rattle.journal_verify.specs.Faults.{AreSettled};
 ghost use Rattle.journal_verify.specs.Entered.{FitsPlans, HasCounted};
 ghost use Rattle.journal_verify.specs.Follows.{AreFirst, Follows};
@@ -10,20 +9,9 @@ use crate::watch::Watch;
 use gpu_plan::Plans;
 use gpu_store::Images;
 use gpu_word::Memory;
-use std::alloc::{AllocError, Global};
-use stream_state::StreamState;
+use std::alloc::Global;
+use stream_state::first_states;
 use sync_core::SyncCore;
-
-// The states of so many streams before any event.
-fn first_states(alloc: Global, streams: u32) -> Result<Vec<StreamState>, AllocError>
-    ensures { IfOk result (λ states. states.items ≡ replicate streams first_state) }
-{
-    let mut states = Vec::with_capacity(alloc, streams as usize)?;
-    for _ in 0..streams {
-        states.push(StreamState::make(alloc))?;
-    }
-    Ok(states)
-}
 
 // What is kept of each stream before any event.
 fn first_watches(alloc: Global, plans: &Plans) -> Result<Vec<Watch>, Memory>

@@ -8,9 +8,9 @@ ghost use Rattle.journal_verify.specs.Faults.{next_flush, may_close, is_done, is
 ghost use Rattle.journal_verify.specs.Entered.{counts_of};
 
 use client_reach::Client;
-use gpu_plan::{Action, Plan};
+use gpu_plan::{Action, Plan, flush_places};
 use gpu_word::Memory;
-use std::alloc::{AllocError, Global};
+use std::alloc::Global;
 use std::marker::Model;
 
 /// What is kept of a stream: its counts of ordered and finished flushes, its greatest token, whether it is neither lost
@@ -31,20 +31,6 @@ impl Model for Watch {
     ghost Value = { WatchData };
 
     ghost view = { λ w. record { ordered = w.ordered; finished = w.finished; token = w.token; stays = w.stays; client = w.client; flushes = w.flushes.items } };
-}
-
-// The places of the flushes.
-fn flush_places(alloc: Global, actions: &[Action]) -> Result<Vec<u32>, AllocError>
-    requires { length actions.now ≤ 1000000 }
-    ensures { IfOk result (λ places. places.items ≡ flush_places actions.now) }
-{
-    let mut places = Vec::new(alloc);
-    for (index, action) in actions.iter().enumerate() {
-        if let Action::Flush { .. } = action {
-            places.push(index as u32)?;
-        }
-    }
-    Ok(places)
 }
 
 // The place of a flush, counted from 0.

@@ -23,7 +23,8 @@ pub fn all_lines(text: &[u8]) -> Lines<'_>
     Lines { rest: text }
 }
 
-fn line_end(text: &[u8]) -> Option<usize>
+/// The place of the first line feed.
+pub fn line_end(text: &[u8]) -> Option<usize>
     ensures { result ≡ position ends_line text.now }
 {
     text.iter().position(|b| *b == b'\n')
@@ -36,8 +37,8 @@ fn word_end(line: &[u8]) -> Option<usize>
         .position(|b| *b == b' ' || *b == b'\t' || *b == b'\r')
 }
 
-// What stands before a byte and behind it.
-fn cut_at(bytes: &[u8], at: usize) -> (&[u8], &[u8])
+/// What stands before a byte and behind it.
+pub fn cut_at(bytes: &[u8], at: usize) -> (&[u8], &[u8])
     requires { at < length bytes.now }
     ensures before { result.0.now ≡ take at bytes.now }
     ensures behind { result.1.now ≡ drop (at + 1) bytes.now }

@@ -1,11 +1,11 @@
 //! What a command asks that may want memory outside its stream's state.
 ghost use Rattle.std.specs.Prelude.{◌≡◌};
-ghost use Rattle.stream_state.specs.Steps.{joined};
 ghost use Rattle.step_parts.specs.Claims.{claim_of};
 
 use gpu_cmd::{Command, Name};
 use gpu_plan::Plans;
 use gpu_store::Op;
+use stream_state::joined;
 
 /// What a command asks of the images and of the waits that may want memory there.
 #[derive(Debug, Drop)]
@@ -21,13 +21,6 @@ pub enum Claim {
         /// The release that is waited for.
         release: u64,
     },
-}
-
-// A number of 64 bits of its two halves.
-fn joined(low: u32, high: u32) -> u64
-    ensures { result ≡ joined low high }
-{
-    u64::from(low) + (u64::from(high) << 32)
 }
 
 /// What a command of a stream of these plans claims.

@@ -20,7 +20,7 @@ use Rattle.gpu_cmd.specs.declared.shape.Shape.{Shape}
 use Rattle.gpu_cmd.specs.declared.decoded.Decoded.{Decoded}
 use Rattle.gpu_cmd.specs.Lawful.{IsLawfulFacts, room}
 use Rattle.gpu_word.specs.Outcome.{◌>>=◌, unless, or_error}
-use Rattle.gpu_cmd.specs.Table.{Row, row_of, fits, ring_words_of, argument, ring_of, said_by, command_said}
+use Rattle.gpu_cmd.specs.Table.{Row, row_of, fits, ring_words_of, argument, said_by, command_said}
 use Rattle.gpu_cmd.specs.Ranges.{transfer_places}
 use Rattle.gpu_cmd.specs.Checks.{headed, checked, decoded, has_format, has_slot, has_data, has_aligned_results, has_memories, is_within_quota}
 use Rattle.gpu_cmd.specs.Copied.{copied, fetched_places, judged, places_headed, places_decoded, ring_places, value_in, places_listed, IsCopy}

@@ -7,6 +7,7 @@ mod blocks;
 mod changes;
 mod checks;
 mod effect;
+mod first;
 mod laws;
 mod ops;
 mod reads;
@@ -16,7 +17,9 @@ mod step;
 mod words;
 mod writes;
 
+pub use asks::joined;
 pub use effect::Effect;
+pub use first::first_states;
 pub use laws::{
     effects_tell_all, results_are_the_last_written, states_are_bounded, verdicts_follow_checks,
 };

@@ -2,9 +2,9 @@
 ghost use Rattle.std.specs.Prelude.{◌≡◌, ◌+◌, ◌-◌, ◌*◌, ◌≤◌, ◌<◌, length, take, drop, IfOk};
 ghost use Rattle.gpu_word.specs.Bytes.{bytes_of};
 ghost use Rattle.stream_state.specs.Accepted.{HasTransfer};
-ghost use Rattle.stream_state.specs.Steps.{values_of, ring_words_in, transfer_bytes, immediate_bytes};
+ghost use Rattle.stream_state.specs.Steps.{ring_words_in, transfer_bytes, immediate_bytes};
 
-use gpu_word::{Memory, bytes_of, split};
+use gpu_word::{Memory, bytes_of, split, values_of};
 use std::alloc::Global;
 
 /// How many bytes a word has.
@@ -12,14 +12,6 @@ const WORD_BYTES: u32 = 4;
 
 /// The ring words before the data entries of SetBucketDataImmediate: the header and three arguments.
 const WORDS_BEFORE_DATA: usize = 4;
-
-// The values of words.
-fn values_of(alloc: Global, words: &[(u32, u32)]) -> Result<Vec<u32>, Memory>
-    ensures { IfOk result (λ values. values.items ≡ values_of words.now) }
-{
-    let values = words.iter().map(|word| word.1).collect(alloc)?;
-    Ok(values)
-}
 
 // So many bytes from an offset on of values.
 #[tactic(auto, using(crate::proofs::Counts::bytes_counted))]

@@ -1,6 +1,5 @@
-ghost use Rattle.std.specs.Prelude.{◌≡◌, ◌<◌, ◌++◌, OnOk};
-ghost use Rattle.std.specs.Char.{digit_char};
-ghost use Rattle.gpu_journal.specs.Digits.{hex8, number_text};
+ghost use Rattle.std.specs.Prelude.{◌≡◌, ◌++◌, OnOk};
+ghost use Rattle.gpu_journal.specs.Digits.{number_text};
 ghost use Rattle.trial_line.specs.Trials.{counted};
 
 use itoa::Buffer;
@@ -21,32 +20,4 @@ pub(crate) fn push_count(out: &mut Vec<u8>, what: &[u8], number: usize) -> Resul
 {
     out.extend_from_slice(what)?;
     push_number(out, number)
-}
-
-// A digit below 16, in lower case.
-fn hex_digit(digit: u32) -> u8
-    requires { digit < 16 }
-    ensures { result ≡ digit_char digit }
-{
-    if digit < 10 {
-        b'0' + digit as u8
-    } else {
-        b'a' + (digit - 10) as u8
-    }
-}
-
-/// The eight hexadecimal digits of a number.
-pub(crate) fn hex_text(number: u32) -> [u8; 8]
-    ensures { result ≡ hex8 number }
-{
-    [
-        hex_digit(number / 0x1000_0000),
-        hex_digit(number / 0x100_0000 % 16),
-        hex_digit(number / 0x10_0000 % 16),
-        hex_digit(number / 0x1_0000 % 16),
-        hex_digit(number / 0x1000 % 16),
-        hex_digit(number / 0x100 % 16),
-        hex_digit(number / 0x10 % 16),
-        hex_digit(number % 16),
-    ]
 }

@@ -2,8 +2,8 @@ ghost use Rattle.std.specs.Prelude.{◌≡◌, IfOk};
 ghost use Rattle.trial_line.specs.Trials.{line_text};
 
 use crate::counts::{loss_count, texel_sum};
-use crate::digits::{hex_text, push_count, push_number};
-use gpu_journal::Journal;
+use crate::digits::{push_count, push_number};
+use gpu_journal::{Journal, spaced_hex};
 use gpu_store::Images;
 use gpu_word::Memory;
 use std::alloc::Global;
@@ -30,7 +30,7 @@ pub fn trial_text(
     push_count(&mut text, b" images", images.count() as usize)?;
     push_count(&mut text, b" endings", endings.len())?;
     text.extend_from_slice(b" sum ")?;
-    text.extend_from_slice(&hex_text(texel_sum(images)))?;
+    text.extend_from_slice(&spaced_hex(texel_sum(images))[1..])?;
     text.push(b'\n')?;
     Ok(text)
 }

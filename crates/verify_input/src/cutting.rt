@@ -5,7 +5,7 @@ ghost use Rattle.verify_input.specs.Cuts.{IsFirstLine};
 ghost use Rattle.verify_input.specs.Parts.{before, behind};
 
 use crate::border::Border;
-use script_words::Words;
+use script_words::{Words, cut_at, line_end};
 
 /// A text, cut at the first line that ends a part of the input.
 #[derive(Clone, Copy, Debug)]
@@ -16,24 +16,6 @@ pub(crate) struct Cut<'a> {
     pub(crate) lines: u32,
     /// What stands behind the line.
     pub(crate) rest: Option<&'a [u8]>,
-}
-
-// The place of the first line feed.
-fn line_end(text: &[u8]) -> Option<usize>
-    ensures { result ≡ position ends_line text.now }
-{
-    text.iter().position(|byte| *byte == b'\n')
-}
-
-// What stands before a byte, and behind it.
-fn cut_at(text: &[u8], at: usize) -> (&[u8], &[u8])
-    requires { at < length text.now }
-    ensures before { result.0.now ≡ take at text.now }
-    ensures behind { result.1.now ≡ drop (at + 1) text.now }
-{
-    let (front, back) = text.split_at(at);
-    let (_, behind) = back.split_at(1);
-    (front, behind)
 }
 
 // The first line, without its line feed, and what stands behind it.

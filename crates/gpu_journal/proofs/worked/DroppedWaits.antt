@@ -1,5 +1,5 @@
 -- Waits on the stream itself, on an unknown one and on a release that is reached are dropped.
-use Rattle.std.proofs.Common.{◌≡◌, ℕ, refl, Ok}
+use Rattle.std.proofs.Common.{◌≡◌, refl, Ok}
 use Rattle.std.specs.Prelude.{codes}
 use Rattle.gpu_cmd.specs.Checks.{headed, checked, decoded}
 use Rattle.gpu_cmd.specs.Copied.{judged, places_read, copied, fetched}

@@ -1,5 +1,5 @@
 -- One wait ends by its guard, and a later one by a release.
-use Rattle.std.proofs.Common.{◌≡◌, ℕ, refl, Ok}
+use Rattle.std.proofs.Common.{◌≡◌, refl, Ok}
 use Rattle.std.specs.Prelude.{codes}
 use Rattle.gpu_cmd.specs.Checks.{headed, checked, decoded}
 use Rattle.gpu_cmd.specs.Copied.{judged, places_read, copied, fetched}

@@ -1,9 +1,6 @@
-use Rattle.std.proofs.Common.{◌≡◌, ℕ, ◌+◌, ◌≤◌, ◌<◌, sym, ap, subst, ◌∙◌, arith}
-use Rattle.gpu_cmd.specs.declared.command.Command.{Command}
+use Rattle.std.proofs.Common.{ap, ◌∙◌, arith}
 use Rattle.stream_state.specs.State.{State}
-use Rattle.stream_state.specs.Verdict.{checked_state}
 use Rattle.stream_state.specs.Steps.{header_in, command_in}
-use Rattle.stream_state.specs.Accepted.{IsAccepted}
 use Rattle.stream_state.proofs.Finding.{Finds, finds}
 use Rattle.stream_state.proofs.Runs.{stepped_errors}
 use Rattle.gpu_word.specs.Header.{size_of}

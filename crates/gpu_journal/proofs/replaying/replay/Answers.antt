@@ -1,16 +1,12 @@
-use Rattle.std.proofs.Common.{◌≡◌, ℕ, ◌+◌, ◌-◌, ◌<◌, ◌≤◌, Some, List, [], ◌∷◌, length, get_or, set, take, reverse, replicate, refl, sym, ap, subst, ◌∙◌, arith}
-use Rattle.gpu_plan.specs.Plans.{plan_of}
-use Rattle.sync_core.specs.Standing.{IsKnown}
+use Rattle.std.proofs.Common.{◌≡◌, ℕ, ◌+◌, List, ◌∷◌, take, reverse, replicate, refl, sym, ap, subst, ◌∙◌, arith}
 use Rattle.stream_state.specs.Laws.{IsTaken}
-use Rattle.stream_state.specs.State.{State, first_state, noted}
+use Rattle.stream_state.specs.State.{first_state, noted}
 use Rattle.stream_state.specs.Steps.{stepped, effect}
 use Rattle.gpu_journal.specs.World.{drawn_by}
 use Rattle.gpu_journal.specs.declared.event.Event.{Event}
 use Rattle.gpu_journal.specs.declared.event.Event.TheVariants.{Order, Step, Finish, Lost, Close}
-use Rattle.gpu_journal.specs.Legal.{Obeys, IsLegal}
-use Rattle.gpu_journal.specs.Replaying.{IsWithin, Shows, state_in}
-use Rattle.gpu_journal.proofs.Worlds.{step_taken, states_within, known_of_left}
-use Rattle.gpu_journal.proofs.Following.{past_more, legal_here, shows_none, shows_step, shows_other, IsStep, turn_of, found_here, left_here}
+use Rattle.gpu_journal.specs.Replaying.{Shows}
+use Rattle.gpu_journal.proofs.Following.{past_more, shows_none, shows_other, IsStep, turn_of, found_here, left_here}
 use Rattle.gpu_journal.proofs.replaying.replay.Goals as goal
 use Rattle.gpu_journal.proofs.replaying.replay.Goals.{in-Step+in_ok-execute, in_default}
 

@@ -1,4 +1,4 @@
-use Rattle.std.proofs.Common.{ℕ, List, ◌∷◌, ◌++◌, sym, ap, subst, ◌∙◌}
+use Rattle.std.proofs.Common.{◌∷◌, ◌++◌, sym, subst, ◌∙◌}
 use Rattle.journal_reader.specs.Reading.{HasNoFeed}
 use Rattle.journal_reader.proofs.Lines.{feed_found, feed_missing}
 use Rattle.journal_reader.proofs.reading.first_line.Goals as goal

@@ -1,4 +1,4 @@
-use Rattle.std.proofs.Common.{◌≡◌, ◌+◌, ◌<◌, Option, Some, None, length, refl, sym, ap, subst, ◌∙◌, arith, List, ℕ}
+use Rattle.std.proofs.Common.{◌≡◌, ◌+◌, ◌<◌, Option, Some, None, length, refl, sym, subst, ◌∙◌, arith, List}
 use Rattle.std.proofs.lemmas.Bool.Decides.{nat_tests}
 use Rattle.gpu_journal.specs.declared.event.Event.{Event}
 use Rattle.journal_reader.proofs.Lines.{IsRead, read_more, read_all, read_bad, read_open}

@@ -1,17 +1,18 @@
 use Rattle.std.proofs.Common.{refl}
 use Rattle.std.proofs.lemmas.List.{length-reverse}
+use Rattle.gpu_journal.specs.Digits as digits
 use Rattle.trial_line.specs.Trials.{is_loss, line_text}
 use Rattle.trial_line.proofs.Texts.{count_by-reverse}
 use Rattle.trial_line.proofs.line.trial_text.Goals as goal
 
 pub returns : goal.returns
-unfolding line_text
+unfolding line_text digits.hex8
 returns c =
     let h = c.args.journal.now.events in
     rw (
       c.in_ok-push.ensures.items,
       c.in_ok-extend_from_slice-2.ensures.items,
-      c.hex_text.ensures,
+      c.spaced_hex.ensures,
       c.texel_sum.ensures,
       c.in_ok-extend_from_slice.ensures.items,
       c.in_ok-push_count-5.ensures,

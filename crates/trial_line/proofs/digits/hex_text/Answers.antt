@@ -1,8 +1,0 @@
-use Rattle.std.proofs.Common.{sym, arith}
-use Rattle.trial_line.proofs.Texts.{hex8_digits}
-use Rattle.trial_line.proofs.digits.hex_text.Goals as goal
-
-pub returns : goal.returns
-returns c =
-    rw (c.hex_digit.ensures, c.hex_digit-2.ensures, c.hex_digit-3.ensures, c.hex_digit-4.ensures, c.hex_digit-5.ensures, c.hex_digit-6.ensures, c.hex_digit-7.ensures, c.hex_digit-8.ensures)
-    (sym (hex8_digits c.args.number (omega arith)))
