@@ -4,7 +4,7 @@ use Rattle.std.proofs.lemmas.List.{length-set}
 use Rattle.gpu_plan.specs.Plans.{plan_of}
 use Rattle.sync_core.specs.Standing.{IsKnown}
 use Rattle.sync_core.specs.Events.{noted}
-use Rattle.sync_core.specs.Core.{StandsFor}
+use Rattle.sync_core.specs.Core.{StandsFor, HasRoom}
 use Rattle.sync_core.proofs.Targets.{waits_go_down}
 use Rattle.seq_sched.specs.declared.seat.Seat.{Seat}
 use Rattle.seq_sched.specs.Seats.{seat_of, with_home}
@@ -126,6 +126,7 @@ pub record Turn (c now : Parts) (event : Event) (desk : DeskData) : Type 0 where
   pub images : now.images ≡ replay c.plans (event ∷ c.past)
   pub owed : now.owed + need c.plans c.past (stream_in event) ≡ c.owed + need c.plans (event ∷ c.past) (stream_in event)
   pub spare : now.owed ≤ now.spare
+  pub endings : HasRoom now.sync
   pub desks : now.desks ≡ set c.desks (stream_in event - 1) desk
   pub seats : AreSeated c now.seats (stream_in event) desk
   pub fits : DeskFits c.plans (event ∷ c.past) (stream_in event) desk
@@ -156,6 +157,7 @@ goes_on c now event desk was place turn =
       homes = homes_again c now.seats s desk place turn.seats was.homes;
       room = let a = was.room in let b = turn.owed in let all = needs_event p event h (length p.plans) place.plan in omega arith;
       spare = turn.spare;
+      endings = turn.endings;
     }
 
 -- where no event came, and stream s has this desk
@@ -175,4 +177,5 @@ stays c seats s desk was place seated fits =
       homes = homes_again c seats s desk place seated was.homes;
       room = was.room;
       spare = was.spare;
+      endings = was.endings;
     }

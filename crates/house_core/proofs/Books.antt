@@ -1,7 +1,6 @@
 -- What the halves of a stream's book say is what the journal says.
 use Rattle.std.proofs.Common.{◌≡◌, ℕ, suc, ◌<◌, List, length, get_or, ap, ◌∙◌}
 use Rattle.gpu_plan.specs.Plans.{PlansData}
-use Rattle.gpu_plan.specs.Passes.{greatest}
 use Rattle.stream_state.specs.State.{State}
 use Rattle.gpu_journal.specs.declared.event.Event.{Event}
 use Rattle.gpu_journal.specs.World.{known, state_of}

@@ -7,7 +7,7 @@ use Rattle.gpu_plan.specs.Plans.{PlansData, PlanData, plan_of, no_plan}
 use Rattle.gpu_plan.specs.Places.{flush_places}
 use Rattle.sync_core.specs.Standing.{IsKnown, nobody}
 use Rattle.sync_core.specs.Events.{SyncEvent, standing}
-use Rattle.sync_core.specs.Core.{Core, StandsFor}
+use Rattle.sync_core.specs.Core.{Core, StandsFor, HasRoom}
 use Rattle.sync_core.proofs.Targets.{waits_go_down}
 use Rattle.seq_sched.specs.Seats.{all_home, seat_of}
 use Rattle.seq_sched.specs.Seats as seats
@@ -69,9 +69,9 @@ homes_first p books (suc k) same is =
     ∙ ap (λ (n : ℕ). record { priority = n; home = true }) (get_or-map (λ (plan : PlanData). rank plan.priority) p.plans k no_plan 0 (omega (arith, high)))
     ∙ ap (λ (desk : DeskData). record { priority = rank (get_or p.plans k no_plan).priority; home = eqb desk.out.order 0 }) (sym (desk_first p.plans books k no_desk same (omega (arith, high))))
 
-pub core_first : (p : PlansData) (books : List TableId) (sync : Core) (spare : ℕ) → AreLawfulPlans p → length books ≡ length p.plans → length sync.streams ≡ length p.plans → StandsFor sync [] → length p.plans ≤ spare
+pub core_first : (p : PlansData) (books : List TableId) (sync : Core) (spare : ℕ) → AreLawfulPlans p → length books ≡ length p.plans → length sync.streams ≡ length p.plans → StandsFor sync [] → length p.plans ≤ spare → HasRoom sync
     → CoreInvariant record { plans = p; past = []; spare = spare; owed = length p.plans; sync = sync; seats = all_home (ranks_of p.plans); images = []; desks = desks_of p.plans books }
-core_first p books sync spare lawful same streams stands room =
+core_first p books sync spare lawful same streams stands room endings =
     let desks = desks_of p.plans books in
     let states : (k : ℕ) (other : DeskData) → k < length desks → DeskFits p [] (suc k) (get_or desks k other) =
     λ k other low.
@@ -93,4 +93,5 @@ core_first p books sync spare lawful same streams stands room =
       homes = λ s is. homes_first p books s same is;
       room = sym (needs_none p (length p.plans));
       spare = room;
+      endings = endings;
     }

@@ -40,6 +40,7 @@ core_roomier old new stays is =
         homes = was.homes;
         room = was.room;
         spare = omega (arith, room, more, enough);
+        endings = was.endings;
       };
       shown =
           ap (λ (v : CoreData). record v { spare = new.spare }) shown

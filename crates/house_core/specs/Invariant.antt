@@ -6,7 +6,7 @@ use Rattle.gpu_store.specs.Images.{Pictures}
 use Rattle.gpu_plan.specs.Plans.{PlansData, plan_of}
 use Rattle.gpu_plan.specs.Places.{flush_places}
 use Rattle.gpu_plan.specs.Passes.{greatest}
-use Rattle.sync_core.specs.Core.{Core, StandsFor}
+use Rattle.sync_core.specs.Core.{Core, StandsFor, HasRoom}
 use Rattle.sync_core.specs.Standing.{IsKnown}
 use Rattle.sync_core.specs.Laws.{Rank}
 use Rattle.seq_sched.specs.declared.seat.Seat.{Seat}
@@ -73,6 +73,7 @@ pub record CoreInvariant (c : Parts) : Type 0 where
   pub homes : (s : ℕ) → IsKnown (length c.plans.plans) s → seat_of c.seats s ≡ seat_for c.plans c.desks s
   pub room : c.owed ≡ needs c.plans c.past (length c.plans.plans)
   pub spare : c.owed ≤ c.spare
+  pub endings : HasRoom c.sync
 
 -- what contracts see of all this
 abbrev pub seen : Parts → CoreData

@@ -65,6 +65,7 @@ impl Core {
         plans_are_lawful(&plans);
         let count = plans.count();
         let sync = SyncCore::make(alloc, count)?;
+        sync.has_room();
         let ranks = ranks(alloc, &plans)?;
         let scheduler = Scheduler::make(alloc, ranks.as_slice())?;
         let mut journal = Journal::make(alloc);

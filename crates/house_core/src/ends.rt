@@ -42,6 +42,7 @@ impl Core {
         *owed -= desk.unfinished() as usize + 1;
         desk.lose();
         sync.lose(stream);
+        sync.has_room();
         journal.push(Event::Lost { stream, why, words });
     }
 
@@ -62,6 +63,7 @@ impl Core {
         *owed -= desk.unfinished() as usize + 1;
         desk.close();
         sync.close(stream);
+        sync.has_room();
         journal.push(Event::Close { stream });
     }
 

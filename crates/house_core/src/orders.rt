@@ -61,6 +61,7 @@ impl Core {
         };
         let fences = fences_of(&plans.plan(stream).actions()[place as usize]);
         let order = sync.order(stream, fences)?;
+        sync.has_room();
         let desk = &mut desks[stream as usize - 1];
         desk.order();
         *owed += 1;

@@ -121,6 +121,7 @@ impl Core {
         } = self;
         *owed -= 1;
         sync.finish(stream);
+        sync.has_room();
         scheduler.give_back(stream);
         run.finish(&mut desks[stream as usize - 1]);
         journal.push(Event::Finish { stream, order });

@@ -79,6 +79,7 @@ impl Core {
         take_room(journal, *owed, 1)?;
         let desk = &mut desks[stream as usize - 1];
         let acted = run.step(desk, images, sync, plans, command, words.as_slice())?;
+        sync.has_room();
         journal.push(Event::Step { stream, words });
         Ok(acted)
     }

@@ -38,13 +38,13 @@ at_now xs h e i x st is lt to =
         by true k = let same : e.0 ≡ t = grind (arith, nat_tests) in ap (λ (s : ℕ). moved e.1 (orders h + 1) (standing h s)) same
         by false k = refl
 
-pub swept : (old : Core) (h : List SyncEvent) (e : SyncEvent) (i : ℕ) (x : Standing) (ps : List Wait) (es : List Ending)
+pub swept : (old : Core) (h : List SyncEvent) (e : SyncEvent) (i : ℕ) (x : Standing) (ps : List Wait) (es : List Ending) (room : ℕ)
     → StandsFor old h → i + 1 ≡ e.0 → i < length old.streams → x ≡ moved e.1 (orders h + 1) (at old.streams e.0) → orders (e ∷ h) ≡ orders h
     → ((n : ℕ) → added n e.0 e.1 h (pending n h) ≡ pending n h)
     → ps ≡ filter (still (at (set old.streams i x))) old.pending
     → es ≡ old.endings ++ map (ending_of (at (set old.streams i x))) (filter (ends (at (set old.streams i x))) old.pending)
-    → StandsFor record { drawn = old.drawn; streams = set old.streams i x; pending = ps; endings = es } (e ∷ h)
-swept old h e i x ps es st is lt to n_orders adds pends ended =
+    → StandsFor record { drawn = old.drawn; streams = set old.streams i x; pending = ps; endings = es; room = room } (e ∷ h)
+swept old h e i x ps es room st is lt to n_orders adds pends ended =
     let now : at (set old.streams i x) ≡ standing (e ∷ h) = at_now old.streams h e i x st.streams is lt to in
     let len = length-set old.streams i x in
     record {
@@ -58,11 +58,11 @@ swept old h e i x ps es st is lt to n_orders adds pends ended =
           ∙ ap (λ (n : ℕ). endings n (e ∷ h)) (sym len);
     }
 
-pub order_stands : (old : Core) (h : List SyncEvent) (s : ℕ) (fs : List (ℕ × ℕ)) (i : ℕ) (x : Standing) (ps : List Wait) (es : List Ending)
+pub order_stands : (old : Core) (h : List SyncEvent) (s : ℕ) (fs : List (ℕ × ℕ)) (i : ℕ) (x : Standing) (ps : List Wait) (es : List Ending) (room : ℕ)
     → StandsFor old h → i + 1 ≡ s → i < length old.streams → x ≡ moved (Ordered fs) (old.drawn + 1) (at old.streams s)
     → ps ≡ old.pending ++ judged (length (set old.streams i x)) (at (set old.streams i x)) s (old.drawn + 1) 0 fs → es ≡ old.endings
-    → StandsFor record { drawn = old.drawn + 1; streams = set old.streams i x; pending = ps; endings = es } ((s, Ordered fs) ∷ h)
-order_stands old h s fs i x ps es st is lt to pends ended =
+    → StandsFor record { drawn = old.drawn + 1; streams = set old.streams i x; pending = ps; endings = es; room = room } ((s, Ordered fs) ∷ h)
+order_stands old h s fs i x ps es room st is lt to pends ended =
     let e : SyncEvent = (s, Ordered fs) in
     let n = length old.streams in
     let drawn : old.drawn + 1 ≡ orders h + 1 = ap (λ (k : ℕ). k + 1) st.drawn in
@@ -81,13 +81,13 @@ order_stands old h s fs i x ps es st is lt to pends ended =
       endings = ended ∙ st.endings ∙ sym o.1 ∙ ap (λ (k : ℕ). endings k (e ∷ h)) (sym len);
     }
 
-pub wait_stands : (old : Core) (h : List SyncEvent) (s t r i : ℕ) (x : Standing) (ps : List Wait) (es : List Ending)
+pub wait_stands : (old : Core) (h : List SyncEvent) (s t r i : ℕ) (x : Standing) (ps : List Wait) (es : List Ending) (room : ℕ)
     → StandsFor old h → i + 1 ≡ s → i < length old.streams → x ≡ record (at old.streams s) { left = bumped (at old.streams s).left } → 0 < length (at old.streams s).left
     → ps ≡ cond (is_kept (length old.streams) (at old.streams) s (front_of (at old.streams s).left) t r)
     (placed (wait_of (at old.streams s) s t r) old.pending) old.pending
     → es ≡ old.endings
-    → StandsFor record { drawn = old.drawn; streams = set old.streams i x; pending = ps; endings = es } ((s, Waited t r) ∷ h)
-wait_stands old h s t r i x ps es st is lt to some_left pends ended =
+    → StandsFor record { drawn = old.drawn; streams = set old.streams i x; pending = ps; endings = es; room = room } ((s, Waited t r) ∷ h)
+wait_stands old h s t r i x ps es room st is lt to some_left pends ended =
     let e : SyncEvent = (s, Waited t r) in
     let n = length old.streams in
     let now : at (set old.streams i x) ≡ standing (e ∷ h) = at_now old.streams h e i x st.streams is lt to in

@@ -1,5 +1,5 @@
 -- What a core keeps, and the lists of sync events that it stands for.
-use Rattle.std.specs.Prelude.{◌≡◌, ℕ, Bool, List, length, if◌then◌else◌}
+use Rattle.std.specs.Prelude.{◌≡◌, ℕ, ◌+◌, ◌≤◌, Bool, List, length, if◌then◌else◌}
 use Rattle.sync_core.specs.declared.wait.Number.{Number}
 use Rattle.sync_core.specs.declared.wait.Wait.{Wait}
 use Rattle.sync_core.specs.declared.ending.Ending.{Ending}
@@ -9,12 +9,18 @@ use Rattle.sync_core.specs.Standing.{Standing, at, front_of}
 use Rattle.sync_core.specs.Events.{SyncEvent, orders, standing}
 use Rattle.sync_core.specs.Pending.{is_kept, is_blocked, pending, endings}
 
--- how many numbers were drawn, what is known of each stream from stream 1 on, the pending waits in rising order of number and position, and the endings in order
+-- how many numbers were drawn, what is known of each stream from stream 1 on, the pending waits in rising order of number and
+-- position, the endings in order, and for how many endings there is room in all
 pub record Core : Type 0 where
   pub drawn : ℕ
   pub streams : List Standing
   pub pending : List Wait
   pub endings : List Ending
+  pub room : ℕ
+
+-- each pending wait has room for its ending
+abbrev pub HasRoom : Core → Type 0
+HasRoom core = length core.pending + length core.endings ≤ core.room
 
 -- all that the core keeps is what the definitions give on h
 pub record StandsFor (core : Core) (h : List SyncEvent) : Type 0 where

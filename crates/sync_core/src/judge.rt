@@ -69,7 +69,9 @@ pub fn judge(
     ensures pending { OnOk result (pending.new.items ≡ (if is_kept (length streams.now) (at streams.now) wait.stream wait.order wait.target wait.release then placed wait pending.old.items else pending.old.items)) }
     ensures err { OnErr result (pending.new.items ≡ pending.old.items) }
     ensures endings { endings.new.items ≡ endings.old.items }
-    ensures room { vec_len pending.new + vec_len endings.new ≤ vec_capacity endings.new }
+    ensures room { OnOk result (vec_len pending.new + vec_len endings.new ≤ vec_capacity endings.new) }
+    ensures same { OnErr result (vec_len pending.new ≡ vec_len pending.old) }
+    ensures grows { vec_capacity endings.old ≤ vec_capacity endings.new }
 {
     if !is_kept(streams, wait.stream, wait.order, wait.target, wait.release) {
         return Ok(Judged::Dropped);

@@ -72,7 +72,8 @@ pub fn sweep(streams: &[Stream], pending: &mut Vec<Wait>, endings: &mut Vec<Endi
     requires { vec_len pending.old + vec_len endings.old ≤ vec_capacity endings.old }
     ensures pending { pending.new.items ≡ filter (still (at streams.now)) pending.old.items }
     ensures endings { endings.new.items ≡ endings.old.items ++ map (ending_of (at streams.now)) (filter (ends (at streams.now)) pending.old.items) }
-    ensures room { vec_len pending.new + vec_len endings.new ≤ vec_capacity endings.new }
+    ensures room { vec_len pending.new + vec_len endings.new ≤ vec_len pending.old + vec_len endings.old }
+    ensures same { vec_capacity endings.new ≡ vec_capacity endings.old }
 {
     record_ends(streams, pending.as_slice(), endings);
     pending.retain(|wait| is_still(streams, wait));

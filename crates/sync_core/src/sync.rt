@@ -1,7 +1,7 @@
 ghost use Rattle.std.specs.Prelude.{◌≡◌, ◌↔◌, ℕ, ◌+◌, ◌<◌, ◌≤◌, ◌^◌, List, [], ◌∷◌, length, true, false, Ok, Err, OnOk, OnErr, IfOk, IsSome, IsErrOf};
 ghost use Rattle.sync_core.specs.Standing.{at, IsKnown, first_order};
 ghost use Rattle.sync_core.specs.Events.{SyncEvent, Ordered, Waited, Released, Finished, WasLost, WasClosed};
-ghost use Rattle.sync_core.specs.Core.{StandsFor, left_of, blocked, judgement};
+ghost use Rattle.sync_core.specs.Core.{StandsFor, HasRoom, left_of, blocked, judgement};
 
 use crate::ending::Ending;
 use crate::judge::{has_wait_of, judge, judge_all, stream_at};
@@ -23,6 +23,7 @@ pub struct SyncCore {
     streams: Vec<Stream>,
     pending: Vec<Wait>,
     endings: Vec<Ending>,
+    room: usize,
 }
 
 impl Model for SyncCore {
@@ -31,9 +32,9 @@ impl Model for SyncCore {
 
     ghost Value = { Core };
 
-    ghost view = { λ c. record { drawn = c.drawn; streams = c.streams.items; pending = c.pending.items; endings = c.endings.items } };
+    ghost view = { λ c. record { drawn = c.drawn; streams = c.streams.items; pending = c.pending.items; endings = c.endings.items; room = c.room } };
 
-    ghost invariant = { λ c. vec_len c.pending + vec_len c.endings ≤ vec_capacity c.endings };
+    ghost invariant = { λ c. (vec_len c.pending + vec_len c.endings ≤ c.room) × (c.room ≤ vec_capacity c.endings) };
 }
 
 impl SyncCore {
@@ -53,6 +54,7 @@ impl SyncCore {
             streams: all,
             pending: Vec::new(alloc),
             endings: Vec::new(alloc),
+            room: 0,
         })
     }
 
@@ -82,6 +84,14 @@ impl SyncCore {
         ensures { result ≡ self.now.drawn }
     {
         self.drawn
+    }
+
+    /// Each pending wait has room for its ending, so what ends waits takes no memory.
+    pub fn has_room(&self)
+        ensures { HasRoom self.now }
+    {
+        let _pending = self.pending.len();
+        let _endings = self.endings.len();
     }
 
     /// How many waits are pending.
@@ -116,6 +126,7 @@ impl SyncCore {
             streams,
             pending,
             endings,
+            room,
         } = self;
         let stream = &mut streams[s as usize - 1];
         if stream.is_lost() {
@@ -126,6 +137,7 @@ impl SyncCore {
         let n = *drawn + 1;
         stream.push(n, fences.len() as u64)?;
         judge_all(streams.as_slice(), s, n, fences, pending);
+        *room = endings.capacity();
         *drawn = n;
         Ok(n)
     }
@@ -143,6 +155,7 @@ impl SyncCore {
             streams,
             pending,
             endings,
+            room,
             ..
         } = self;
         let Some(front) = streams[s as usize - 1].front() else {
@@ -160,6 +173,7 @@ impl SyncCore {
             position: front.made,
         };
         let judged = judge(streams.as_slice(), wait, pending, endings)?;
+        *room = endings.capacity();
         let stream = &mut streams[s as usize - 1];
         stream.bump();
         Ok(judged)

@@ -14,4 +14,4 @@ returns-clause-room c =
     let e = returns-clause-pending c in
     let n = ap length e in
     let m = ap length (rw c.as_slice.ensures.value at c.record_ends.ensures.endings) ∙ length-append c.args.endings.now.items (map (ending_of (at c.args.streams.now)) (filter (ends (at c.args.streams.now)) c.args.pending.now.items)) in
-    omega (arith, n, m, c.record_ends.ensures.room, c.requires, length-still_ends (at c.args.streams.now) c.args.pending.now.items)
+    omega (arith, n, m, length-still_ends (at c.args.streams.now) c.args.pending.now.items)

@@ -102,6 +102,7 @@ invariant_of-self-2 c =
       obeys = obeys c;
       stands = subst (λ (effect : Effect). StandsFor c.step.new.sync (noted s (deed_asked p effect) (sync_of p h))) (told c).effect (c.in_ok-acted.ensures.waits (sync_of p h) was.sync);
       count = c.step.ensures.count;
+      endings = c.has_room.ensures;
       images = c.in_ok-acted.ensures.images ∙ ap (λ (effect : Effect). (drawn_by effect (now c).images).images) (told c).effect ∙ ap (λ (images : Pictures). (drawn_by (asked_by p s words (world p h)) images).images) was.images ∙ sym (step_images p h s words);
       owed = let same = need_step p h s words in omega (arith, same);
       spare = let room = c.in_ok-take_room.ensures.room in let left = c.push.ensures.spare in omega (arith, room, left);

@@ -13,6 +13,6 @@ returns-clause-stands c = λ h s.
     let i = index_of (length streams) c.args.s known in
     let read : c.index_mut-stream.result.now ≡ at streams c.args.s = at_read streams c.args.s c.index_mut-stream.result.now known c.index_mut-stream.ensures.value in
     let w = c.sweep.ensures in
-    swept _ h (c.args.s, WasLost) (c.args.s - 1) c.lose.new.self c.sweep.new.pending.items c.sweep.new.endings.items st i.0 i.1
+    swept _ h (c.args.s, WasLost) (c.args.s - 1) c.lose.new.self c.sweep.new.pending.items c.sweep.new.endings.items _ st i.0 i.1
     (c.lose.ensures ∙ ap (λ (x : Standing). record x { lost = true; left = [] }) read) refl (λ n. refl)
     (rw c.as_slice.ensures.value at w.pending) (rw c.as_slice.ensures.value at w.endings)

@@ -36,7 +36,7 @@ returns-clause-stands c = λ h s.
     let f = c.in-Some.ensures in
     let same : (c.in-Some.front.order, c.in-Some.front.made) ≡ (front_of (at streams c.args.s).left, made_of (at streams c.args.s).left) =
     λ j. ((sym f.0 ∙ ap (λ (x : Standing). front_of x.left) first) j, (sym f.1 ∙ ap (λ (x : Standing). made_of x.left) first) j) in
-    wait_stands _ h c.args.s c.args.t c.args.r (c.args.s - 1) c.bump.new.self c.judge.new.pending.items c.judge.new.endings.items st i.0 i.1
+    wait_stands _ h c.args.s c.args.t c.args.r (c.args.s - 1) c.bump.new.self c.judge.new.pending.items c.judge.new.endings.items _ st i.0 i.1
     (c.bump.ensures ∙ ap (λ (x : Standing). record x { left = bumped x.left }) read) some_left
     (rw c.as_slice.ensures.value at c.in_ok-judged.ensures.pending
     ∙ ap (λ (p : ℕ × ℕ). let w : Wait = record { stream = c.args.s; order = p.0; target = c.args.t; release = c.args.r; position = p.1 } in cond (is_kept (length streams) (at streams) c.args.s p.0 c.args.t c.args.r) (placed w c.self.inside.pending.items) c.self.inside.pending.items) same)
