@@ -3,4 +3,5 @@ pub mod Pieces
 pub mod Ending
 pub mod Rooms
 pub mod Texts
+mod Closing
 pub mod Parts

@@ -1,5 +1,8 @@
+use crate::event_lines::EventLines;
+use crate::page::Page;
 use crate::writing::write_all;
 use gpu_io::MemorySink;
+use gpu_journal::Event;
 use std::alloc::Global;
 use std::test::Fail;
 
@@ -24,5 +27,26 @@ fn a_front_stands_after_a_failed_write(rt: HostRuntime) -> Result<(), Fail> {
     assert_eq!(rt; front.as_slice(), b"abc!".as_slice());
     let nothing = written(rt.alloc(), b"", 0)?;
     assert_eq!(rt; nothing.as_slice(), b"".as_slice());
+    Ok(())
+}
+
+#[test]
+#[tactic(auto, using(crate::proofs::Closing::close_pushed))]
+fn lines_are_gathered_before_they_are_written(rt: HostRuntime) -> Result<(), Fail> {
+    let mut events = Vec::new(rt.alloc());
+    for stream in 1..4u32 {
+        events.push(Event::Close { stream })?;
+    }
+    let Ok(mut page) = Page::within(rt.alloc(), 16) else {
+        return Err(Fail::from("memory is ample"));
+    };
+    let Ok(mut sink) = MemorySink::make(rt.alloc(), 64, 64, Vec::new(rt.alloc())) else {
+        return Err(Fail::from("memory is ample"));
+    };
+    let lines = EventLines { events: &events };
+    assert!(rt; page.put_all(&mut sink, &lines).is_ok());
+    assert_eq!(rt; sink.bytes(), b"close 1\nclose 2\n".as_slice());
+    assert!(rt; page.give(&mut sink).is_ok());
+    assert_eq!(rt; sink.bytes(), b"close 1\nclose 2\nclose 3\n".as_slice());
     Ok(())
 }
