@@ -1,6 +1,6 @@
 -- The results of the streams after an event: they tell what the journal's steps and finishes wrote.
 use Rattle.std.proofs.Common.{◌≡◌, ℕ, zero, suc, ◌-◌, ◌<◌, eqb, Bool, true, false, cond, Option, Some, None, List, [], ◌∷◌, ◌++◌, length, refl, sym, ap, subst, ◌∙◌, arith}
-use Rattle.std.specs.Prelude.{IfSome, slice_get, slice_index_or, slice_set, if◌then◌else◌, ◌==◌}
+use Rattle.std.specs.Prelude.{IfSome, slice_get, slice_index_or, slice_set}
 use Rattle.std.proofs.lemmas.List.{append-nil}
 use Rattle.gpu_word.specs.Results.{Written}
 use Rattle.gpu_plan.specs.Plans.{PlansData}
@@ -9,6 +9,7 @@ use Rattle.sync_core.specs.Standing.{IsKnown}
 use Rattle.gpu_journal.specs.declared.event.Event.{Event}
 use Rattle.gpu_journal.specs.World.{stream_in}
 use Rattle.gpu_journal.specs.Written.{written_by, written}
+use Rattle.gpu_journal.proofs.Folding.{written_then}
 use Rattle.serial_laws.proofs.Others.{self}
 use Rattle.gpu_house.specs.House.{ResultsFit}
 use Rattle.gpu_house.specs.Changes.{ResultsBelong, WroteResults}
@@ -16,10 +17,6 @@ use Rattle.gpu_house.proofs.Rows.{each_set}
 use Rattle.gpu_house.proofs.Places.{set_has, read_has, slice_get-set_other}
 
 -- ---- what is written
-
-written_then : (p : PlansData) (e : Event) (h : List Event) (s : ℕ) → written p (e ∷ h) s ≡ (if stream_in e == s then written p h s ++ written_by p h s e else written p h s)
-unfolding written
-written_then p e h s = refl
 
 -- an event of another stream writes nothing
 written_other : (p : PlansData) (e : Event) (h : List Event) (s : ℕ) → eqb (stream_in e) s ≡ false → written p (e ∷ h) s ≡ written p h s

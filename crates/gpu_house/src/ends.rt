@@ -63,7 +63,7 @@ impl<N: Naming, P: ServiceSide, H: Hook> House<N, P, H> {
     }
 
     /// What the house leaves. It takes no memory.
-    pub fn report(self) -> Report<H>
+    pub fn report(self) -> Report
         ensures plans { result.plans ≡ N.plans }
         ensures base { result.base ≡ N.base }
         ensures past { result.past ≡ self.core.past }

@@ -21,12 +21,13 @@ use wait_hooks::{Hook, Hooks};
 ///
 /// Contracts see the plans, the base and the journal with its newest event first.
 #[derive(Drop)]
-pub struct Report<H: Hook> {
+pub struct Report {
     core: Core,
-    hooks: Hooks<H>,
+    base: u32,
+    marks: Vec<u32>,
 }
 
-impl<H: Hook> Model for Report<H> {
+impl Model for Report {
     ghost use Rattle.std.specs.Prelude.{◌≡◌, map};
     ghost use Rattle.wait_hooks.specs.Marks.{mark};
     ghost use Rattle.gpu_journal.specs.Waits.{endings_in};
@@ -34,18 +35,19 @@ impl<H: Hook> Model for Report<H> {
 
     ghost Value = { ReportData };
 
-    ghost view = { λ r. record { plans = r.core.plans; base = r.hooks.base; past = r.core.past } };
+    ghost view = { λ r. record { plans = r.core.plans; base = r.base; past = r.core.past } };
 
-    ghost invariant = { λ r. r.hooks.marks ≡ map (mark r.hooks.base) (endings_in r.core.plans r.core.past) };
+    ghost invariant = { λ r. r.marks.items ≡ map (mark r.base) (endings_in r.core.plans r.core.past) };
 }
 
-impl<H: Hook> Report<H> {
+impl Report {
     // What a core and its hooks leave.
-    pub(crate) fn of(core: Core, hooks: Hooks<H>) -> Report<H>
+    pub(crate) fn of<H: Hook>(core: Core, hooks: Hooks<H>) -> Report
         requires { hooks.marks ≡ map (mark hooks.base) (endings_in core.plans core.past) }
         ensures { result ≡ record { plans = core.plans; base = hooks.base; past = core.past } }
     {
-        Report { core, hooks }
+        let (base, marks) = hooks.into_marks();
+        Report { core, base, marks }
     }
 
     /// The plans of the streams.
@@ -53,6 +55,13 @@ impl<H: Hook> Report<H> {
         ensures { result.now ≡ self.now.plans }
     {
         self.core.plans()
+    }
+
+    /// The base of the marks.
+    pub fn base(&self) -> u32
+        ensures { result ≡ self.now.base }
+    {
+        self.base
     }
 
     /// The journal. It is legal.
@@ -89,7 +98,7 @@ impl<H: Hook> Report<H> {
     pub fn marks(&self) -> &[u32]
         ensures { result.now ≡ map (mark self.now.base) (endings_in self.now.plans self.now.past) }
     {
-        self.hooks.marks()
+        self.marks.as_slice()
     }
 
     /// What a stream was doing.

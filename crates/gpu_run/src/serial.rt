@@ -25,7 +25,7 @@ fn run_named<N: Naming, H: Hook>(
     plans: Plans,
     hook: H,
     parts: Parts,
-) -> Result<(Report<H>, Vec<Dumps>), Memory>
+) -> Result<(Report, Vec<Dumps>), Memory>
     requires lawful { AreLawfulPlans N.plans }
     requires plans { plans ≡ N.plans }
     requires base { H.base hook ≡ N.base }
@@ -60,7 +60,7 @@ pub fn run_one<H: Hook>(
     alloc: Global,
     plans: Plans,
     hook: H,
-) -> Result<(Report<H>, Vec<Dumps>), Memory>
+) -> Result<(Report, Vec<Dumps>), Memory>
     ensures plans { IfOk result (λ ran. ran.0.plans ≡ plans) }
     ensures base { IfOk result (λ ran. ran.0.base ≡ H.base hook) }
     ensures serial { IfOk result (λ ran. ran.0.past ≡ serial plans) }

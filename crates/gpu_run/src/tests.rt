@@ -30,7 +30,7 @@ const EVENTS: &str = "order 1 1 14\n\
 const BASE: u32 = 1000;
 
 // What the run of the script leaves.
-fn ran(alloc: Global) -> Result<(Report<Marker>, Vec<Dumps>), Fail> {
+fn ran(alloc: Global) -> Result<(Report, Vec<Dumps>), Fail> {
     let plans = parse(alloc, SCRIPT.as_bytes()).ok().ok_or("a script")?;
     Ok(
         run_one(alloc, plans, Marker::make(BASE))

@@ -3,15 +3,14 @@ ghost use Rattle.run_output.specs.Parts.{marks};
 use crate::lines::Lines;
 use gpu_house::Report;
 use gpu_journal::Line;
-use wait_hooks::Hook;
 
 /// A line for each ending, with its mark.
 #[derive(Drop)]
-pub(crate) struct MarkLines<'a, H: Hook> {
-    pub(crate) report: &'a Report<H>,
+pub(crate) struct MarkLines<'a> {
+    pub(crate) report: &'a Report,
 }
 
-impl<'a, H: Hook> Lines for MarkLines<'a, H> {
+impl<'a> Lines for MarkLines<'a> {
     ghost lines = { λ m. marks m.report.now.plans m.report.now.base m.report.now.past };
 
     fn count(&self) -> usize {

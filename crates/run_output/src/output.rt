@@ -24,7 +24,6 @@ use gpu_journal::{End, Event};
 use gpu_plan::Plans;
 use gpu_run::Dumps;
 use gpu_store::Images;
-use wait_hooks::Hook;
 
 // Puts the head and the names of a script of version 2, and nothing of one of version 1.
 #[tactic(auto, using(crate::proofs::Texts::head_text, crate::proofs::Texts::no_head, crate::proofs::Pieces::put_nothing))]
@@ -73,10 +72,10 @@ pub(crate) fn put_images<K: Sink>(
 
 // Puts the line of each stream, which ended so.
 #[tactic(auto, using(crate::proofs::Texts::streams_text))]
-fn put_streams<K: Sink, H: Hook>(
+fn put_streams<K: Sink>(
     page: &mut Page,
     sink: &mut K,
-    report: &Report<H>,
+    report: &Report,
     ends: &[End],
 ) -> Result<(), Failed>
     requires { ends.now ≡ map (end_of report.now.past) (streams_of report.now.plans) }
@@ -91,10 +90,10 @@ fn put_streams<K: Sink, H: Hook>(
 
 // Puts the line of each wait that has ended, with its mark.
 #[tactic(auto, using(crate::proofs::Texts::marks_text))]
-fn put_marks<K: Sink, H: Hook>(
+fn put_marks<K: Sink>(
     page: &mut Page,
     sink: &mut K,
-    report: &Report<H>,
+    report: &Report,
 ) -> Result<(), Failed>
     ensures all { OnOk result (IsPut (K.written sink.old) page.old (K.written sink.new) page.new (mark_lines report.now.plans (mark report.now.base) report.now.past)) }
     ensures front { OnErr result (IsCut (K.written sink.old) page.old (K.written sink.new) (mark_lines report.now.plans (mark report.now.base) report.now.past)) }
@@ -124,10 +123,10 @@ fn put_dumps<K: Sink>(page: &mut Page, sink: &mut K, dumps: &[Dumps]) -> Result<
 }
 
 // Puts the head and the names of a run's script.
-fn put_heads<K: Sink, H: Hook>(
+fn put_heads<K: Sink>(
     page: &mut Page,
     sink: &mut K,
-    report: &Report<H>,
+    report: &Report,
 ) -> Result<(), Failed>
     ensures all { OnOk result (IsPut (K.written sink.old) page.old (K.written sink.new) page.new (head_lines report.now.plans)) }
     ensures front { OnErr result (IsCut (K.written sink.old) page.old (K.written sink.new) (head_lines report.now.plans)) }
@@ -139,10 +138,10 @@ fn put_heads<K: Sink, H: Hook>(
 }
 
 // Puts the line of each event of a run.
-fn put_journal<K: Sink, H: Hook>(
+fn put_journal<K: Sink>(
     page: &mut Page,
     sink: &mut K,
-    report: &Report<H>,
+    report: &Report,
 ) -> Result<(), Failed>
     requires { All HasRoom (reverse report.now.past) }
     ensures all { OnOk result (IsPut (K.written sink.old) page.old (K.written sink.new) page.new (journal_text (reverse report.now.past))) }
@@ -155,10 +154,10 @@ fn put_journal<K: Sink, H: Hook>(
 }
 
 // Puts the lines of each image that a run leaves.
-fn put_picture<K: Sink, H: Hook>(
+fn put_picture<K: Sink>(
     page: &mut Page,
     sink: &mut K,
-    report: &Report<H>,
+    report: &Report,
 ) -> Result<(), Failed>
     ensures all { OnOk result (IsPut (K.written sink.old) page.old (K.written sink.new) page.new (picture_text (replay report.now.plans report.now.past))) }
     ensures front { OnErr result (IsCut (K.written sink.old) page.old (K.written sink.new) (picture_text (replay report.now.plans report.now.past))) }
@@ -171,10 +170,10 @@ fn put_picture<K: Sink, H: Hook>(
 
 // Puts the streams, and then the marks.
 #[tactic(auto, using(crate::proofs::Pieces::put_then, crate::proofs::Pieces::cut_then, crate::proofs::Pieces::cut_more))]
-fn put_ends<K: Sink, H: Hook>(
+fn put_ends<K: Sink>(
     page: &mut Page,
     sink: &mut K,
-    report: &Report<H>,
+    report: &Report,
     ends: &[End],
 ) -> Result<(), Failed>
     requires { ends.now ≡ map (end_of report.now.past) (streams_of report.now.plans) }
@@ -190,10 +189,10 @@ fn put_ends<K: Sink, H: Hook>(
 
 // Puts the images, and then what comes behind them.
 #[tactic(auto, using(crate::proofs::Pieces::put_then, crate::proofs::Pieces::cut_then, crate::proofs::Pieces::cut_more))]
-fn put_world<K: Sink, H: Hook>(
+fn put_world<K: Sink>(
     page: &mut Page,
     sink: &mut K,
-    report: &Report<H>,
+    report: &Report,
     ends: &[End],
 ) -> Result<(), Failed>
     requires { ends.now ≡ map (end_of report.now.past) (streams_of report.now.plans) }
@@ -209,10 +208,10 @@ fn put_world<K: Sink, H: Hook>(
 
 // Puts the events, and then what comes behind them.
 #[tactic(auto, using(crate::proofs::Pieces::put_then, crate::proofs::Pieces::cut_then, crate::proofs::Pieces::cut_more))]
-fn put_past<K: Sink, H: Hook>(
+fn put_past<K: Sink>(
     page: &mut Page,
     sink: &mut K,
-    report: &Report<H>,
+    report: &Report,
     ends: &[End],
 ) -> Result<(), Failed>
     requires room { All HasRoom (reverse report.now.past) }
@@ -229,10 +228,10 @@ fn put_past<K: Sink, H: Hook>(
 
 // Puts the output of a run but for its dumps.
 #[tactic(auto, using(crate::proofs::Pieces::put_then, crate::proofs::Pieces::cut_then, crate::proofs::Pieces::cut_more))]
-fn put_run<K: Sink, H: Hook>(
+fn put_run<K: Sink>(
     page: &mut Page,
     sink: &mut K,
-    report: &Report<H>,
+    report: &Report,
     ends: &[End],
 ) -> Result<(), Failed>
     requires room { All HasRoom (reverse report.now.past) }
@@ -249,10 +248,10 @@ fn put_run<K: Sink, H: Hook>(
 
 // Puts the output of a run, and then the lines of the dumps that its clients have read.
 #[tactic(auto, using(crate::proofs::Pieces::put_then, crate::proofs::Pieces::cut_then, crate::proofs::Pieces::cut_more))]
-fn put_whole<K: Sink, H: Hook>(
+fn put_whole<K: Sink>(
     page: &mut Page,
     sink: &mut K,
-    report: &Report<H>,
+    report: &Report,
     dumps: &[Dumps],
     ends: &[End],
 ) -> Result<(), Failed>
@@ -270,10 +269,10 @@ fn put_whole<K: Sink, H: Hook>(
 }
 
 /// Writes the output of a run and the lines of its dumps, by way of an empty page. After a fault a front of both stands.
-pub(crate) fn write_output<K: Sink, H: Hook>(
+pub(crate) fn write_output<K: Sink>(
     page: &mut Page,
     sink: &mut K,
-    report: &Report<H>,
+    report: &Report,
     dumps: &[Dumps],
     ends: &[End],
 ) -> Result<(), Failed>

@@ -18,10 +18,9 @@ use gpu_word::Memory;
 use serial_laws::plans_are_lawful;
 use std::alloc::Global;
 use std::marker::Model;
-use wait_hooks::Hook;
 
 // How each stream of a run ended.
-fn ends_in<H: Hook>(alloc: Global, report: &Report<H>) -> Result<Vec<End>, Memory>
+fn ends_in(alloc: Global, report: &Report) -> Result<Vec<End>, Memory>
     ensures { IfOk result (λ ends. ends.items ≡ map (end_of report.now.past) (streams_of report.now.plans)) }
 {
     let count = report.plans().count();
@@ -30,7 +29,7 @@ fn ends_in<H: Hook>(alloc: Global, report: &Report<H>) -> Result<Vec<End>, Memor
 
 // The lines of a run's events have room, and its streams are few.
 #[tactic(auto, using(crate::proofs::Rooms::legal_room))]
-fn lines_have_room<H: Hook>(report: &Report<H>)
+fn lines_have_room(report: &Report)
     ensures room { All HasRoom (reverse report.now.past) }
     ensures few { length report.now.plans.plans ≤ 16 }
 {
@@ -40,14 +39,14 @@ fn lines_have_room<H: Hook>(report: &Report<H>)
 
 /// A run with all memory that writing its output takes, seen as the run and the dumps that its clients have read.
 #[derive(Drop)]
-pub struct RunOutput<H: Hook> {
-    report: Report<H>,
+pub struct RunOutput {
+    report: Report,
     dumps: Vec<Dumps>,
     ends: Vec<End>,
     page: Page,
 }
 
-impl<H: Hook> Model for RunOutput<H> {
+impl Model for RunOutput {
     ghost use Rattle.run_output.specs.Runs.{RunData, IsReady};
 
     ghost Value = { RunData };
@@ -57,9 +56,9 @@ impl<H: Hook> Model for RunOutput<H> {
     ghost invariant = { λ run. IsReady (record { report = run.report; dumps = run.dumps.items }) run.ends.items run.page };
 }
 
-impl<H: Hook> RunOutput<H> {
+impl RunOutput {
     /// Takes all memory that writing the output of a run takes.
-    pub fn make(alloc: Global, report: Report<H>, dumps: Vec<Dumps>) -> Result<RunOutput<H>, Memory>
+    pub fn make(alloc: Global, report: Report, dumps: Vec<Dumps>) -> Result<RunOutput, Memory>
         requires { length dumps.items ≡ length report.plans.plans }
         ensures report { IfOk result (λ run. run.report ≡ report) }
         ensures dumps { IfOk result (λ run. run.dumps ≡ dumps.items) }
@@ -76,7 +75,7 @@ impl<H: Hook> RunOutput<H> {
     }
 
     /// The run.
-    pub fn report(&self) -> &Report<H>
+    pub fn report(&self) -> &Report
         ensures { result.now ≡ self.now.report }
     {
         &self.report

@@ -5,12 +5,11 @@ ghost use Rattle.run_output.specs.Parts.{streams};
 use crate::lines::Lines;
 use gpu_house::Report;
 use gpu_journal::{End, Line};
-use wait_hooks::Hook;
 
 /// A line for each stream: how it ended, and what it counted.
 #[derive(Drop)]
-pub(crate) struct StreamLines<'a, H: Hook> {
-    report: &'a Report<H>,
+pub(crate) struct StreamLines<'a> {
+    report: &'a Report,
     ends: &'a [End],
     count: u32,
     ghost counted: { count ≡ length report.now.plans.plans },
@@ -18,9 +17,9 @@ pub(crate) struct StreamLines<'a, H: Hook> {
     ghost ended: { ends.now ≡ map (end_of report.now.past) (streams_of report.now.plans) },
 }
 
-impl<'a, H: Hook> StreamLines<'a, H> {
+impl<'a> StreamLines<'a> {
     /// The lines of a run's streams, which ended so.
-    pub(crate) fn of(report: &'a Report<H>, ends: &'a [End]) -> StreamLines<'a, H>
+    pub(crate) fn of(report: &'a Report, ends: &'a [End]) -> StreamLines<'a>
         requires { ends.now ≡ map (end_of report.now.past) (streams_of report.now.plans) }
         ensures { result.report.now ≡ report.now }
     {
@@ -32,7 +31,7 @@ impl<'a, H: Hook> StreamLines<'a, H> {
     }
 }
 
-impl<'a, H: Hook> Lines for StreamLines<'a, H> {
+impl<'a> Lines for StreamLines<'a> {
     ghost lines = { λ s. streams s.report.now.plans s.report.now.past };
 
     fn count(&self) -> usize {

@@ -39,7 +39,7 @@ fn has_loss(events: &[Event]) -> bool
 
 // Runs a script, and takes all memory that writing its output takes.
 #[tactic(auto, using(run_output::proofs::Texts::serial_text, run_output::proofs::Texts::length_all_dumps))]
-fn make_run<H: Hook>(alloc: Global, plans: Plans, hook: H) -> Result<RunOutput<H>, Memory>
+fn make_run<H: Hook>(alloc: Global, plans: Plans, hook: H) -> Result<RunOutput, Memory>
     ensures serial { IfOk result (λ run. run.report.past ≡ serial plans) }
     ensures text { IfOk result (λ run. run_text run ≡ whole_output plans (H.base hook)) }
 {

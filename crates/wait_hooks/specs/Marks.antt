@@ -1,5 +1,5 @@
 -- The mark of an ending, and what the hooks keep.
-use Rattle.std.specs.Prelude.{ℕ, ◌+◌, ◌*◌, ◌%◌, ◌^◌, ◌<◌, List}
+use Rattle.std.specs.Prelude.{ℕ, ◌+◌, ◌*◌, ◌%◌, ◌^◌, List}
 use Rattle.sync_core.specs.declared.ending.Ending.{Ending}
 use Rattle.sync_core.specs.declared.ending.How.{How}
 use Rattle.sync_core.specs.declared.ending.How.TheVariants.{Release, Guard, Closed}

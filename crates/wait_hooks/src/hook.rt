@@ -12,6 +12,10 @@ pub trait Hook: Drop {
     // The base of the marks.
     ghost base: { Self → ℕ };
 
+    /// The base of the marks.
+    fn base(&self) -> u32
+        ensures { result ≡ base self.now };
+
     /// A wait has ended. Answers its mark over the base.
     fn ended(&self, ending: Ending) -> u32
         ensures { result ≡ mark (base self.now) ending };
@@ -42,6 +46,10 @@ impl Marker {
 
 impl Hook for Marker {
     ghost base = { λ m. m };
+
+    fn base(&self) -> u32 {
+        self.base
+    }
 
     fn ended(&self, ending: Ending) -> u32 {
         mark(self.base, ending)

@@ -78,4 +78,12 @@ impl<H: Hook> Hooks<H> {
     {
         self.marks.as_slice()
     }
+
+    /// The base of the marks, and the marks of the endings given, in order. The callback is dropped.
+    pub fn into_marks(self) -> (u32, Vec<u32>)
+        ensures base { result.0 ≡ self.base }
+        ensures marks { result.1.items ≡ self.marks }
+    {
+        (self.hook.base(), self.marks)
+    }
 }

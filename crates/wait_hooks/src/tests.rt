@@ -23,6 +23,10 @@ impl Model for Counting {
 impl Hook for Counting {
     ghost base = { λ c. c };
 
+    fn base(&self) -> u32 {
+        self.base
+    }
+
     fn ended(&self, ending: Ending) -> u32 {
         self.calls.fetch_add(1, Ordering::SeqCst);
         crate::mark(self.base, ending)
@@ -65,5 +69,8 @@ fn the_plain_callback_answers_the_mark(rt: HostRuntime) -> Result<(), Fail> {
     assert!(rt; hooks.reserve(1).is_ok());
     assert_eq!(rt; hooks.ended(ending(7, How::Guard)), 1029);
     assert_eq!(rt; hooks.marks(), [1029].as_slice());
+    let (base, marks) = hooks.into_marks();
+    assert_eq!(rt; base, 1000);
+    assert_eq!(rt; marks.as_slice(), [1029].as_slice());
     Ok(())
 }

@@ -73,7 +73,7 @@ fn lost_line(alloc: Global, place: u32, code: u32, fetched: &[u32]) -> Result<St
 
 // What a house leaves of a script of one flush.
 #[tactic(auto, using(crate::proofs::Beginning::fresh_results))]
-fn driven(alloc: Global, script: &str) -> Result<Report<Marker>, Fail> {
+fn driven(alloc: Global, script: &str) -> Result<Report, Fail> {
     let plans = plans_of(alloc, script)?;
     let book = make(alloc)?;
     let (words, side, note) = flushed(alloc, only_plan(&plans)?)?;

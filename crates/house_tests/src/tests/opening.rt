@@ -78,7 +78,7 @@ pub fn drive<N: Naming, P: ServiceSide>(
     side: P,
     results: P::Results,
     note: P::Note,
-) -> Result<Report<Marker>, Fail>
+) -> Result<Report, Fail>
     requires plans { plans ≡ N.plans }
     requires one { length plans.plans ≡ 1 }
     requires base { N.base ≡ 0 }

@@ -18,7 +18,7 @@ fn end_of(doing: Doing, events: &[Event]) -> Option<End> {
 }
 
 // The output of a run of one stream: its journal, the images with their texels, and how the stream ended.
-pub fn output_of(alloc: Global, report: &Report<Marker>) -> Result<Vec<u8>, Fail> {
+pub fn output_of(alloc: Global, report: &Report) -> Result<Vec<u8>, Fail> {
     if report.plans().count() == 0 {
         return Err("a stream".into());
     }

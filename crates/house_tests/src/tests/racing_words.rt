@@ -132,7 +132,7 @@ fn race<N: Naming>(
     words: &SharedWords,
     side: ServicePass,
     client: ClientPass,
-) -> Result<(Report<Marker>, Vec<Acted>), Fail>
+) -> Result<(Report, Vec<Acted>), Fail>
     requires plans { plans ≡ N.plans }
     requires one { length plans.plans ≡ 1 }
     requires base { N.base ≡ 0 }
@@ -148,7 +148,7 @@ fn race<N: Naming>(
 }
 
 // What a house leaves of a script of one stream, whose words are racing ones.
-fn raced(alloc: Global, script: &str) -> Result<(Report<Marker>, Vec<Acted>), Fail> {
+fn raced(alloc: Global, script: &str) -> Result<(Report, Vec<Acted>), Fail> {
     let plans = plans_of(alloc, script)?;
     let book = gpu_books::make(alloc)?;
     let (words, client, side) = shm_words::make(alloc, only_plan(&plans)?)?;

@@ -66,7 +66,7 @@ stream 1 done entries 11 release 0 token 0 words 11 errors 0 0 0
 
 // What a house leaves whose client goes on while its flush is fetched.
 #[tactic(auto, using(crate::proofs::Beginning::fresh_results, crate::proofs::Flushing::has_flush, crate::proofs::Flushing::first_mark))]
-fn stirred(alloc: Global, script: &str, turns: &[u32]) -> Result<Report<Marker>, Fail> {
+fn stirred(alloc: Global, script: &str, turns: &[u32]) -> Result<Report, Fail> {
     let plans = plans_of(alloc, script)?;
     let book = make(alloc)?;
     let plan = only_plan(&plans)?;

@@ -7,16 +7,16 @@ use Rattle.run_output.proofs.Parts.{length-streams, stream_at, end_at}
 use Rattle.run_output.proofs.stream_lines.StreamLinesLines.make.Goals as goal
 
 pub overflow_cast-stream : goal.overflow_cast-stream
-overflow_cast-stream g c = omega (arith, length-streams c.args.self.now.report.now.plans c.args.self.now.report.now.past, c.args.self.now.counted, c.args.self.now.few, c.requires.within)
+overflow_cast-stream c = omega (arith, length-streams c.args.self.now.report.now.plans c.args.self.now.report.now.past, c.args.self.now.counted, c.args.self.now.few, c.requires.within)
 
 pub overflow_add-stream : goal.overflow_add-stream
-overflow_add-stream g c = omega (arith, length-streams c.args.self.now.report.now.plans c.args.self.now.report.now.past, c.args.self.now.counted, c.args.self.now.few, c.requires.within)
+overflow_add-stream c = omega (arith, length-streams c.args.self.now.report.now.plans c.args.self.now.report.now.past, c.args.self.now.counted, c.args.self.now.few, c.requires.within)
 
 pub stream-requires : goal.stream-requires
-stream-requires g c = (omega arith, omega (arith, length-streams c.args.self.now.report.now.plans c.args.self.now.report.now.past, c.requires.within))
+stream-requires c = (omega arith, omega (arith, length-streams c.args.self.now.report.now.plans c.args.self.now.report.now.past, c.requires.within))
 
 pub returns : goal.returns
-returns g c =
+returns c =
     let p = c.args.self.now.report.now.plans in
     let h = c.args.self.now.report.now.past in
     let lt : c.args.index < length p.plans = omega (arith, length-streams p h, c.requires.within) in
