@@ -90,11 +90,7 @@ fn put_streams<K: Sink>(
 
 // Puts the line of each wait that has ended, with its mark.
 #[tactic(auto, using(crate::proofs::Texts::marks_text))]
-fn put_marks<K: Sink>(
-    page: &mut Page,
-    sink: &mut K,
-    report: &Report,
-) -> Result<(), Failed>
+fn put_marks<K: Sink>(page: &mut Page, sink: &mut K, report: &Report) -> Result<(), Failed>
     ensures all { OnOk result (IsPut (K.written sink.old) page.old (K.written sink.new) page.new (mark_lines report.now.plans (mark report.now.base) report.now.past)) }
     ensures front { OnErr result (IsCut (K.written sink.old) page.old (K.written sink.new) (mark_lines report.now.plans (mark report.now.base) report.now.past)) }
     ensures fault { OnErr result (HasRisen (K.faults sink.old) (K.faults sink.new)) }
@@ -123,11 +119,7 @@ fn put_dumps<K: Sink>(page: &mut Page, sink: &mut K, dumps: &[Dumps]) -> Result<
 }
 
 // Puts the head and the names of a run's script.
-fn put_heads<K: Sink>(
-    page: &mut Page,
-    sink: &mut K,
-    report: &Report,
-) -> Result<(), Failed>
+fn put_heads<K: Sink>(page: &mut Page, sink: &mut K, report: &Report) -> Result<(), Failed>
     ensures all { OnOk result (IsPut (K.written sink.old) page.old (K.written sink.new) page.new (head_lines report.now.plans)) }
     ensures front { OnErr result (IsCut (K.written sink.old) page.old (K.written sink.new) (head_lines report.now.plans)) }
     ensures fault { OnErr result (HasRisen (K.faults sink.old) (K.faults sink.new)) }
@@ -138,11 +130,7 @@ fn put_heads<K: Sink>(
 }
 
 // Puts the line of each event of a run.
-fn put_journal<K: Sink>(
-    page: &mut Page,
-    sink: &mut K,
-    report: &Report,
-) -> Result<(), Failed>
+fn put_journal<K: Sink>(page: &mut Page, sink: &mut K, report: &Report) -> Result<(), Failed>
     requires { All HasRoom (reverse report.now.past) }
     ensures all { OnOk result (IsPut (K.written sink.old) page.old (K.written sink.new) page.new (journal_text (reverse report.now.past))) }
     ensures front { OnErr result (IsCut (K.written sink.old) page.old (K.written sink.new) (journal_text (reverse report.now.past))) }
@@ -154,11 +142,7 @@ fn put_journal<K: Sink>(
 }
 
 // Puts the lines of each image that a run leaves.
-fn put_picture<K: Sink>(
-    page: &mut Page,
-    sink: &mut K,
-    report: &Report,
-) -> Result<(), Failed>
+fn put_picture<K: Sink>(page: &mut Page, sink: &mut K, report: &Report) -> Result<(), Failed>
     ensures all { OnOk result (IsPut (K.written sink.old) page.old (K.written sink.new) page.new (picture_text (replay report.now.plans report.now.past))) }
     ensures front { OnErr result (IsCut (K.written sink.old) page.old (K.written sink.new) (picture_text (replay report.now.plans report.now.past))) }
     ensures fault { OnErr result (HasRisen (K.faults sink.old) (K.faults sink.new)) }
