@@ -12,13 +12,10 @@ import sys
 from pathlib import Path
 
 sys.path.insert(0, str(Path(__file__).resolve().parent))
+import limits  # noqa: E402
 import model  # noqa: E402
 
-HEAD = "gpu-script 1\n"
-
-
-def lines(*items):
-    return "".join(item + "\n" for item in items)
+HEAD, lines = limits.HEAD, limits.lines
 
 
 def largest_images():
@@ -69,7 +66,7 @@ def verify_generated_200_1():
 
 
 MAKERS = {maker.__name__: maker for maker in (largest_images, quota, longest_script, script_too_long, generated_200_1,
-                                              verify_generated_200_1)}
+                                              verify_generated_200_1)} | limits.MAKERS
 
 
 def has_sum(data, text):
