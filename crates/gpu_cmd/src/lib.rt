@@ -11,6 +11,7 @@ mod facts;
 mod ids;
 mod laws;
 mod name;
+mod priority;
 mod range;
 mod shape;
 mod table;
@@ -22,6 +23,7 @@ pub use error::CmdError;
 pub use facts::StreamFacts;
 pub use laws::{accepted_commands, command_places, copied_words, fetched_words};
 pub use name::Name;
+pub use priority::Priority;
 pub use shape::{Shape, head};
 pub use table::command_of;
 

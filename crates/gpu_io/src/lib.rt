@@ -9,6 +9,7 @@ mod front;
 mod gate;
 mod memory_sink;
 mod memory_source;
+mod reading;
 mod real_sink;
 mod real_source;
 mod sink;
@@ -21,6 +22,7 @@ pub use failed::Failed;
 pub use gate::{Gate, OpenGate, Place};
 pub use memory_sink::MemorySink;
 pub use memory_source::MemorySource;
+pub use reading::{ReadError, read_all, read_within};
 pub use real_sink::RealSink;
 pub use real_source::RealSource;
 pub use sink::Sink;
@@ -28,5 +30,7 @@ pub use source::Source;
 pub use steady_sink::SteadySink;
 pub use steady_source::SteadySource;
 
+#[cfg(test)]
+mod reading_tests;
 #[cfg(test)]
 mod tests;

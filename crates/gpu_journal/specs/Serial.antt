@@ -5,8 +5,8 @@ use Rattle.gpu_cmd.specs.declared.error.CmdError.{CmdError}
 use Rattle.gpu_cmd.specs.Copied.{fetched}
 use Rattle.gpu_plan.specs.declared.plan.Action.{Action}
 use Rattle.gpu_plan.specs.declared.plan.Action.TheVariants as actions
-use Rattle.script_lines.specs.declared.priority.Priority.{Priority}
-use Rattle.script_lines.specs.declared.priority.Priority.TheVariants.{High, Normal, Low}
+use Rattle.gpu_cmd.specs.declared.priority.Priority.{Priority}
+use Rattle.gpu_cmd.specs.declared.priority.Priority.TheVariants.{High, Normal, Low}
 use Rattle.gpu_plan.specs.Plans.{PlansData, PlanData, plan_of}
 use Rattle.gpu_plan.specs.Values.{value_at}
 use Rattle.gpu_plan.specs.Passes.{flushes}

@@ -5,7 +5,7 @@ use Rattle.std.proofs.lemmas.Bool.{lt-ltb}
 use Rattle.std.proofs.lemmas.Option.{slice_get_within, slice_get-map}
 use Rattle.std.proofs.lemmas.Bool.Decides.{nat_tests}
 use Rattle.gpu_cmd.specs.declared.name.Name.{Name}
-use Rattle.stream_names.specs.Names.{is_name}
+use Rattle.script_lines.specs.Names.{is_name}
 use Rattle.gpu_plan.specs.Plans.{PlanData, is_of, number_of}
 use Rattle.gpu_plan.specs.Named.{names_in, AreNumbered, AreLawfulNames}
 

@@ -1,6 +1,7 @@
 pub mod Counts
 pub mod Dumps
 pub mod Lawful
+pub mod LawfulNames
 pub mod Telling
 pub mod Tiled
 pub mod Whole

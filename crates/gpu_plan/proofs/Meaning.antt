@@ -4,8 +4,8 @@ use Rattle.std.specs.Prelude.{slice_index}
 use Rattle.std.proofs.lemmas.List.{length-map}
 use Rattle.std.proofs.lemmas.Bool.Decides.{nat_tests}
 use Rattle.gpu_cmd.specs.declared.name.Name.{Name}
-use Rattle.stream_names.specs.Names.{number_in}
-use Rattle.stream_names.proofs.Numbers.{Keeps, keeps_all, keeps_both, said_at}
+use Rattle.script_lines.specs.Names.{number_in}
+use Rattle.script_lines.proofs.Numbers.{Keeps, keeps_all, keeps_both, said_at}
 use Rattle.script_lines.specs.declared.fault.Kind.{Kind}
 use Rattle.script_lines.specs.declared.fault.Kind.TheVariants.{Word, Limit}
 use Rattle.script_lines.specs.declared.fault.ScriptFault.{ScriptFault}

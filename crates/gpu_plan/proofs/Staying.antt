@@ -1,7 +1,7 @@
 -- A line says the same where more names are mentioned behind it.
 use Rattle.std.proofs.Common.{◌≡◌, ℕ, Bool, true, false, cond, List, [], ◌∷◌, map, Option, Some, None, Ok, refl, sym, ap, subst, ◌∙◌}
 use Rattle.gpu_cmd.specs.declared.name.Name.{Name}
-use Rattle.stream_names.proofs.Numbers.{Keeps, keeps_all, keeps_both}
+use Rattle.script_lines.proofs.Numbers.{Keeps, keeps_all, keeps_both}
 use Rattle.script_words.specs.Text.{words_of}
 use Rattle.script_lines.specs.declared.fault.Kind.TheVariants.{Word}
 use Rattle.script_lines.specs.declared.keyword.Keyword.{Keyword}

@@ -1,12 +1,18 @@
--- Laws of what clients do.
-use Rattle.std.specs.Prelude.{◌≡◌, ℕ, ◌+◌, ◌<◌, ◌≤◌, ◌^◌, true, false, List, [], ◌∷◌, length, take, Some, nat_le, slice_get}
+-- Laws of scripts and of what clients do.
+use Rattle.std.specs.Prelude.{◌≡◌, ℕ, ◌+◌, ◌<◌, ◌≤◌, ◌^◌, true, false, List, [], ◌∷◌, length, take, Some, nat_le, slice_get, IfOk}
 use Rattle.std.specs.List.{All, list_any}
 use Rattle.gpu_plan.specs.declared.plan.Action.{Action}
 use Rattle.gpu_plan.specs.declared.plan.Action.TheVariants.{Flush}
 use Rattle.gpu_plan.specs.Plans.{IsWithin}
+use Rattle.gpu_plan.specs.Named.{names_in, AreLawfulNames}
+use Rattle.gpu_plan.specs.Script.{script_of}
 use Rattle.gpu_plan.specs.Values.{after, value_at}
 use Rattle.gpu_plan.specs.Passes.{flush_count, flushes, passes, bound, greatest}
 use Rattle.gpu_plan.specs.MayHold.{MayHold}
+
+-- no two streams of a script have the same name, and in version 1 stream S has the name (0, S)
+abbrev pub NamesAreLawful : Type 0
+NamesAreLawful = (text : List ℕ) → IfOk (script_of text) (λ script. AreLawfulNames script.version (names_in script.plans))
 
 -- one action further, a place has what that action makes of its value
 abbrev pub ValueOneFurther : Type 0

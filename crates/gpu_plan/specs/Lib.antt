@@ -1,7 +1,8 @@
+pub use Rattle.gpu_cmd.specs.Lawful
+pub use Rattle.gpu_cmd.specs.Spans
 pub use Rattle.script_words.specs.Text
 pub use Rattle.script_words.specs.Numbers
-pub use Rattle.stream_names.specs.Names
-pub use Rattle.script_generator.specs.Generator
+pub use Rattle.script_lines.specs.Names
 pub use Rattle.script_lines.specs.Outcome
 pub use Rattle.script_lines.specs.Said
 pub use Rattle.script_lines.specs.Naming

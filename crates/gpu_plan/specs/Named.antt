@@ -2,7 +2,7 @@
 use Rattle.std.specs.Prelude.{◌≡◌, ℕ, ◌+◌, List, Some, map, slice_get}
 use Rattle.std.specs.List.{IsDistinct}
 use Rattle.gpu_cmd.specs.declared.name.Name.{Name}
-use Rattle.stream_names.specs.Names.{is_name}
+use Rattle.script_lines.specs.Names.{is_name}
 use Rattle.gpu_plan.specs.Plans.{PlanData}
 
 -- the names of the streams, in their order

@@ -7,11 +7,11 @@ use Rattle.gpu_cmd.specs.declared.areas.Span.{Span}
 use Rattle.gpu_cmd.specs.Lawful.{IsLawfulAreas, places_of}
 use Rattle.gpu_cmd.specs.Spans.{words_in}
 use Rattle.gpu_cmd.specs.declared.name.Name.{Name}
-use Rattle.stream_names.specs.Names.{is_name}
+use Rattle.script_lines.specs.Names.{is_name}
 use Rattle.gpu_plan.specs.declared.plan.Action.{Action}
 use Rattle.gpu_plan.specs.declared.plan.Action.TheVariants.{Put, Flush, Finish, Token, Close}
-use Rattle.script_lines.specs.declared.priority.Priority.{Priority}
-use Rattle.script_lines.specs.declared.priority.Priority.TheVariants.{Normal}
+use Rattle.gpu_cmd.specs.declared.priority.Priority.{Priority}
+use Rattle.gpu_cmd.specs.declared.priority.Priority.TheVariants.{Normal}
 
 -- what one stream is called, has and does; a dump is the place of an action, and the result place that is read behind it
 pub record PlanData : Type 0 where

@@ -16,12 +16,11 @@ use crate::plan::{Action, Fences, Plan};
 use crate::spans::spans_with;
 use gpu_cmd::{Name, span_at};
 use script_lines::{
-    Keyword, Kind, LineError, fill_said, flush_said, keyword_of, none_said, one_said, put_said,
-    stream_said, two_said,
+    Keyword, Kind, LineError, Names, fill_said, flush_said, keyword_of, none_said, one_said,
+    put_said, stream_said, two_said,
 };
 use script_words::Words;
 use std::alloc::{AllocError, Global};
-use stream_names::Names;
 
 /// The fewest and the most entries of a ring.
 const LEAST_RING: u32 = 16;

@@ -9,8 +9,8 @@ ghost use Rattle.gpu_plan.specs.Adding.{fresh_plan, puts};
 ghost use Rattle.gpu_plan.specs.declared.plan.Action.TheVariants.{Finish};
 
 use crate::plan::{Action, Plan};
-use gpu_cmd::{Areas, Name, Span};
-use script_lines::{Priority, value_of};
+use gpu_cmd::{Areas, Name, Priority, Span};
+use script_lines::value_of;
 use script_words::Words;
 use std::alloc::{AllocError, Global};
 

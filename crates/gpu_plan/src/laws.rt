@@ -1,4 +1,4 @@
-ghost use Rattle.gpu_plan.specs.Laws.{ValueOneFurther, FlushesOneFurther, FlushesWithin, BoundOneFurther, PassesOn, PassesOnByGreatest, BoundGrows, BoundGrowsByToken, BoundGrowsByGreatest, BoundByGreatest, PassesBelowBound, StopsAtBound, BoundWithin, BoundIsFirst, MayHoldBetween, MayHoldBehindFlush, MayHoldFits};
+ghost use Rattle.gpu_plan.specs.Laws.{ValueOneFurther, FlushesOneFurther, FlushesWithin, BoundOneFurther, PassesOn, PassesOnByGreatest, BoundGrows, BoundGrowsByToken, BoundGrowsByGreatest, BoundByGreatest, PassesBelowBound, StopsAtBound, BoundWithin, BoundIsFirst, NamesAreLawful, MayHoldBetween, MayHoldBehindFlush, MayHoldFits};
 
 /// The laws of one action further: what it changes of a place's value, of the flushes done and of how far a client is.
 pub fn one_further()
@@ -24,6 +24,11 @@ pub fn bound_is_first()
     ensures at { StopsAtBound }
     ensures within { BoundWithin }
     ensures only { BoundIsFirst }
+{}
+
+/// The law that no two streams of a script have the same name, and that in version 1 stream S has the name (0, S).
+pub fn names_are_lawful()
+    ensures names { NamesAreLawful }
 {}
 
 /// The laws of what a client may have put: ends that are further apart shut out no value, a flush puts none, and each

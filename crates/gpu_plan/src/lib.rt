@@ -14,12 +14,11 @@ mod renumbering;
 mod script;
 mod spans;
 
-pub use laws::{bound_is_first, bound_never_falls, held_values, one_further};
+pub use laws::{bound_is_first, bound_never_falls, held_values, names_are_lawful, one_further};
 pub use places::flush_places;
 pub use plan::{Action, Fences, Plan, Plans};
 pub use script::parse;
-pub use script_generator::generate;
-pub use script_lines::{Kind, Priority, ScriptFault};
+pub use script_lines::{Kind, ScriptFault};
 
 #[cfg(test)]
 mod limit_tests;

@@ -5,8 +5,7 @@ ghost use Rattle.std.specs.Option.{option_map};
 ghost use Rattle.gpu_plan.specs.Plans.{IsLawfulPlan, IsLawfulScript, IsDump, RiseFrom, is_of, number_of};
 ghost use Rattle.gpu_plan.specs.Named.{names_in, AreLawfulNames};
 
-use gpu_cmd::{Areas, Name};
-use script_lines::Priority;
+use gpu_cmd::{Areas, Name, Priority};
 use std::marker::Model;
 
 /// What a flush waits for, seen as a list of pairs: a stream's number and a release.

@@ -8,8 +8,8 @@ ghost use Rattle.gpu_plan.specs.Renumbered.{numbers_of, renumbered_fence, renumb
 use crate::adding::streams;
 use crate::draft::Draft;
 use crate::plan::{Action, Fences, Plan, Plans, number_of};
+use script_lines::Names;
 use std::alloc::{AllocError, Global};
-use stream_names::Names;
 
 // The numbers of the streams that have these names, behind 0 for no name.
 fn numbers_of(alloc: Global, plans: &[Plan], mentioned: &Names) -> Result<Vec<u32>, AllocError>

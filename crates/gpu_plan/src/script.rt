@@ -11,10 +11,9 @@ use crate::adding::with_line;
 use crate::draft::Draft;
 use crate::plan::Plans;
 use crate::renumbering::whole;
-use script_lines::{Kind, LineError, ScriptFault};
+use script_lines::{Kind, LineError, Names, ScriptFault};
 use script_words::{Lines, Words, all_lines};
 use std::alloc::Global;
-use stream_names::Names;
 
 fn is_remark(word: &[u8]) -> bool
     ensures { result ≡ is_remark word.now }

@@ -1,4 +1,5 @@
-use crate::{Action, Kind, Priority, ScriptFault, parse};
+use crate::{Action, Kind, ScriptFault, parse};
+use gpu_cmd::Priority;
 use std::test::Fail;
 
 #[test]

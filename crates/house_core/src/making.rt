@@ -8,9 +8,9 @@ ghost use Rattle.house_core.specs.Making.{desks_of};
 
 use crate::desk::Desk;
 use gpu_books::{Book, Half};
+use gpu_cmd::Priority;
 use gpu_plan::{Plans, flush_places};
 use gpu_word::Memory;
-use script_lines::Priority;
 use std::alloc::Global;
 
 // High before Normal before Low.

@@ -13,7 +13,6 @@ mod verdict;
 mod verifying;
 mod watch;
 
-pub use journal_reader::{JournalFault, read_journal};
 pub use laws::verdicts_exclude_one_another;
 pub use verdict::Verdict;
 pub use verifying::verify;

@@ -1,5 +1,6 @@
 pub mod Mentions
 pub mod Moved
+pub mod Numbers
 pub mod Pairs
 pub mod Steps
 pub mod Triples

@@ -1,8 +1,8 @@
 -- Names mentioned one after the other.
 use Rattle.std.proofs.Common.{◌≡◌, ℕ, Bool, true, false, cond, ◌==◌, ◌≤◌, List, [], ◌∷◌, Result, Ok, Err, refl, sym, subst, ◌∙◌}
 use Rattle.gpu_cmd.specs.declared.name.Name.{Name}
-use Rattle.stream_names.specs.Names.{with_name, number_in}
-use Rattle.stream_names.proofs.Numbers.{Keeps, keeps_all, keeps_both, keeps_more, mentioned}
+use Rattle.script_lines.specs.Names.{with_name, number_in}
+use Rattle.script_lines.proofs.Numbers.{Keeps, keeps_all, keeps_both, keeps_more, mentioned}
 use Rattle.script_words.specs.Numbers.{decimal_of, long_decimal_of}
 use Rattle.script_lines.specs.declared.fault.Kind.{Kind}
 use Rattle.script_lines.specs.declared.fault.Kind.TheVariants.{Number}

@@ -2,8 +2,8 @@
 use Rattle.std.proofs.Common.{◌≡◌, ℕ, ◌≤◌, Bool, true, false, cond, ◌==◌, List, [], ◌∷◌, map, Result, Ok, Err, refl, sym, ap, ◌∙◌, arith}
 use Rattle.std.proofs.lemmas.List.{map-id}
 use Rattle.gpu_cmd.specs.declared.name.Name.{Name}
-use Rattle.stream_names.specs.Names.{number_in}
-use Rattle.stream_names.proofs.Numbers.{Keeps, keeps_all, mentioned}
+use Rattle.script_lines.specs.Names.{number_in}
+use Rattle.script_lines.proofs.Numbers.{Keeps, keeps_all, mentioned}
 use Rattle.script_words.specs.Numbers.{decimal_of}
 use Rattle.script_lines.specs.declared.fault.Kind.{Kind}
 use Rattle.script_lines.specs.declared.fault.Kind.TheVariants.{Word, Number}

@@ -1,6 +1,6 @@
 pub use Rattle.script_words.specs.Text
 pub use Rattle.script_words.specs.Numbers
-pub use Rattle.stream_names.specs.Names
+pub mod Names
 pub mod Outcome
 pub mod Said
 pub mod Naming

@@ -1,7 +1,7 @@
 -- The names that the fences of flush lines mention.
 use Rattle.std.specs.Prelude.{ℕ, ◌==◌, List, [], ◌∷◌, if◌then◌else◌, Result, Ok, Err}
 use Rattle.gpu_cmd.specs.declared.name.Name.{Name}
-use Rattle.stream_names.specs.Names.{with_name}
+use Rattle.script_lines.specs.Names.{with_name}
 use Rattle.script_words.specs.Numbers.{decimal_of, long_decimal_of}
 use Rattle.script_lines.specs.declared.fault.Kind.{Kind}
 use Rattle.script_lines.specs.declared.fault.Kind.TheVariants.{Number}

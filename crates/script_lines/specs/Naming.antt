@@ -1,9 +1,9 @@
 -- The names that the stream lines of a script say, whether or not the script is lawful.
 use Rattle.std.specs.Prelude.{ℕ, ◌==◌, List, [], ◌∷◌, if◌then◌else◌, Result, Ok, Err, codes, bytes_eq}
 use Rattle.gpu_cmd.specs.declared.name.Name.{Name}
-use Rattle.stream_names.specs.Names.{with_name}
+use Rattle.script_lines.specs.Names.{with_name}
 use Rattle.script_lines.specs.declared.fault.Kind.{Kind}
-use Rattle.script_lines.specs.declared.priority.Priority.{Priority}
+use Rattle.gpu_cmd.specs.declared.priority.Priority.{Priority}
 use Rattle.script_lines.specs.Said.{named_said}
 
 -- the names with the one that a stream line says, where it says one

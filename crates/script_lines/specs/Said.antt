@@ -4,12 +4,12 @@ use Rattle.std.specs.List.{list_all}
 use Rattle.script_words.specs.Numbers.{decimal_of, long_decimal_of, is_value, value_of}
 use Rattle.script_lines.specs.declared.fault.Kind.{Kind}
 use Rattle.script_lines.specs.declared.fault.Kind.TheVariants.{Word, Number}
-use Rattle.script_lines.specs.declared.priority.Priority.{Priority}
-use Rattle.script_lines.specs.declared.priority.Priority.TheVariants.{High, Normal, Low}
+use Rattle.gpu_cmd.specs.declared.priority.Priority.{Priority}
+use Rattle.gpu_cmd.specs.declared.priority.Priority.TheVariants.{High, Normal, Low}
 use Rattle.script_lines.specs.declared.keyword.Keyword.{Keyword}
 use Rattle.script_lines.specs.declared.keyword.Keyword.TheVariants.{StreamLine, MemoryLine, ResultsLine, PutLine, FillLine, FlushLine, FinishLine, TokenLine, CloseLine, DumpLine}
 use Rattle.gpu_cmd.specs.declared.name.Name.{Name}
-use Rattle.stream_names.specs.Names.{number_in}
+use Rattle.script_lines.specs.Names.{number_in}
 use Rattle.script_lines.specs.Outcome.{◌>>=◌, or_kind, unless}
 
 -- what a line's first word names

@@ -6,10 +6,10 @@ ghost use Rattle.script_lines.specs.Mentioned.{fence_said, mentioned_by, mention
 
 use crate::fault::{Kind, LineError};
 use crate::line::{decimal_at, long_decimal_at};
+use crate::names::Names;
 use gpu_cmd::Name;
 use script_words::Words;
 use std::alloc::Global;
-use stream_names::Names;
 
 // How many pairs words make up, where they do.
 #[tactic(auto, using(script_words::proofs::Few::few_words))]

@@ -5,7 +5,7 @@ mod fault;
 mod fences;
 mod keyword;
 mod line;
-mod priority;
+mod names;
 
 pub use fault::{Kind, LineError, ScriptFault};
 pub use fences::flush_said;
@@ -13,4 +13,7 @@ pub use keyword::{Keyword, keyword_of};
 pub use line::{
     Putting, fill_said, none_said, one_said, put_said, stream_said, two_said, value_of,
 };
-pub use priority::Priority;
+pub use names::Names;
+
+#[cfg(test)]
+mod tests;

@@ -7,8 +7,7 @@ ghost use Rattle.script_lines.specs.Said.{priority_of, none_said, one_said, two_
 ghost use Rattle.script_lines.specs.declared.fault.Kind.TheVariants.{Number};
 
 use crate::fault::{Kind, LineError};
-use crate::priority::Priority;
-use gpu_cmd::Name;
+use gpu_cmd::{Name, Priority};
 use script_words::{Words, decimal_u32, decimal_u64, hex_u32};
 
 fn priority_of(word: &[u8]) -> Option<Priority>

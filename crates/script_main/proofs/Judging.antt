@@ -2,7 +2,7 @@
 use Rattle.std.proofs.Common.{◌≡◌, ◌≤◌, ℕ, List, length, refl}
 use Rattle.script_main.specs.declared.status.Status.{Status}
 use Rattle.script_main.specs.declared.status.Status.TheVariants as status
-use Rattle.whole_input.specs.Whole.{most_bytes}
+use Rattle.gpu_io.specs.Whole.{most_bytes}
 use Rattle.script_main.specs.Runs.{IsTextEnd, IsVerifyAnswer}
 use Rattle.script_main.specs.Verified.{IsYesText, AnswersInput, AnswersVerify}
 

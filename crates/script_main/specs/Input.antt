@@ -7,7 +7,7 @@ use Rattle.script_main.specs.declared.input.Stop.{Stop}
 use Rattle.script_main.specs.declared.input.Stop.TheVariants as stop
 use Rattle.script_main.specs.declared.status.Status.{Status}
 use Rattle.script_main.specs.declared.status.Status.TheVariants as status
-use Rattle.whole_input.specs.Whole.{most_bytes, ReadsAll}
+use Rattle.gpu_io.specs.Whole.{most_bytes, ReadsAll}
 
 -- the source was read to its end, and its bytes are the script of these plans
 abbrev pub ReadsScript : Option (List ℕ) → Option (List ℕ) → PlansData → Type 0

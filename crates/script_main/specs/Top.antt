@@ -6,9 +6,9 @@ use Rattle.script_generator.specs.Generator.{generated}
 use Rattle.gpu_plan.specs.Plans.{PlansData}
 use Rattle.gpu_plan.specs.Script.{script_of}
 use Rattle.gpu_journal.specs.Serial.{serial}
-use Rattle.trial_line.specs.Trials.{trial_text}
+use Rattle.generated_scripts.specs.Trials.{trial_text}
 use Rattle.verify_input.specs.Found.{script_in}
-use Rattle.whole_input.specs.Whole.{most_bytes, ReadsAll}
+use Rattle.gpu_io.specs.Whole.{most_bytes, ReadsAll}
 use Rattle.run_output.specs.Pieces.{AppendsFront}
 use Rattle.script_main.specs.declared.command.Command.{Command}
 use Rattle.script_main.specs.declared.command.Command.TheVariants.{Run, Check, Verify}

@@ -5,7 +5,7 @@ use Rattle.gpu_store.specs.Images.{Pictures}
 use Rattle.gpu_journal.specs.Picture.{picture_text}
 use Rattle.verify_input.specs.declared.finding.Finding.{Finding}
 use Rattle.verify_input.specs.Found.{Finds, IsNoScript, HasNoJournal, BreaksRule, IsCutShort, IsRight}
-use Rattle.whole_input.specs.Whole.{most_bytes, ReadsAll}
+use Rattle.gpu_io.specs.Whole.{most_bytes, ReadsAll}
 use Rattle.run_output.specs.Pieces.{AppendsFront}
 use Rattle.script_main.specs.declared.command.Command.{Command}
 use Rattle.script_main.specs.declared.command.Command.TheVariants.{Verify}

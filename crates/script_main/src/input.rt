@@ -2,13 +2,12 @@ ghost use Rattle.std.specs.Prelude.{◌≡◌, ◌≤◌, ◌<◌, ℕ, List, So
 ghost use Rattle.script_lines.specs.declared.fault.Kind.{Kind};
 ghost use Rattle.gpu_io.specs.Faults.{HasRisen};
 ghost use Rattle.gpu_plan.specs.Script.{script_of};
-ghost use Rattle.whole_input.specs.Whole.{most_bytes, ReadsAtMost, ReadsMoreThan};
+ghost use Rattle.gpu_io.specs.Whole.{most_bytes, ReadsAtMost, ReadsMoreThan};
 ghost use Rattle.script_main.specs.Input.{ReadsScript, ReadsRefused, Stops};
 
-use gpu_io::Source;
+use gpu_io::{ReadError, Source, read_all};
 use gpu_plan::{Kind, Plans, ScriptFault, parse};
 use std::alloc::Global;
-use whole_input::{ReadError, read_all};
 
 /// Why no script was read.
 #[derive(Clone, Copy, Debug, PartialEq, Eq)]

@@ -7,8 +7,8 @@ ghost use Rattle.script_main.specs.Runs.{IsTextEnd};
 
 use crate::status::Status;
 use gpu_io::Sink;
-use gpu_plan::generate;
 use run_output::write_all;
+use script_generator::generate;
 use std::alloc::Global;
 
 /// Writes a text that was made whole.

@@ -4,7 +4,7 @@ ghost use Rattle.gpu_io.specs.Faults.{HasRisen};
 ghost use Rattle.script_lines.specs.declared.fault.Kind.{Kind};
 ghost use Rattle.script_generator.specs.Generator.{generated};
 ghost use Rattle.verify_input.specs.declared.finding.Finding.{Finding};
-ghost use Rattle.whole_input.specs.Whole.{most_bytes, ReadsAtMost, ReadsMoreThan};
+ghost use Rattle.gpu_io.specs.Whole.{most_bytes, ReadsAtMost, ReadsMoreThan};
 ghost use Rattle.run_output.specs.Pieces.{AppendsFront};
 ghost use Rattle.script_main.specs.declared.command.Command.TheVariants.{Run, Check, Generate, Trial, Verify};
 ghost use Rattle.script_main.specs.Commands.{command_of};

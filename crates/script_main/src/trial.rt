@@ -5,11 +5,11 @@ ghost use Rattle.script_main.specs.Top.{IsTrial, HasTried, HasBegunTrial};
 
 use crate::status::Status;
 use crate::texts::write_text;
+use generated_scripts::{generated_plans, trial_text};
 use gpu_io::Sink;
 use gpu_run::run_one;
 use gpu_word::Memory;
 use std::alloc::Global;
-use trial_line::{generated_plans, trial_text};
 use wait_hooks::Hook;
 
 // Runs the generated script of a size and a seed, and makes the line that tells of it.

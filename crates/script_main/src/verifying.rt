@@ -4,7 +4,7 @@ ghost use Rattle.gpu_io.specs.Faults.{HasRisen};
 ghost use Rattle.script_lines.specs.declared.fault.Kind.{Kind};
 ghost use Rattle.gpu_journal.specs.Picture.{picture_text};
 ghost use Rattle.verify_input.specs.Found.{script_in, HasNoJournal, BreaksRule, IsCutShort};
-ghost use Rattle.whole_input.specs.Whole.{most_bytes, ReadsAll, ReadsAtMost, ReadsMoreThan};
+ghost use Rattle.gpu_io.specs.Whole.{most_bytes, ReadsAll, ReadsAtMost, ReadsMoreThan};
 ghost use Rattle.run_output.specs.Pieces.{AppendsFront};
 ghost use Rattle.script_main.specs.Runs.{IsTextEnd, IsVerifyAnswer};
 ghost use Rattle.script_main.specs.Top.{ReadsBad};
@@ -12,14 +12,13 @@ ghost use Rattle.script_main.specs.declared.command.Command.TheVariants.{Verify}
 ghost use Rattle.script_main.specs.Verified.{yes_line, HasToldYes, HasBegunYes, HasVerified, HasBegunVerified, AnswersInput, AnswersVerify};
 
 use crate::status::Status;
-use gpu_io::{Sink, Source};
+use gpu_io::{ReadError, Sink, Source, read_all};
 use gpu_store::Images;
 use gpu_word::Memory;
 use itoa::Buffer;
 use run_output::{Page, write_pictures};
 use std::alloc::Global;
 use verify_input::{Finding, examine};
-use whole_input::{ReadError, read_all};
 
 // The line of a right journal of so many events.
 fn yes_line(alloc: Global, events: u32) -> Result<Vec<u8>, Memory>

@@ -1,6 +1,5 @@
 -- What a worked case says: all that a run on one thread writes.
 use Rattle.std.specs.Prelude.{ℕ, ◌+◌, ◌*◌, ◌++◌, List, Result, Ok, Err}
-use Rattle.script_lines.specs.declared.fault.Kind.{Kind}
 use Rattle.sync_core.specs.declared.ending.Ending.{Ending}
 use Rattle.sync_core.specs.declared.ending.How.{How}
 use Rattle.sync_core.specs.declared.ending.How.TheVariants.{Release, Guard, Closed}
@@ -19,6 +18,6 @@ abbrev mark : Ending → ℕ
 mark ending = 1000 + 4 * ending.order + kind ending.how
 
 -- the output of the serial history and its dump lines, or what is wrong with the script
-abbrev pub told : Result PlansData (ℕ × Kind) → Result (List ℕ) (ℕ × Kind)
+abbrev pub told : {F : Type 0} → Result PlansData F → Result (List ℕ) F
 told (Ok plans) = Ok (output plans mark (serial plans) ++ dump_lines plans (serial plans))
 told (Err wrong) = Err wrong

@@ -1,0 +1,13 @@
+pub mod Words
+pub mod Values
+pub mod Taken
+mod Lines
+mod RoundTexts
+mod Works
+mod Rounds
+mod Streams
+pub mod Script
+pub mod Lengths
+pub mod Sums
+pub mod Texts
+pub mod Losses
