@@ -1,0 +1,54 @@
+"""Sees that crates.txt lists for each crate no library that the crate's files never name.
+
+A file of src/, specs/ or proofs/ names a library by a path: `Rattle.NAME.` in a definition or a proof, and in code
+`NAME::` or `use NAME`. What a remark says is no name.
+"""
+
+import os
+import re
+
+LIST = "crates.txt"
+REMARK = {".rt": re.compile(r"(?<!:)//[^\n]*"), ".antt": re.compile(r"(?:^|(?<=\s))--[^\n]*", re.MULTILINE)}
+NAMES = {
+    ".rt": re.compile(r"\bRattle\.(\w+)\.|(?<![\w:])(\w+)::|\buse (\w+)\b(?!\.)"),
+    ".antt": re.compile(r"\bRattle\.(\w+)\."),
+}
+
+
+def listed(top):
+    """Each crate of the list with the libraries that stand behind its colon."""
+    for line in (top / LIST).read_text(encoding="utf-8").splitlines():
+        head, colon, libraries = line.partition(":")
+        if colon and not line.startswith("#"):
+            yield head.split()[0], libraries.split()
+
+
+def named(folder):
+    """Every name by which the files of a crate may name a library."""
+    found = set()
+    for part in ("src", "specs", "proofs"):
+        for path in (folder / part).rglob("*"):
+            if path.suffix in NAMES:
+                text = REMARK[path.suffix].sub("", path.read_text(encoding="utf-8"))
+                found.update(name for match in NAMES[path.suffix].finditer(text) for name in match.groups())
+    return found
+
+
+def check(top, tally):
+    """Tells of each crate the first library that it lists and never names."""
+    for crate, libraries in listed(top):
+        names = named(top / "crates" / crate)
+        needless = [library for library in libraries if library not in names]
+        tally.tell(f"{LIST}: {crate}", f"no file of it names {needless[0]}" if needless else None)
+
+
+def plant(top):
+    """Lists a library that its crate never names. The file keeps its age, so that no program is older than it."""
+    path = top / LIST
+    text, age = path.read_text(encoding="utf-8"), path.stat()
+    crate, libraries = list(listed(top))[-1]
+    line = f": {' '.join(libraries)}\n"
+    needless = next(name for name, _ in listed(top) if name not in named(top / "crates" / crate))
+    assert line in text and needless != crate
+    path.write_text(text.replace(line, f"{line[:-1]} {needless}\n", 1), encoding="utf-8")
+    os.utime(path, ns=(age.st_atime_ns, age.st_mtime_ns))
