@@ -1,3 +1,4 @@
+pub mod Edge
 pub mod Faults
 pub mod InMemory
 pub mod Whole

@@ -1,4 +1,4 @@
-ghost use Rattle.std.specs.Prelude.{◌≡◌, ◌+◌, ◌<◌, ◌≤◌, ◌^◌, ℕ, List, Some, length, vec_len, IfOk, IfSome, IsErrOf, MatchResult};
+ghost use Rattle.std.specs.Prelude.{◌≡◌, ◌+◌, ◌<◌, ◌≤◌, ◌^◌, ℕ, List, Some, length, vec_len, IfOk, IfSome, IsErrOf, MatchResult, OnOk};
 ghost use Rattle.gpu_io.specs.Faults.{HasRisen};
 ghost use Rattle.gpu_io.specs.declared.reading.ReadError.TheVariants.{Fault, Memory};
 ghost use Rattle.gpu_io.specs.Whole.{most_bytes, ReadsAll, ReadsAtMost, ReadsMoreThan, IsExcused};
@@ -76,6 +76,9 @@ pub fn read_within<S: Source>(
     ensures early { IsErrOf result ReadError.Fault
         → ReadsAtMost most (S.left source.old) (S.left source.new) }
     ensures later { S.faults source.old ≤ S.faults source.new }
+    // No read failed before the end, nor before a byte past the limit.
+    ensures faultless { OnOk result (S.faults source.new ≡ S.faults source.old) }
+    ensures unfailed { IsErrOf result ReadError.TooLong → S.faults source.new ≡ S.faults source.old }
 
     // Where the bytes are told and no fault rose, they are read exactly where they are within the limit.
     ensures complete { (text : List ℕ) → S.left source.old ≡ Some text
@@ -114,6 +117,9 @@ pub fn read_all<S: Source>(alloc: Global, source: &mut S) -> Result<Vec<u8>, Rea
     ensures early { IsErrOf result ReadError.Fault
         → ReadsAtMost most_bytes (S.left source.old) (S.left source.new) }
     ensures later { S.faults source.old ≤ S.faults source.new }
+    // No read failed before the end, nor before a byte past the limit.
+    ensures faultless { OnOk result (S.faults source.new ≡ S.faults source.old) }
+    ensures unfailed { IsErrOf result ReadError.TooLong → S.faults source.new ≡ S.faults source.old }
 
     // Where the bytes are told and no fault rose, they are read exactly where they are within the limit.
     ensures complete { (text : List ℕ) → S.left source.old ≡ Some text

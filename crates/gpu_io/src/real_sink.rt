@@ -1,4 +1,5 @@
-ghost use Rattle.std.specs.Prelude.{◌≡◌, ◌≤◌, ◌<◌, length, IfOk, OnOk, OnErr};
+ghost use Rattle.std.specs.Prelude.{◌≡◌, ◌≤◌, ◌<◌, length, take, IfOk, OnOk, OnErr};
+ghost use Rattle.std.specs.Io.KnownBytes.{Appends, Keeps};
 ghost use Rattle.gpu_io.specs.Faults.{one_more, HasRisen};
 
 use crate::failed::Failed;
@@ -7,28 +8,28 @@ use crate::sink::Sink;
 use std::io::Write;
 use std::marker::Model;
 
-/// A sink over a writer of the system. It counts the writer's errors, and tells nothing of what its bytes are.
+/// A sink over a writer of the system. It counts the writer's errors, and tells of its bytes what the writer tells.
 ///
 /// It keeps no bytes back, since a fault that came after its answer would be told to nobody. So the writer is to be one
 /// without a buffer.
 #[derive(Debug, Drop)]
-pub struct RealSink<W> {
+pub struct RealSink<W: Write> {
     writer: W,
     faults: Faults,
 }
 
-impl<W> Model for RealSink<W> {
-    ghost use Rattle.std.specs.Prelude.{ℕ};
+impl<W: Write> Model for RealSink<W> {
+    ghost use Rattle.gpu_io.specs.Edge.{RealSinkData};
 
-    ghost Value = { ℕ };
+    ghost Value = { RealSinkData };
 
-    ghost view = { λ s. s.faults };
+    ghost view = { λ s. record { written = W.contents s.writer; faults = s.faults } };
 }
 
-impl<W> RealSink<W> {
+impl<W: Write> RealSink<W> {
     /// A sink that writes to this writer, with no fault as yet.
     pub fn make(writer: W) -> RealSink<W>
-        ensures { result ≡ 0 }
+        ensures { result ≡ record { written = W.contents writer; faults = 0 } }
     {
         RealSink {
             writer,
@@ -38,21 +39,21 @@ impl<W> RealSink<W> {
 }
 
 impl<W: Write> Sink for RealSink<W> {
-    ghost use Rattle.std.specs.Prelude.{None};
+    ghost written = { λ s. s.written };
 
-    ghost written = { λ _. None };
-
-    ghost faults = { λ count. count };
+    ghost faults = { λ s. s.faults };
 
     /// Writes once to the writer, and counts a fault exactly where it answers an error or takes no byte.
     fn write(&mut self, bytes: &[u8]) -> Result<usize, Failed>
         requires { 0 < length bytes.now }
         ensures some { IfOk result (λ n. 0 < n) }
         ensures bound { IfOk result (λ n. n ≤ length bytes.now) }
-        ensures faultless { OnOk result (self.new ≡ self.old) }
-        ensures fault { OnErr result (self.new ≡ one_more self.old) }
-        ensures cause { OnErr result (HasRisen self.old self.new) }
-        ensures later { self.old ≤ self.new }
+        ensures appended { IfOk result (λ n. Appends self.old.written self.new.written (take n bytes.now)) }
+        ensures kept { OnErr result (Keeps self.old.written self.new.written) }
+        ensures faultless { OnOk result (self.new.faults ≡ self.old.faults) }
+        ensures fault { OnErr result (self.new.faults ≡ one_more self.old.faults) }
+        ensures cause { OnErr result (HasRisen self.old.faults self.new.faults) }
+        ensures later { self.old.faults ≤ self.new.faults }
     {
         match self.writer.write(bytes) {
             Ok(count) if count > 0 => Ok(count),

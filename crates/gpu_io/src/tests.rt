@@ -33,10 +33,12 @@ fn writes<K: Sink>(
     Ok(counts)
 }
 
-// The system's side of a stream, whose second call fails.
+// The system's side of a stream, which gives one byte and takes two at most, and whose second call fails in
+// this way.
 #[derive(Drop)]
 struct Wire {
     bytes: Vec<u8>,
+    fault: ErrorKind,
     calls: u8,
 }
 
@@ -44,7 +46,7 @@ impl Wire {
     fn turn(&mut self) -> io::Result<()> {
         self.calls = self.calls.saturating_add(1);
         if self.calls == 2 {
-            return Err(io::Error::from(ErrorKind::ConnectionReset));
+            return Err(io::Error::from(self.fault));
         }
         Ok(())
     }
@@ -66,8 +68,9 @@ impl Read for Wire {
 impl Write for Wire {
     fn write(&mut self, bytes: &[u8]) -> io::Result<usize> {
         self.turn()?;
-        self.bytes.extend_from_slice(bytes)?;
-        Ok(bytes.len())
+        let count = bytes.len().min(2);
+        self.bytes.extend_from_slice(&bytes[..count])?;
+        Ok(count)
     }
 
     fn flush(&mut self) -> io::Result<()> {
@@ -75,22 +78,63 @@ impl Write for Wire {
     }
 }
 
+// Ways in which the system fails, of which some would pass if the call was made again.
+const FAULTS: [ErrorKind; 4] = [
+    ErrorKind::Interrupted,
+    ErrorKind::WouldBlock,
+    ErrorKind::BrokenPipe,
+    ErrorKind::ConnectionReset,
+];
+
+// Bytes that a terminal or a text would take for an end, a turn of a line or a mark, in the order in which they are read.
+const SPECIAL: [u8; 8] = [0, 4, 26, 10, 13, 255, 0, 128];
+
 #[test]
 fn real_source_passes_on_what_the_system_gives(rt: HostRuntime) -> Result<(), Fail> {
-    let bytes = Vec::from_slice(rt.alloc(), b"cba")?;
-    let mut source = RealSource::make(Wire { bytes, calls: 0 });
-    let trace = reads(rt.alloc(), &mut source, 5)?;
-    assert_eq!(rt; trace.as_slice(), b"a|!|b|c||".as_slice());
+    for fault in FAULTS {
+        let bytes = Vec::from_slice(rt.alloc(), b"cba")?;
+        let mut source = RealSource::make(Wire {
+            bytes,
+            fault,
+            calls: 0,
+        });
+        let trace = reads(rt.alloc(), &mut source, 5)?;
+        assert_eq!(rt; trace.as_slice(), b"a|!|b|c||".as_slice());
+    }
+    Ok(())
+}
+
+#[test]
+fn real_source_passes_on_special_bytes(rt: HostRuntime) -> Result<(), Fail> {
+    let mut source = RealSource::make(SPECIAL.as_slice());
+    let mut buffer = [1; 8];
+    assert_eq!(rt; source.read(&mut buffer), Ok(8));
+    assert_eq!(rt; buffer, SPECIAL);
+    assert_eq!(rt; source.read(&mut buffer), Ok(0));
     Ok(())
 }
 
 #[test]
 fn real_sink_passes_on_what_it_takes(rt: HostRuntime) -> Result<(), Fail> {
-    let bytes = Vec::new(rt.alloc());
-    let mut wire = Wire { bytes, calls: 0 };
-    let counts = writes(rt.alloc(), &mut RealSink::make(&mut wire), 3)?;
-    assert_eq!(rt; counts.as_slice(), [Some(3), None, Some(3)].as_slice());
-    assert_eq!(rt; wire.bytes.as_slice(), b"xyzxyz".as_slice());
+    for fault in FAULTS {
+        let bytes = Vec::new(rt.alloc());
+        let mut wire = Wire {
+            bytes,
+            fault,
+            calls: 0,
+        };
+        let counts = writes(rt.alloc(), &mut RealSink::make(&mut wire), 3)?;
+        assert_eq!(rt; counts.as_slice(), [Some(2), None, Some(2)].as_slice());
+        assert_eq!(rt; wire.bytes.as_slice(), b"xyxy".as_slice());
+    }
+    Ok(())
+}
+
+#[test]
+fn real_sink_passes_on_special_bytes(rt: HostRuntime) -> Result<(), Fail> {
+    let mut written = Vec::new(rt.alloc());
+    assert_eq!(rt; RealSink::make(&mut written).write(&SPECIAL), Ok(8));
+    assert_eq!(rt; written.as_slice(), SPECIAL.as_slice());
     Ok(())
 }
 

@@ -1,4 +1,4 @@
-use Rattle.std.proofs.Common.{◌≤◌, ◌+◌, ◌-◌, vec_len}
+use Rattle.std.proofs.Common.{◌≡◌, ◌≤◌, ◌+◌, ◌-◌, vec_len}
 use Rattle.std.specs.Io.KnownBytes.{Consumes}
 use Rattle.gpu_io.proofs.reading.read_within.Given as goal
 
@@ -7,6 +7,7 @@ invariant-loop-bytes g l = record {
   read : Consumes (g.S.Source.left l.fn.source) (g.S.Source.left l.source) l.bytes.items;
   short : vec_len l.bytes ≤ l.most;
   later : g.S.Source.faults l.fn.source ≤ g.S.Source.faults l.source;
+  faultless : g.S.Source.faults l.source ≡ g.S.Source.faults l.fn.source;
 }
 
 abbrev pub decreases-loop-bytes : goal.decreases-loop-bytes
