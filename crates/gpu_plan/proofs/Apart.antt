@@ -1,13 +1,14 @@
 -- Names that are told apart, and one more behind them.
 use Rattle.std.proofs.Common.{◌≡◌, ℕ, zero, suc, ◌+◌, ◌-◌, ◌≤◌, Bool, true, false, ◌||◌, List, [], ◌∷◌, ◌++◌, length, slice_get, option_map, Some, refl, sym, ap, subst, ◌∙◌, arith}
-use Rattle.std.specs.List.{AllByRecursion, IsDistinct, list_any, position_or_len}
+use Rattle.std.specs.List.{All, AllByRecursion, IsDistinct, list_any, position_or_len}
+use Rattle.std.proofs.lemmas.List.Elements.{All-nil, All-push, All-head, All-tail}
 use Rattle.std.proofs.lemmas.Bool.{lt-ltb}
 use Rattle.std.proofs.lemmas.Option.{slice_get_within, slice_get-map}
 use Rattle.std.proofs.lemmas.Bool.Decides.{nat_tests}
 use Rattle.gpu_cmd.specs.declared.name.Name.{Name}
 use Rattle.script_lines.specs.Names.{is_name}
 use Rattle.gpu_plan.specs.Plans.{PlanData, is_of, number_of}
-use Rattle.gpu_plan.specs.Named.{names_in, AreNumbered, AreLawfulNames}
+use Rattle.gpu_plan.specs.Named.{names_in, AreNumbered, HasSmallSpace, AreLawfulNames}
 
 neither : (a b : Bool) → (a || b) ≡ false → (a ≡ false) × (b ≡ false)
 neither true b e = absurd cc
@@ -41,16 +42,17 @@ numbered_end : (names : List Name) (name : Name) → AreNumbered names → name 
 numbered_end names name h is k n e =
     numbered_from 0 names name (λ i m at. h i m at ∙ ap (λ id. record { namespace = 0; id = id }) (omega arith)) (is ∙ ap (λ id. record { namespace = 0; id = id }) (omega arith)) k n e ∙ ap (λ id. record { namespace = 0; id = id }) (omega arith)
 
--- one more name that is not among the others, and in version 1 is the next number
-pub lawful_end : (version : ℕ) (names : List Name) (name : Name) → AreLawfulNames version names → list_any (is_name name) names ≡ false → (version ≡ 1 → name ≡ record { namespace = 0; id = length names + 1 }) → AreLawfulNames version (names ++ name ∷ [])
-lawful_end version names name h new number = record {
+-- one more name that is not among the others, has a small namespace, and in version 1 is the next number
+pub lawful_end : (version : ℕ) (names : List Name) (name : Name) → AreLawfulNames version names → list_any (is_name name) names ≡ false → (version ≡ 1 → name ≡ record { namespace = 0; id = length names + 1 }) → HasSmallSpace name → AreLawfulNames version (names ++ name ∷ [])
+lawful_end version names name h new number small = record {
   apart = distinct_end names name h.apart new;
   numbered = λ one. numbered_end names name (h.numbered one) (number one);
+  spaced = All-push HasSmallSpace names name h.spaced small;
 }
 
 pub lawful_none : (version : ℕ) → AreLawfulNames version []
 unfolding IsDistinct
-lawful_none version = record { apart = tt; numbered = λ one k name e. absurd cc }
+lawful_none version = record { apart = tt; numbered = λ one k name e. absurd cc; spaced = All-nil HasSmallSpace }
 
 pub any_is : (name : Name) (plans : List PlanData) → list_any (is_of name) plans ≡ list_any (is_name name) (names_in plans)
 any_is name [] = refl
@@ -67,6 +69,11 @@ all_at P [] k plan h e = absurd cc
 all_at P (p ∷ plans) zero plan h e = let s : p ≡ plan = cc in subst (λ (x : PlanData). P x.name) s h.0
 all_at P (p ∷ plans) (suc k) plan h e = all_at P plans k plan h.1 e
 
+small_at : (plans : List PlanData) (k : ℕ) (plan : PlanData) → All HasSmallSpace (names_in plans) → slice_get plans k ≡ Some plan → HasSmallSpace plan.name
+small_at [] k plan h e = absurd cc
+small_at (p ∷ plans) zero plan h e = let s : p ≡ plan = cc in subst (λ (x : PlanData). HasSmallSpace x.name) s (All-head HasSmallSpace p.name (names_in plans) h)
+small_at (p ∷ plans) (suc k) plan h e = small_at plans k plan (All-tail HasSmallSpace p.name (names_in plans) h) e
+
 itself : (name : Name) → is_name name name ≡ true
 itself name = grind (arith, nat_tests)
 
@@ -79,6 +86,9 @@ first_is (p ∷ plans) (suc k) plan h e = rw (turned p.name plan.name (all_at (�
 module _ (version stream : ℕ) (plans : List PlanData) (plan : PlanData) (lawful : AreLawfulNames version (names_in plans)) (first : 1 ≤ stream) (there : slice_get plans (stream - 1) ≡ Some plan) where
   pub own_number : number_of plans plan.name ≡ stream
   own_number = rw (first_is plans (stream - 1) plan lawful.apart there, lt-ltb (stream - 1) (length plans) (slice_get_within plans (stream - 1) plan there)) (omega arith)
+
+  pub own_space : HasSmallSpace plan.name
+  own_space = small_at plans (stream - 1) plan lawful.spaced there
 
   pub own_name : version ≡ 1 → plan.name ≡ record { namespace = 0; id = stream }
   own_name one = lawful.numbered one (stream - 1) plan.name (slice_get-map (λ (p : PlanData). p.name) plans (stream - 1) ∙ ap (option_map (λ (p : PlanData). p.name)) there) ∙ ap (λ id. record { namespace = 0; id = id }) (omega arith)

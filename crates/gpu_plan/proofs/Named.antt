@@ -17,7 +17,7 @@ use Rattle.gpu_cmd.specs.Spans.{span_at}
 use Rattle.gpu_plan.specs.declared.plan.Action.{Action}
 use Rattle.gpu_plan.specs.declared.plan.Action.TheVariants.{Flush, Finish, Token, Close}
 use Rattle.gpu_plan.specs.Plans.{PlanData, is_of, is_closed}
-use Rattle.gpu_plan.specs.Named.{names_in, AreLawfulNames}
+use Rattle.gpu_plan.specs.Named.{names_in, HasSmallSpace, AreLawfulNames}
 use Rattle.gpu_plan.specs.Adding.{Draft, streams, fresh_plan, acting, fresh, added, puts, spans_with, may_follow, with_stream, with_memory, with_results, with_puts, with_fill, with_flush, with_finish, with_token, with_close, with_dump, with_keyword, with_line}
 use Rattle.gpu_plan.specs.Script.{is_remark, numbered}
 use Rattle.gpu_plan.proofs.Apart.{lawful_end, any_is, names_more}
@@ -31,6 +31,10 @@ bound (Err kind) f y e = absurd cc
 pub passed : {B : Type 0} (b : Bool) (kind : Kind) (f : Unit {0} → Result B Kind) (y : B) → (unless b kind >>= f) ≡ Ok y → (b ≡ true) × (f tt ≡ Ok y)
 passed true kind f y e = (refl, e)
 passed false kind f y e = absurd cc
+
+allowed : (b : Bool) (kind : Kind) → unless b kind ≡ Ok tt → b ≡ true
+allowed true kind e = refl
+allowed false kind e = absurd cc
 
 abbrev right : {A : Type 0} → A → Result A Kind
 right x = Ok x
@@ -168,13 +172,14 @@ no_other : (b : Bool) → not b ≡ true → b ≡ false
 no_other true e = absurd cc
 no_other false e = refl
 
--- what is known where a stream line is taken up: what it says, and that its name and its number are new
+-- what is known where a stream line is taken up: what it says, that its name and its number are new, and its small namespace
 pub record Begins (version : ℕ) (words : List (List ℕ)) (d e : Draft) : Type 0 where
   pub said : Name × Priority × ℕ
   pub is : stream_said version words ≡ Ok said
   pub order : (version == 2 || said.0.id == length (streams d) + 1) ≡ true
   pub new : list_any (is_name said.0) (names_in (streams d)) ≡ false
   pub names : names_in (streams e) ≡ names_in (streams d) ++ said.0 ∷ []
+  pub small : HasSmallSpace said.0
 
 pub stream_begins : (version : ℕ) (words : List (List ℕ)) (d e : Draft) → with_stream version words d ≡ Ok e → Begins version words d e
 unfolding with_stream may_follow
@@ -184,6 +189,7 @@ stream_begins version words d e h =
     let follows = bound (may_follow version (streams d) name said.0.2) _ e said.2 in
     let order = passed (version == 2 || name.id == length (streams d) + 1) Order _ tt follows.1 in
     let new = passed (not (list_any (is_of name) (streams d))) Double _ tt order.1 in
+    let limits = allowed (nat_le 16 said.0.2 && nat_le said.0.2 4096 && nat_le name.namespace 255 && nat_lt (length (streams d)) 16) Limit new.1 in
     let plan = fresh_plan name said.0.1 said.0.2 in
     let next : Draft = record d { done = streams d; last = Some plan } in
     let is = same next e follows.2 in
@@ -193,6 +199,7 @@ stream_begins version words d e h =
       order = order.0;
       new = sym (any_is name (streams d)) ∙ no_other (list_any (is_of name) (streams d)) new.0;
       names = ap (λ (x : Draft). names_in (streams x)) (sym is) ∙ names_more (streams d) plan;
+      small = grind (arith, nat_tests);
     }
 
 stream_lawful : (version : ℕ) (words : List (List ℕ)) (d e : Draft) → with_stream version words d ≡ Ok e → AreLawfulNames version (names_in (streams d)) → AreLawfulNames version (names_in (streams e))
@@ -204,7 +211,7 @@ stream_lawful version words d e h lawful =
     let id : name.id ≡ length (names_in (streams d)) + 1 = let long = length-map (streams d) (λ (p : PlanData). p.name) in let first : (version == 2 || name.id == length (streams d) + 1) ≡ true = begins.order in grind (arith, nat_tests) in
     λ i. record { namespace = space i; id = id i }
     in
-    subst (AreLawfulNames version) (sym begins.names) (lawful_end version (names_in (streams d)) name lawful begins.new number)
+    subst (AreLawfulNames version) (sym begins.names) (lawful_end version (names_in (streams d)) name lawful begins.new number begins.small)
 
 -- ---- any line
 

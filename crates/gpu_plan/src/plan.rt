@@ -3,7 +3,7 @@ ghost use Rattle.std.specs.List.{All};
 ghost use Rattle.gpu_cmd.specs.Lawful.{IsLawfulAreas};
 ghost use Rattle.std.specs.Option.{option_map};
 ghost use Rattle.gpu_plan.specs.Plans.{IsLawfulPlan, IsLawfulScript, IsDump, RiseFrom, is_of, number_of};
-ghost use Rattle.gpu_plan.specs.Named.{names_in, AreLawfulNames};
+ghost use Rattle.gpu_plan.specs.Named.{names_in, IsVersion, AreLawfulNames};
 
 use gpu_cmd::{Areas, Name, Priority};
 use std::marker::Model;
@@ -119,7 +119,8 @@ impl Plan {
     }
 }
 
-/// The plans of one script, at most 16, in the order of their stream lines. No two streams have the same name.
+/// The plans of one script, of version 1 or 2, at most 16, in the order of their stream lines. No two streams have the same
+/// name, and no namespace is greater than 255.
 #[derive(Debug, Drop)]
 pub struct Plans {
     version: u32,
@@ -128,19 +129,20 @@ pub struct Plans {
 
 impl Model for Plans {
     ghost use Rattle.gpu_plan.specs.Plans.{PlansData, IsLawfulScript};
-    ghost use Rattle.gpu_plan.specs.Named.{names_in, AreLawfulNames};
+    ghost use Rattle.gpu_plan.specs.Named.{names_in, IsVersion, AreLawfulNames};
 
     ghost Value = { PlansData };
 
     ghost view = { λ p. record { version = p.version; plans = p.plans.items } };
 
-    ghost invariant = { λ p. IsLawfulScript p.plans.items × AreLawfulNames p.version (names_in p.plans.items) };
+    ghost invariant = { λ p. IsLawfulScript p.plans.items × AreLawfulNames p.version (names_in p.plans.items) × IsVersion p.version };
 }
 
 impl Plans {
     pub(crate) fn of(version: u32, plans: Vec<Plan>) -> Plans
         requires lawful { IsLawfulScript plans.items }
         requires named { AreLawfulNames version (names_in plans.items) }
+        requires known { IsVersion version }
         ensures { result ≡ record { version = version; plans = plans.items } }
     {
         Plans { version, plans }
@@ -148,7 +150,8 @@ impl Plans {
 
     /// The version of the script: 1 or 2.
     pub fn version(&self) -> u32
-        ensures { result ≡ self.now.version }
+        ensures value { result ≡ self.now.version }
+        ensures known { IsVersion result }
     {
         self.version
     }
@@ -172,13 +175,15 @@ impl Plans {
         &self.plans[stream as usize - 1]
     }
 
-    /// The name of a stream, counted from 1. No other stream has it. In version 1 stream S has the name (0, S).
+    /// The name of a stream, counted from 1. No other stream has it, and its namespace is at most 255. In version 1 stream S
+    /// has the name (0, S).
     pub fn name(&self, stream: u32) -> Name
         requires first { 1 ≤ stream }
         requires last { stream ≤ length self.now.plans }
         ensures value { option_map (λ plan. plan.name) (slice_get self.now.plans (stream - 1)) ≡ Some result }
         ensures numbered { self.now.version ≡ 1 → result ≡ record { namespace = 0; id = stream } }
         ensures own { number_of self.now.plans result ≡ stream }
+        ensures space { result.namespace ≤ 255 }
     {
         self.plans[stream as usize - 1].name()
     }

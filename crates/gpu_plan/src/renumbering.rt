@@ -1,6 +1,6 @@
 ghost use Rattle.std.specs.Prelude.{◌≡◌, ◌≤◌, length, map, slice_index, IfOk};
 ghost use Rattle.gpu_plan.specs.Plans.{number_of};
-ghost use Rattle.gpu_plan.specs.Named.{names_in, AreLawfulNames};
+ghost use Rattle.gpu_plan.specs.Named.{names_in, IsVersion, AreLawfulNames};
 ghost use Rattle.gpu_plan.specs.Adding.{streams};
 ghost use Rattle.gpu_plan.specs.Drafts.{shown};
 ghost use Rattle.gpu_plan.specs.Renumbered.{numbers_of, renumbered_fence, renumbered_action, renumbered_plan, renumbered};
@@ -90,7 +90,8 @@ pub(crate) fn whole(
     mentioned: &Names,
     draft: Draft,
 ) -> Result<Plans, AllocError>
-    requires { AreLawfulNames version (names_in (streams (shown draft))) }
+    requires named { AreLawfulNames version (names_in (streams (shown draft))) }
+    requires known { IsVersion version }
     ensures { IfOk result (λ plans. plans ≡ record { version = version; plans = renumbered version mentioned.now (streams (shown draft)) }) }
 {
     let mut plans = streams(draft)?;

@@ -1,9 +1,10 @@
-ghost use Rattle.std.specs.Prelude.{◌≡◌, ◌+◌, ◌<◌, ◌≤◌, ◌^◌, length, map, OnOk};
+ghost use Rattle.std.specs.Prelude.{◌≡◌, ◌+◌, ◌<◌, ◌≤◌, ◌^◌, length, map, IfSome, OnOk};
 ghost use Rattle.script_words.specs.Text.{lines_of, words_of};
 ghost use Rattle.script_lines.specs.Outcome.{GivesScript};
 ghost use Rattle.script_lines.specs.Naming.{names_of};
 ghost use Rattle.gpu_plan.specs.Mentioning.{mentioned_on};
 ghost use Rattle.gpu_plan.specs.Script.{is_remark, is_skipped, version_named, version_of, numbered, from_body, from_version, from_head, script_of};
+ghost use Rattle.gpu_plan.specs.Named.{IsVersion};
 ghost use Rattle.gpu_plan.specs.Adding.{no_stream};
 ghost use Rattle.gpu_plan.specs.Drafts.{shown};
 
@@ -31,7 +32,8 @@ fn is_skipped(mut words: Words<'_>) -> bool
 }
 
 fn version_named(word: &[u8]) -> Option<u32>
-    ensures { result ≡ version_named word.now }
+    ensures named { result ≡ version_named word.now }
+    ensures known { IfSome result IsVersion }
 {
     if word == b"1".as_slice() {
         Some(1)
@@ -43,7 +45,8 @@ fn version_named(word: &[u8]) -> Option<u32>
 }
 
 fn version_of(mut words: Words<'_>) -> Option<u32>
-    ensures { result ≡ version_of (words_of words.entry.rest.now) }
+    ensures said { result ≡ version_of (words_of words.entry.rest.now) }
+    ensures known { IfSome result IsVersion }
 {
     let (Some(name), Some(version), None) = (words.next(), words.next(), words.next()) else {
         return None;
@@ -100,7 +103,8 @@ fn from_body(
     first: u32,
     lines: Lines<'_>,
 ) -> Result<Plans, ScriptFault>
-    requires { first + length (lines_of lines.rest.now) < 2 ^ 32 }
+    requires known { IsVersion version }
+    requires long { first + length (lines_of lines.rest.now) < 2 ^ 32 }
     ensures { GivesScript (λ plans. plans) result (from_body version (names_of version (map words_of (lines_of lines.entry.rest.now))) first no_stream (map words_of (lines_of lines.entry.rest.now))) }
 {
     let mut mentioned = Names::new(alloc);
@@ -124,7 +128,8 @@ fn from_version(
     number: u32,
     lines: Lines<'_>,
 ) -> Result<Plans, ScriptFault>
-    requires { number + 1 + length (lines_of lines.rest.now) < 2 ^ 32 }
+    requires known { IfSome version IsVersion }
+    requires long { number + 1 + length (lines_of lines.rest.now) < 2 ^ 32 }
     ensures { GivesScript (λ plans. plans) result (from_version version number (map words_of (lines_of lines.entry.rest.now))) }
 {
     let Some(version) = version else {

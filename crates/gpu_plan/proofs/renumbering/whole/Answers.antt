@@ -17,5 +17,5 @@ of-requires-2-clause-named c =
     let numbers = c.deref-2.result.now in
     let old = c.in_ok-plans.plans.items in
     let back = written_back (renumbered_plan numbers) c.in_ok-plans.plans.len old c.deref_mut.result.now c.renumber_plans.new.plans c.deref_mut.ensures.value c.deref_mut.ensures.len c.renumber_plans.ensures in
-    let named = subst (λ (plans : List PlanData). AreLawfulNames c.args.version (names_in plans)) (sym c.in_ok-plans.ensures.streams) c.requires in
+    let named = subst (λ (plans : List PlanData). AreLawfulNames c.args.version (names_in plans)) (sym c.in_ok-plans.ensures.streams) c.requires.named in
     subst (λ (plans : List PlanData). AreLawfulNames c.args.version (names_in plans)) (sym back) (subst (AreLawfulNames c.args.version) (sym (names_same numbers old)) named)

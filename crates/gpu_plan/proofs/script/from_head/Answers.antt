@@ -9,7 +9,7 @@ returns-in-None c = head_none c.loop-line.number (lines_of c.loop-line.lines.res
 
 pub returns-then-not-is_skipped : goal.returns-then-not-is_skipped
 returns-then-not-is_skipped c =
-    let e = head_there c.loop-line.number (lines_of c.loop-line.lines.rest.now) (lines_of c.next.new.self.rest.now) c.in-Some.line.now c.version_of.result _ c.in-Some.ensures.steps (search rules) c.version_of.ensures c.loop-line.invariant.said in
+    let e = head_there c.loop-line.number (lines_of c.loop-line.lines.rest.now) (lines_of c.next.new.self.rest.now) c.in-Some.line.now c.version_of.result _ c.in-Some.ensures.steps (search rules) c.version_of.ensures.said c.loop-line.invariant.said in
     subst (GivesScript (λ plans. plans) c.from_version.result) e c.from_version.ensures
 
 pub loop-line-preserved : goal.loop-line-preserved

@@ -2,8 +2,8 @@
 use Rattle.std.proofs.Common.{◌≡◌, ◌-◌, ◌∙◌, slice_get, Some, sym, ap, subst, refl, arith}
 use Rattle.std.proofs.lemmas.Option.{slice_get-get_or}
 use Rattle.gpu_plan.specs.Plans.{PlansData, number_of}
-use Rattle.gpu_plan.specs.Named.{names_in, AreLawfulNames}
-use Rattle.gpu_plan.proofs.Apart.{own_number, own_name}
+use Rattle.gpu_plan.specs.Named.{names_in, HasSmallSpace, AreLawfulNames}
+use Rattle.gpu_plan.proofs.Apart.{own_number, own_name, own_space}
 use Rattle.gpu_plan.proofs.plan.Plans.name.Goals as goal
 
 module _ (c : goal.After-name) where
@@ -22,3 +22,6 @@ returns-clause-numbered c one = c.name.ensures ∙ own_name c.args.self.now.vers
 
 pub returns-clause-own : goal.returns-clause-own
 returns-clause-own c = ap (number_of c.args.self.now.plans) c.name.ensures ∙ own_number c.args.self.now.version c.args.stream c.args.self.now.plans c.index.result.now (lawful c) c.requires.first (there c)
+
+pub returns-clause-space : goal.returns-clause-space
+returns-clause-space c = subst HasSmallSpace (sym c.name.ensures) (own_space c.args.self.now.version c.args.stream c.args.self.now.plans c.index.result.now (lawful c) c.requires.first (there c))
