@@ -1,9 +1,15 @@
 -- Laws of scripts, of the history that a script has on one thread, and of what is printed of histories.
-use Rattle.std.specs.Prelude.{ℕ, List, IfOk}
+use Rattle.std.specs.Prelude.{ℕ, ◌≤◌, List, ◌++◌, take, IfOk}
+use Rattle.gpu_plan.specs.Plans.{PlansData, plan_of}
+use Rattle.gpu_plan.specs.Passes.{flushes}
 use Rattle.gpu_plan.specs.Script.{script_of}
+use Rattle.gpu_journal.specs.declared.event.Event.{Event}
+use Rattle.gpu_journal.specs.World.{known}
 use Rattle.gpu_journal.specs.Legal.{IsLegal}
 use Rattle.gpu_journal.specs.Complete.{IsComplete}
 use Rattle.gpu_journal.specs.Serial.{serial}
+use Rattle.gpu_journal.specs.Written.{result_at}
+use Rattle.gpu_journal.specs.Dumps.{MayDump, AreDumpLines, dump_lines}
 use Rattle.serial_laws.specs.Scripts.{AreLawfulPlans}
 
 -- ---- scripts
@@ -19,3 +25,15 @@ ScriptsRunLegally = (text : List ℕ) → IfOk (script_of text) (λ p. IsLegal p
 -- and complete
 abbrev pub ScriptsRunToTheEnd : Type 0
 ScriptsRunToTheEnd = (text : List ℕ) → IfOk (script_of text) (λ p. IsComplete p (serial p))
+
+-- ---- dumps
+
+-- what is printed of the dumps of a serial history may be told of them: each value is that of its place after a first
+-- part of the history in which at least as many flushes of its stream are finished as stand before the dump's action
+abbrev pub DumpsMayBeTold : Type 0
+DumpsMayBeTold = (p : PlansData) → AreLawfulPlans p → AreDumpLines p (serial p) (dump_lines p (serial p))
+
+-- where enough flushes are finished after a first part, the value after every longer first part may be told too
+abbrev pub LaterMayBeTold : Type 0
+LaterMayBeTold = (p : PlansData) (later between past : List Event) (s : ℕ) (dump : ℕ × ℕ) → flushes (take dump.0 (plan_of p s).actions) ≤ (known p past s).finished
+    → MayDump p (later ++ (between ++ past)) s dump (result_at p (between ++ past) s dump.1)

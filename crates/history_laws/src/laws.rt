@@ -1,4 +1,4 @@
-ghost use Rattle.history_laws.specs.Laws.{ScriptsAreLawful, ScriptsRunLegally, ScriptsRunToTheEnd};
+ghost use Rattle.history_laws.specs.Laws.{ScriptsAreLawful, ScriptsRunLegally, ScriptsRunToTheEnd, DumpsMayBeTold, LaterMayBeTold};
 
 /// The law of scripts: the plans of each text that is a script are lawful, so its serial history is legal and complete.
 #[tactic(auto, using(crate::proofs::Scripts::scripts_are_lawful, crate::proofs::Runs::scripts_run_legally, crate::proofs::Runs::scripts_run_to_the_end))]
@@ -6,4 +6,12 @@ pub fn scripts_are_lawful()
     ensures lawful { ScriptsAreLawful }
     ensures legal { ScriptsRunLegally }
     ensures complete { ScriptsRunToTheEnd }
+{}
+
+/// The law of dumps: what is printed of the dumps of a serial history is what a client may have found once its await had
+/// passed; and what it would have found at any later moment may be told as well.
+#[tactic(auto, using(crate::proofs::Dumps::dumps_may_be_told, crate::proofs::Dumps::later_may_be_told))]
+pub fn dumps_may_be_told()
+    ensures serial { DumpsMayBeTold }
+    ensures later { LaterMayBeTold }
 {}

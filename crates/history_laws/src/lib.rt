@@ -3,4 +3,4 @@
 
 mod laws;
 
-pub use laws::scripts_are_lawful;
+pub use laws::{dumps_may_be_told, scripts_are_lawful};
