@@ -1,8 +1,9 @@
 -- Laws of scripts, of the history that a script has on one thread, and of what is printed of histories.
-use Rattle.std.specs.Prelude.{ℕ, ◌≤◌, List, ◌++◌, take, IfOk}
+use Rattle.std.specs.Prelude.{◌≡◌, ℕ, ◌≤◌, List, ◌++◌, take, IfOk}
 use Rattle.gpu_plan.specs.Plans.{PlansData, plan_of}
 use Rattle.gpu_plan.specs.Passes.{flushes}
 use Rattle.gpu_plan.specs.Script.{script_of}
+use Rattle.sync_core.specs.declared.ending.Ending.{Ending}
 use Rattle.gpu_journal.specs.declared.event.Event.{Event}
 use Rattle.gpu_journal.specs.World.{known}
 use Rattle.gpu_journal.specs.Legal.{IsLegal}
@@ -10,6 +11,7 @@ use Rattle.gpu_journal.specs.Complete.{IsComplete}
 use Rattle.gpu_journal.specs.Serial.{serial}
 use Rattle.gpu_journal.specs.Written.{result_at}
 use Rattle.gpu_journal.specs.Dumps.{MayDump, AreDumpLines, dump_lines}
+use Rattle.gpu_journal.specs.Output.{output}
 use Rattle.serial_laws.specs.Scripts.{AreLawfulPlans}
 
 -- ---- scripts
@@ -37,3 +39,10 @@ DumpsMayBeTold = (p : PlansData) → AreLawfulPlans p → AreDumpLines p (serial
 abbrev pub LaterMayBeTold : Type 0
 LaterMayBeTold = (p : PlansData) (later between past : List Event) (s : ℕ) (dump : ℕ × ℕ) → flushes (take dump.0 (plan_of p s).actions) ≤ (known p past s).finished
     → MayDump p (later ++ (between ++ past)) s dump (result_at p (between ++ past) s dump.1)
+
+-- ---- outputs
+
+-- legal histories with the same output are the same, whatever scripts they are of, and whatever marks their endings have
+abbrev pub SameOutputIsSameHistory : Type 0
+SameOutputIsSameHistory = (p q : PlansData) (mark other : Ending → ℕ) (g h : List Event) → AreLawfulPlans p → AreLawfulPlans q → IsLegal p g → IsLegal q h
+    → output p mark g ≡ output q other h → g ≡ h

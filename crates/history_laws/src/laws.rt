@@ -1,4 +1,4 @@
-ghost use Rattle.history_laws.specs.Laws.{ScriptsAreLawful, ScriptsRunLegally, ScriptsRunToTheEnd, DumpsMayBeTold, LaterMayBeTold};
+ghost use Rattle.history_laws.specs.Laws.{ScriptsAreLawful, ScriptsRunLegally, ScriptsRunToTheEnd, DumpsMayBeTold, LaterMayBeTold, SameOutputIsSameHistory};
 
 /// The law of scripts: the plans of each text that is a script are lawful, so its serial history is legal and complete.
 #[tactic(auto, using(crate::proofs::Scripts::scripts_are_lawful, crate::proofs::Runs::scripts_run_legally, crate::proofs::Runs::scripts_run_to_the_end))]
@@ -14,4 +14,10 @@ pub fn scripts_are_lawful()
 pub fn dumps_may_be_told()
     ensures serial { DumpsMayBeTold }
     ensures later { LaterMayBeTold }
+{}
+
+/// The law of the whole output: it tells its history, in either version, and with no look at the script.
+#[tactic(auto, using(crate::proofs::Outputs::same_output_is_same_history))]
+pub fn outputs_tell_histories()
+    ensures { SameOutputIsSameHistory }
 {}

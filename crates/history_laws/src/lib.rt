@@ -3,4 +3,4 @@
 
 mod laws;
 
-pub use laws::{dumps_may_be_told, scripts_are_lawful};
+pub use laws::{dumps_may_be_told, outputs_tell_histories, scripts_are_lawful};

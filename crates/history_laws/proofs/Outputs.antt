@@ -1,0 +1,178 @@
+-- The output of a legal history tells it.
+use Rattle.std.proofs.Common.{◌≡◌, ℕ, ◌^◌, ◌<◌, Bool, true, false, not, ◌&&◌, ◌==◌, cond, List, [], ◌∷◌, ◌++◌, length, drop, reverse, IsTrue, refl, sym, ap, subst, ◌∙◌, append_assoc}
+use Rattle.std.specs.Prelude.{codes}
+use Rattle.std.specs.List.{All, flat_map}
+use Rattle.std.proofs.lemmas.List.{reverse-reverse, reverse-append}
+use Rattle.std.proofs.lemmas.List.Elements.{All-nil, All-push, All-weaker}
+use Rattle.gpu_cmd.specs.declared.name.Name.{Name}
+use Rattle.gpu_store.specs.Images.{Pictures}
+use Rattle.gpu_plan.specs.Plans.{PlansData, plan_of}
+use Rattle.gpu_plan.proofs.Holding.{may_hold_fits}
+use Rattle.gpu_cmd.specs.Lawful.{places_of}
+use Rattle.sync_core.specs.declared.ending.Ending.{Ending}
+use Rattle.sync_core.specs.Standing.{IsKnown}
+use Rattle.gpu_journal.specs.declared.event.Event.{Event}
+use Rattle.gpu_journal.specs.declared.event.Event.TheVariants.{Order, Step, Finish, Lost, Close}
+use Rattle.gpu_journal.specs.declared.event.Why.TheVariants.{Error, Memory}
+use Rattle.gpu_journal.specs.declared.tally.Tally.{Tally}
+use Rattle.gpu_journal.specs.declared.end.End.{End}
+use Rattle.gpu_journal.specs.Digits.{number_text}
+use Rattle.gpu_journal.specs.Text.{event_text, journal_text, stream_text, tally_of}
+use Rattle.gpu_journal.specs.Picture.{head_text, image_text, picture_text}
+use Rattle.gpu_journal.specs.Lines.{journal_head, name_text, mark_text}
+use Rattle.gpu_journal.specs.World.{state_of, replay}
+use Rattle.gpu_journal.specs.Waits.{endings_in}
+use Rattle.gpu_journal.specs.Facts.{flush_of, reach}
+use Rattle.gpu_journal.specs.Legal.{MayHaveBeenPut, Obeys, IsLegal}
+use Rattle.gpu_journal.specs.Output.{streams_of, end_of, head_lines, stream_lines, mark_lines, output}
+use Rattle.gpu_journal.specs.Laws.{HasWords, is_other}
+use Rattle.gpu_journal.proofs.Numerals.{behind_first, number_cut}
+use Rattle.gpu_journal.proofs.Others.{picture_begins}
+use Rattle.gpu_journal.proofs.Telling.{output_tells}
+use Rattle.serial_laws.specs.Scripts.{AreLawfulPlans}
+use Rattle.serial_laws.proofs.Passed.{lawful_of}
+use Rattle.serial_laws.proofs.Spent.{obeys_known}
+use Rattle.history_laws.specs.Laws.{SameOutputIsSameHistory}
+
+-- ---- the words of a legal history have 32 bits
+
+abbrev Small : ℕ × ℕ → Type 0
+Small word = word.1 < 2 ^ 32
+
+put_small : (p : PlansData) (h : List Event) (s : ℕ) (words : List (ℕ × ℕ)) → AreLawfulPlans p → IsKnown (length p.plans) s → All (MayHaveBeenPut p h s) words → All Small words
+put_small p h s words lawful known put =
+    All-weaker (MayHaveBeenPut p h s) Small (λ word may. may_hold_fits (plan_of p s).actions (places_of (plan_of p s).areas) (flush_of p h s) (reach p h s) word.0 word.1 (lawful_of p s lawful known).within may) words put
+
+event_small : (p : PlansData) (e : Event) (h : List Event) → AreLawfulPlans p → IsLegal p h → Obeys p h e → HasWords e
+event_small p (Order s n c) h lawful legal o = All-nil Small
+event_small p (Step s words) h lawful legal o = put_small p h s words lawful (obeys_known p (Step s words) h legal o) o.rule_8
+event_small p (Finish s n) h lawful legal o = All-nil Small
+event_small p (Lost s (Error error) words) h lawful legal o = put_small p h s words lawful (obeys_known p (Lost s (Error error) words) h legal o) o.rule_8
+event_small p (Lost s Memory words) h lawful legal o = subst (All Small) (sym o.rule_11.1) (All-nil Small)
+event_small p (Close s) h lawful legal o = All-nil Small
+
+-- the oldest first
+events_small : (p : PlansData) (h : List Event) → AreLawfulPlans p → IsLegal p h → All HasWords (reverse h)
+events_small p [] lawful legal = All-nil HasWords
+events_small p (e ∷ h) lawful legal =
+    subst (All HasWords) (sym (reverse-append (e ∷ []) h)) (All-push HasWords (reverse h) e (events_small p h lawful legal.1) (event_small p e h lawful legal.1 legal.0))
+
+-- ---- what stands behind the journal
+
+marks_begin : (mark : Ending → ℕ) (endings : List Ending) → IsTrue (is_other (flat_map (λ ending. mark_text ending (mark ending)) endings))
+unfolding mark_text
+marks_begin mark [] = refl
+marks_begin mark (ending ∷ endings) = refl
+
+streams_begin : (tally : ℕ → Tally) (end : ℕ → End) (streams : List ℕ) (behind : List ℕ) → IsTrue (is_other behind) → IsTrue (is_other (flat_map (λ s. stream_text s (tally s) (end s)) streams ++ behind))
+unfolding stream_text
+streams_begin tally end [] behind other = other
+streams_begin tally end (s ∷ streams) behind other = refl
+
+abbrev behind_journal : PlansData → (Ending → ℕ) → List Event → List ℕ
+behind_journal p mark h = picture_text (replay p h) ++ (stream_lines p h ++ mark_lines p mark h)
+
+behind_begins : (p : PlansData) (mark : Ending → ℕ) (h : List Event) → IsTrue (is_other (behind_journal p mark h))
+behind_begins p mark h =
+    picture_begins (replay p h) (stream_lines p h ++ mark_lines p mark h)
+    (streams_begin (λ s. tally_of (state_of p h s)) (end_of h) (streams_of p) (mark_lines p mark h) (marks_begin mark (endings_in p h)))
+
+-- ---- heads and names
+
+-- the first byte, or 0
+abbrev first : List ℕ → ℕ
+first [] = 0
+first (b ∷ rest) = b
+
+-- no `g` and no `n` is first: the text is no head line and no line of a name
+abbrev is_apart : List ℕ → Bool
+is_apart x = not (first x == 103) && not (first x == 110)
+
+marks_apart : (mark : Ending → ℕ) (endings : List Ending) → is_apart (flat_map (λ ending. mark_text ending (mark ending)) endings) ≡ true
+unfolding mark_text
+marks_apart mark [] = refl
+marks_apart mark (ending ∷ endings) = refl
+
+streams_apart : (tally : ℕ → Tally) (end : ℕ → End) (streams : List ℕ) (behind : List ℕ) → is_apart behind ≡ true → is_apart (flat_map (λ s. stream_text s (tally s) (end s)) streams ++ behind) ≡ true
+unfolding stream_text
+streams_apart tally end [] behind other = other
+streams_apart tally end (s ∷ streams) behind other = refl
+
+picture_apart : (images : Pictures) (behind : List ℕ) → is_apart behind ≡ true → is_apart (picture_text images ++ behind) ≡ true
+unfolding picture_text image_text head_text
+picture_apart [] behind other = other
+picture_apart (entry ∷ images) behind other = refl
+
+journal_apart : (events : List Event) (behind : List ℕ) → is_apart behind ≡ true → is_apart (journal_text events ++ behind) ≡ true
+unfolding journal_text event_text
+journal_apart [] behind other = other
+journal_apart (Order s n c ∷ events) behind other = refl
+journal_apart (Step s words ∷ events) behind other = refl
+journal_apart (Finish s n ∷ events) behind other = refl
+journal_apart (Lost s why words ∷ events) behind other = refl
+journal_apart (Close s ∷ events) behind other = refl
+
+abbrev behind_head : PlansData → (Ending → ℕ) → List Event → List ℕ
+behind_head p mark h = journal_text (reverse h) ++ behind_journal p mark h
+
+head_apart : (p : PlansData) (mark : Ending → ℕ) (h : List Event) → is_apart (behind_head p mark h) ≡ true
+head_apart p mark h =
+    journal_apart (reverse h) (behind_journal p mark h) (picture_apart (replay p h) (stream_lines p h ++ mark_lines p mark h)
+    (streams_apart (λ s. tally_of (state_of p h s)) (end_of h) (streams_of p) (mark_lines p mark h) (marks_apart mark (endings_in p h))))
+
+five_flat : (a b c d e : List ℕ) → (((a ++ b) ++ c) ++ d) ++ e ≡ a ++ (b ++ (c ++ (d ++ e)))
+five_flat a b c d e = simp append_assoc
+
+name_flat : (s : ℕ) (name : Name) (x : List ℕ) → name_text s name ++ x ≡ codes "name" ++ (number_text s ++ (number_text name.namespace ++ (number_text name.id ++ (10 ∷ x))))
+unfolding name_text
+name_flat s name x = append_assoc (codes "name" ++ number_text s ++ number_text name.namespace ++ number_text name.id) (codes "\n") x ∙ five_flat (codes "name") (number_text s) (number_text name.namespace) (number_text name.id) (10 ∷ x)
+
+name_cut : (s t : ℕ) (a b : Name) (x y : List ℕ) → name_text s a ++ x ≡ name_text t b ++ y → x ≡ y
+name_cut s t a b x y e =
+    let behind = ap (drop 4) (sym (name_flat s a x) ∙ e ∙ name_flat t b y) in
+    let one = number_cut s t (number_text a.namespace ++ (number_text a.id ++ (10 ∷ x))) (number_text b.namespace ++ (number_text b.id ++ (10 ∷ y))) refl refl behind in
+    let two = number_cut a.namespace b.namespace (number_text a.id ++ (10 ∷ x)) (number_text b.id ++ (10 ∷ y)) refl refl one.1 in
+    let three = number_cut a.id b.id (10 ∷ x) (10 ∷ y) refl refl two.1 in
+    ap behind_first three.1
+
+clash : (b : Bool) → b ≡ true → b ≡ false → ⊥
+clash b x y = cc
+
+-- the lines of names end where the text behind them begins
+names_cut : (f g : ℕ → Name) (ss ts : List ℕ) (x y : List ℕ) → is_apart x ≡ true → is_apart y ≡ true → flat_map (λ s. name_text s (f s)) ss ++ x ≡ flat_map (λ s. name_text s (g s)) ts ++ y → x ≡ y
+unfolding name_text
+names_cut f g [] [] x y ax ay e = e
+names_cut f g [] (t ∷ ts) x y ax ay e = absurd (clash (is_apart x) ax (ap is_apart e))
+names_cut f g (s ∷ ss) [] x y ax ay e = absurd (clash (is_apart y) ay (ap is_apart (sym e)))
+names_cut f g (s ∷ ss) (t ∷ ts) x y ax ay e =
+    names_cut f g ss ts x y ax ay
+    (name_cut s t (f s) (g t) (flat_map (λ s. name_text s (f s)) ss ++ x) (flat_map (λ s. name_text s (g s)) ts ++ y)
+    (sym (append_assoc (name_text s (f s)) (flat_map (λ s. name_text s (f s)) ss) x) ∙ e ∙ append_assoc (name_text t (g t)) (flat_map (λ s. name_text s (g s)) ts) y))
+
+abbrev names_text : PlansData → List ℕ
+names_text p = flat_map (λ s. name_text s (plan_of p s).name) (streams_of p)
+
+-- the head, by whether there is one
+abbrev head_by : PlansData → Bool → List ℕ
+head_by p b = cond b (journal_head ++ names_text p) []
+
+heads_cut : (p q : PlansData) (b c : Bool) (x y : List ℕ) → is_apart x ≡ true → is_apart y ≡ true → head_by p b ++ x ≡ head_by q c ++ y → x ≡ y
+heads_cut p q false false x y ax ay e = e
+heads_cut p q false true x y ax ay e = absurd (clash (is_apart x) ax (ap is_apart e))
+heads_cut p q true false x y ax ay e = absurd (clash (is_apart y) ay (ap is_apart (sym e)))
+heads_cut p q true true x y ax ay e =
+    names_cut (λ s. (plan_of p s).name) (λ s. (plan_of q s).name) (streams_of p) (streams_of q) x y ax ay
+    (ap (drop 14) (sym (append_assoc journal_head (names_text p) x) ∙ e ∙ append_assoc journal_head (names_text q) y))
+
+-- ---- the whole output
+
+output_flat : (p : PlansData) (mark : Ending → ℕ) (h : List Event) → output p mark h ≡ head_lines p ++ behind_head p mark h
+unfolding output
+output_flat p mark h = five_flat (head_lines p) (journal_text (reverse h)) (picture_text (replay p h)) (stream_lines p h) (mark_lines p mark h)
+
+pub same_output_is_same_history : SameOutputIsSameHistory
+same_output_is_same_history p q mark other g h lawful lawful' legal legal' e =
+    let flat : head_lines p ++ behind_head p mark g ≡ head_lines q ++ behind_head q other h = sym (output_flat p mark g) ∙ e ∙ output_flat q other h in
+    let rest = heads_cut p q (p.version == 2) (q.version == 2) (behind_head p mark g) (behind_head q other h) (head_apart p mark g) (head_apart q other h) flat in
+    let same = output_tells (reverse g) (reverse h) (behind_journal p mark g) (behind_journal q other h) (events_small p g lawful legal) (events_small q h lawful' legal') (behind_begins p mark g) (behind_begins q other h) rest in
+    sym (reverse-reverse g) ∙ ap reverse same.0 ∙ reverse-reverse h
