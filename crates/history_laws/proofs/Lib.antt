@@ -2,3 +2,4 @@ pub mod Scripts
 pub mod Runs
 pub mod Dumps
 pub mod Outputs
+pub mod Events

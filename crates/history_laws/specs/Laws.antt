@@ -1,5 +1,5 @@
 -- Laws of scripts, of the history that a script has on one thread, and of what is printed of histories.
-use Rattle.std.specs.Prelude.{◌≡◌, ℕ, ◌≤◌, List, ◌++◌, take, IfOk}
+use Rattle.std.specs.Prelude.{◌≡◌, ℕ, ◌≤◌, List, ◌++◌, length, take, IfOk}
 use Rattle.gpu_plan.specs.Plans.{PlansData, plan_of}
 use Rattle.gpu_plan.specs.Passes.{flushes}
 use Rattle.gpu_plan.specs.Script.{script_of}
@@ -8,7 +8,7 @@ use Rattle.gpu_journal.specs.declared.event.Event.{Event}
 use Rattle.gpu_journal.specs.World.{known}
 use Rattle.gpu_journal.specs.Legal.{IsLegal}
 use Rattle.gpu_journal.specs.Complete.{IsComplete}
-use Rattle.gpu_journal.specs.Serial.{serial}
+use Rattle.gpu_journal.specs.Serial.{most_events, serial}
 use Rattle.gpu_journal.specs.Written.{result_at}
 use Rattle.gpu_journal.specs.Dumps.{MayDump, AreDumpLines, dump_lines}
 use Rattle.gpu_journal.specs.Output.{output}
@@ -46,3 +46,13 @@ LaterMayBeTold = (p : PlansData) (later between past : List Event) (s : ℕ) (du
 abbrev pub SameOutputIsSameHistory : Type 0
 SameOutputIsSameHistory = (p q : PlansData) (mark other : Ending → ℕ) (g h : List Event) → AreLawfulPlans p → AreLawfulPlans q → IsLegal p g → IsLegal q h
     → output p mark g ≡ output q other h → g ≡ h
+
+-- ---- the number of events
+
+-- a serial history has no more events than this
+abbrev pub SerialIsShort : Type 0
+SerialIsShort = (p : PlansData) → length (serial p) ≤ most_events p
+
+-- which is at most 100,000 flushes with 4,098 events each, and one end for each of 16 streams
+abbrev pub MostEventsAreFew : Type 0
+MostEventsAreFew = (p : PlansData) → AreLawfulPlans p → most_events p ≤ 409800016

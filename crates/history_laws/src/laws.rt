@@ -1,4 +1,4 @@
-ghost use Rattle.history_laws.specs.Laws.{ScriptsAreLawful, ScriptsRunLegally, ScriptsRunToTheEnd, DumpsMayBeTold, LaterMayBeTold, SameOutputIsSameHistory};
+ghost use Rattle.history_laws.specs.Laws.{ScriptsAreLawful, ScriptsRunLegally, ScriptsRunToTheEnd, DumpsMayBeTold, LaterMayBeTold, SameOutputIsSameHistory, SerialIsShort, MostEventsAreFew};
 
 /// The law of scripts: the plans of each text that is a script are lawful, so its serial history is legal and complete.
 #[tactic(auto, using(crate::proofs::Scripts::scripts_are_lawful, crate::proofs::Runs::scripts_run_legally, crate::proofs::Runs::scripts_run_to_the_end))]
@@ -20,4 +20,11 @@ pub fn dumps_may_be_told()
 #[tactic(auto, using(crate::proofs::Outputs::same_output_is_same_history))]
 pub fn outputs_tell_histories()
     ensures { SameOutputIsSameHistory }
+{}
+
+/// The law of the number of events: the serial history of a script has at most 409,800,016.
+#[tactic(auto, using(crate::proofs::Events::serial_is_short, crate::proofs::Events::most_events_are_few))]
+pub fn serial_histories_are_short()
+    ensures short { SerialIsShort }
+    ensures few { MostEventsAreFew }
 {}

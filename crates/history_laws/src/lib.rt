@@ -3,4 +3,6 @@
 
 mod laws;
 
-pub use laws::{dumps_may_be_told, outputs_tell_histories, scripts_are_lawful};
+pub use laws::{
+    dumps_may_be_told, outputs_tell_histories, scripts_are_lawful, serial_histories_are_short,
+};
