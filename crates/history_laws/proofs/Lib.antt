@@ -3,3 +3,4 @@ pub mod Runs
 pub mod Dumps
 pub mod Outputs
 pub mod Events
+pub mod Six

@@ -6,7 +6,7 @@ use Rattle.gpu_plan.specs.Script.{script_of}
 use Rattle.sync_core.specs.declared.ending.Ending.{Ending}
 use Rattle.gpu_journal.specs.declared.event.Event.{Event}
 use Rattle.gpu_journal.specs.World.{known}
-use Rattle.gpu_journal.specs.Legal.{IsLegal}
+use Rattle.gpu_journal.specs.Legal.{RunsFirstNumber, RunsUnblocked, RunsReachedFlush, IsLegal}
 use Rattle.gpu_journal.specs.Complete.{IsComplete}
 use Rattle.gpu_journal.specs.Serial.{most_events, serial}
 use Rattle.gpu_journal.specs.Written.{result_at}
@@ -56,3 +56,9 @@ SerialIsShort = (p : PlansData) → length (serial p) ≤ most_events p
 -- which is at most 100,000 flushes with 4,098 events each, and one end for each of 16 streams
 abbrev pub MostEventsAreFew : Type 0
 MostEventsAreFew = (p : PlansData) → AreLawfulPlans p → most_events p ≤ 409800016
+
+-- ---- rule 6
+
+-- after a legal history an event that obeys rules 4 and 5 obeys rule 6
+abbrev pub SixAlwaysHolds : Type 0
+SixAlwaysHolds = (p : PlansData) (g : List Event) (e : Event) → AreLawfulPlans p → IsLegal p g → RunsFirstNumber p g e → RunsUnblocked p g e → RunsReachedFlush p g e

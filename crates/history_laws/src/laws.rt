@@ -1,4 +1,4 @@
-ghost use Rattle.history_laws.specs.Laws.{ScriptsAreLawful, ScriptsRunLegally, ScriptsRunToTheEnd, DumpsMayBeTold, LaterMayBeTold, SameOutputIsSameHistory, SerialIsShort, MostEventsAreFew};
+ghost use Rattle.history_laws.specs.Laws.{ScriptsAreLawful, ScriptsRunLegally, ScriptsRunToTheEnd, DumpsMayBeTold, LaterMayBeTold, SameOutputIsSameHistory, SerialIsShort, MostEventsAreFew, SixAlwaysHolds};
 
 /// The law of scripts: the plans of each text that is a script are lawful, so its serial history is legal and complete.
 #[tactic(auto, using(crate::proofs::Scripts::scripts_are_lawful, crate::proofs::Runs::scripts_run_legally, crate::proofs::Runs::scripts_run_to_the_end))]
@@ -27,4 +27,11 @@ pub fn outputs_tell_histories()
 pub fn serial_histories_are_short()
     ensures short { SerialIsShort }
     ensures few { MostEventsAreFew }
+{}
+
+/// The law of rule 6: after a legal history the client of a stream that can run has always come to the flush of its first
+/// number, or can have.
+#[tactic(auto, using(crate::proofs::Six::six_always_holds))]
+pub fn rule_six_always_holds()
+    ensures { SixAlwaysHolds }
 {}
