@@ -4,3 +4,4 @@ pub mod Dumps
 pub mod Outputs
 pub mod Events
 pub mod Six
+mod worked

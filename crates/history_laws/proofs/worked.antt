@@ -12,3 +12,8 @@ mod Buckets
 mod ReadBack
 mod FallingToken
 mod Loss
+mod Priorities
+mod ThreeErrors
+mod LostWithDump
+mod ClosesUnrun
+mod MayBeTold

@@ -1,4 +1,4 @@
--- A client reads its results, and closes.
+-- Streams of version 2 wait on each other by name.
 use Rattle.std.proofs.Common.{◌≡◌, refl, Ok}
 use Rattle.std.specs.Prelude.{codes}
 use Rattle.gpu_cmd.specs.Checks.{headed, checked, decoded}
@@ -26,9 +26,9 @@ use Rattle.gpu_journal.specs.Picture.{head_text, row_text, image_text, picture_t
 use Rattle.gpu_journal.specs.Lines.{name_text, mark_text, dump_text}
 use Rattle.gpu_journal.specs.Output.{output}
 use Rattle.gpu_journal.specs.Dumps.{dump_lines}
-use Rattle.gpu_journal.proofs.worked.Said.{told}
+use Rattle.history_laws.proofs.worked.Said.{told}
 
 -- from the bytes of the script to the bytes of the output of its serial history
-results_and_close : told (script_of (codes "gpu-script 1\nstream 1 normal 64\nresults 0 4\nput 0 00400003 0 6\nput 3 00800006 0 0 6 44332211 ffff6655\nput 9 00a00007 0 0 0 6 0 4\nflush 16\ndump 0 0\ndump 0 1\ndump 0 2\nclose\n")) ≡ Ok (codes "order 1 1 16\nstep 1 0:00400003 1:00000000 2:00000006\nstep 1 3:00800006 4:00000000 5:00000000 6:00000006 7:44332211 8:ffff6655\nstep 1 9:00a00007 10:00000000 11:00000000 12:00000000 13:00000006 14:00000000 15:00000004\nfinish 1 1\nclose 1\nstream 1 closed entries 16 release 0 token 0 words 16 errors 0 0 0\ndump 1 17 0 00000006\ndump 1 18 1 44332211\ndump 1 19 2 00006655\n")
+names : told (script_of (codes "gpu-script 2\nstream 2 77 normal 16\nput 0 20000003 5 0\nflush 3\nstream 2 99 high 16\nput 0 21800006 2 4d 0 5 0\nflush 6 2 77 5 3 1 1\n")) ≡ Ok (codes "gpu-journal 2\nname 1 2 77\nname 2 2 99\norder 1 1 3\norder 2 2 6\nstep 1 0:20000003 1:00000005 2:00000000\nfinish 1 1\nstep 2 0:21800006 1:00000002 2:0000004d 3:00000000 4:00000005 5:00000000\nfinish 2 2\nstream 1 done entries 3 release 5 token 0 words 3 errors 0 0 0\nstream 2 done entries 6 release 0 token 0 words 6 errors 0 0 0\nmark 2 2 1 5 release 1008\n")
 unfolding headed checked decoded judged places_read copied fetched row_of outcome apply painted drawn first_texels lines_of words_of number_of named_on named_in none_said one_said two_said numbered_said named_said put_said fill_said pairs_of named_fence triples_of flush_said with_line with_stream may_follow added acting fresh with_memory with_results spans_with with_puts with_fill with_flush with_finish with_token with_close with_dump script_of from_head from_version from_body numbered first_words after_writes command_in transfer_bytes immediate_bytes asked effect_of acted stepped effect writes checked_state verdict world sync_of next events serial written numeral hex8 event_text journal_text stream_text head_text row_text image_text picture_text name_text mark_text dump_text output dump_lines
-results_and_close = refl
+names = refl

@@ -1,4 +1,4 @@
--- Streams of version 2 wait on each other by name.
+-- One stream makes an image and fills it.
 use Rattle.std.proofs.Common.{◌≡◌, refl, Ok}
 use Rattle.std.specs.Prelude.{codes}
 use Rattle.gpu_cmd.specs.Checks.{headed, checked, decoded}
@@ -26,9 +26,9 @@ use Rattle.gpu_journal.specs.Picture.{head_text, row_text, image_text, picture_t
 use Rattle.gpu_journal.specs.Lines.{name_text, mark_text, dump_text}
 use Rattle.gpu_journal.specs.Output.{output}
 use Rattle.gpu_journal.specs.Dumps.{dump_lines}
-use Rattle.gpu_journal.proofs.worked.Said.{told}
+use Rattle.history_laws.proofs.worked.Said.{told}
 
 -- from the bytes of the script to the bytes of the output of its serial history
-names : told (script_of (codes "gpu-script 2\nstream 2 77 normal 16\nput 0 20000003 5 0\nflush 3\nstream 2 99 high 16\nput 0 21800006 2 4d 0 5 0\nflush 6 2 77 5 3 1 1\n")) ≡ Ok (codes "gpu-journal 2\nname 1 2 77\nname 2 2 99\norder 1 1 3\norder 2 2 6\nstep 1 0:20000003 1:00000005 2:00000000\nfinish 1 1\nstep 2 0:21800006 1:00000002 2:0000004d 3:00000000 4:00000005 5:00000000\nfinish 2 2\nstream 1 done entries 3 release 5 token 0 words 3 errors 0 0 0\nstream 2 done entries 6 release 0 token 0 words 6 errors 0 0 0\nmark 2 2 1 5 release 1008\n")
+two_texels : told (script_of (codes "gpu-script 1\nstream 1 normal 16\nput 0 20400004 1 2 1 20800007 1 0 0 2 1 ff0000ff\nflush 11\n")) ≡ Ok (codes "order 1 1 11\nstep 1 0:20400004 1:00000001 2:00000002 3:00000001\nstep 1 4:20800007 5:00000001 6:00000000 7:00000000 8:00000002 9:00000001 10:ff0000ff\nfinish 1 1\nimage 1 2 1\nff0000ff ff0000ff\nstream 1 done entries 11 release 0 token 0 words 11 errors 0 0 0\n")
 unfolding headed checked decoded judged places_read copied fetched row_of outcome apply painted drawn first_texels lines_of words_of number_of named_on named_in none_said one_said two_said numbered_said named_said put_said fill_said pairs_of named_fence triples_of flush_said with_line with_stream may_follow added acting fresh with_memory with_results spans_with with_puts with_fill with_flush with_finish with_token with_close with_dump script_of from_head from_version from_body numbered first_words after_writes command_in transfer_bytes immediate_bytes asked effect_of acted stepped effect writes checked_state verdict world sync_of next events serial written numeral hex8 event_text journal_text stream_text head_text row_text image_text picture_text name_text mark_text dump_text output dump_lines
-names = refl
+two_texels = refl

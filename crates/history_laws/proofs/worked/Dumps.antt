@@ -1,4 +1,4 @@
--- Waits on the stream itself, on an unknown one and on a release that is reached are dropped.
+-- Dumps tell what a client has found when it passes them.
 use Rattle.std.proofs.Common.{◌≡◌, refl, Ok}
 use Rattle.std.specs.Prelude.{codes}
 use Rattle.gpu_cmd.specs.Checks.{headed, checked, decoded}
@@ -26,9 +26,9 @@ use Rattle.gpu_journal.specs.Picture.{head_text, row_text, image_text, picture_t
 use Rattle.gpu_journal.specs.Lines.{name_text, mark_text, dump_text}
 use Rattle.gpu_journal.specs.Output.{output}
 use Rattle.gpu_journal.specs.Dumps.{dump_lines}
-use Rattle.gpu_journal.proofs.worked.Said.{told}
+use Rattle.history_laws.proofs.worked.Said.{told}
 
 -- from the bytes of the script to the bytes of the output of its serial history
-dropped_waits : told (script_of (codes "gpu-script 1\nstream 1 normal 16\nput 0 20200004 2 1 0\nflush 4 1 1 9 1\nstream 2 normal 16\nflush 0 1 0\n")) ≡ Ok (codes "order 1 1 4\norder 2 2 0\nstep 1 0:20200004 1:00000002 2:00000001 3:00000000\nfinish 1 1\nfinish 2 2\nstream 1 done entries 4 release 0 token 0 words 4 errors 0 0 0\nstream 2 done entries 0 release 0 token 0 words 0 errors 0 0 0\n")
+results_during_the_run : told (script_of (codes "gpu-script 1\nstream 1 normal 64\nresults 0 1\nput 0 00400003 0 6 00a00007 0 0 0 0 0 0\nflush 10\ndump 0 0\nput 10 00400003 0 7 00a00007 0 0 0 0 0 0\nflush 20\ndump 0 0\n")) ≡ Ok (codes "order 1 1 10\nstep 1 0:00400003 1:00000000 2:00000006\nstep 1 3:00a00007 4:00000000 5:00000000 6:00000000 7:00000000 8:00000000 9:00000000\nfinish 1 1\norder 1 2 22\nstep 1 10:00400003 11:00000000 12:00000007\nstep 1 13:00a00007 14:00000000 15:00000000 16:00000000 17:00000000 18:00000000 19:00000000\nfinish 1 2\nstream 1 done entries 20 release 0 token 0 words 20 errors 0 0 0\ndump 1 11 0 00000006\ndump 1 23 0 00000007\n")
 unfolding headed checked decoded judged places_read copied fetched row_of outcome apply painted drawn first_texels lines_of words_of number_of named_on named_in none_said one_said two_said numbered_said named_said put_said fill_said pairs_of named_fence triples_of flush_said with_line with_stream may_follow added acting fresh with_memory with_results spans_with with_puts with_fill with_flush with_finish with_token with_close with_dump script_of from_head from_version from_body numbered first_words after_writes command_in transfer_bytes immediate_bytes asked effect_of acted stepped effect writes checked_state verdict world sync_of next events serial written numeral hex8 event_text journal_text stream_text head_text row_text image_text picture_text name_text mark_text dump_text output dump_lines
-dropped_waits = refl
+results_during_the_run = refl

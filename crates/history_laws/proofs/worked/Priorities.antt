@@ -1,4 +1,4 @@
--- One stream makes an image and fills it.
+-- Of streams that can run the one of the highest priority does, and of these the one with the lowest number.
 use Rattle.std.proofs.Common.{◌≡◌, refl, Ok}
 use Rattle.std.specs.Prelude.{codes}
 use Rattle.gpu_cmd.specs.Checks.{headed, checked, decoded}
@@ -26,9 +26,9 @@ use Rattle.gpu_journal.specs.Picture.{head_text, row_text, image_text, picture_t
 use Rattle.gpu_journal.specs.Lines.{name_text, mark_text, dump_text}
 use Rattle.gpu_journal.specs.Output.{output}
 use Rattle.gpu_journal.specs.Dumps.{dump_lines}
-use Rattle.gpu_journal.proofs.worked.Said.{told}
+use Rattle.history_laws.proofs.worked.Said.{told}
 
 -- from the bytes of the script to the bytes of the output of its serial history
-two_texels : told (script_of (codes "gpu-script 1\nstream 1 normal 16\nput 0 20400004 1 2 1 20800007 1 0 0 2 1 ff0000ff\nflush 11\n")) ≡ Ok (codes "order 1 1 11\nstep 1 0:20400004 1:00000001 2:00000002 3:00000001\nstep 1 4:20800007 5:00000001 6:00000000 7:00000000 8:00000002 9:00000001 10:ff0000ff\nfinish 1 1\nimage 1 2 1\nff0000ff ff0000ff\nstream 1 done entries 11 release 0 token 0 words 11 errors 0 0 0\n")
+priorities : told (script_of (codes "gpu-script 1\nstream 1 low 16\nflush 0\nstream 2 normal 16\nflush 0\nfinish\nflush 0\nstream 3 low 16\nflush 0\nstream 4 high 16\nflush 0\nstream 5 normal 16\nflush 0\n")) ≡ Ok (codes "order 1 1 0\norder 2 2 0\norder 3 3 0\norder 4 4 0\norder 5 5 0\nfinish 4 4\nfinish 2 2\nfinish 5 5\nfinish 1 1\nfinish 3 3\norder 2 6 2\nfinish 2 6\nstream 1 done entries 0 release 0 token 0 words 0 errors 0 0 0\nstream 2 done entries 0 release 0 token 0 words 0 errors 0 0 0\nstream 3 done entries 0 release 0 token 0 words 0 errors 0 0 0\nstream 4 done entries 0 release 0 token 0 words 0 errors 0 0 0\nstream 5 done entries 0 release 0 token 0 words 0 errors 0 0 0\n")
 unfolding headed checked decoded judged places_read copied fetched row_of outcome apply painted drawn first_texels lines_of words_of number_of named_on named_in none_said one_said two_said numbered_said named_said put_said fill_said pairs_of named_fence triples_of flush_said with_line with_stream may_follow added acting fresh with_memory with_results spans_with with_puts with_fill with_flush with_finish with_token with_close with_dump script_of from_head from_version from_body numbered first_words after_writes command_in transfer_bytes immediate_bytes asked effect_of acted stepped effect writes checked_state verdict world sync_of next events serial written numeral hex8 event_text journal_text stream_text head_text row_text image_text picture_text name_text mark_text dump_text output dump_lines
-two_texels = refl
+priorities = refl
