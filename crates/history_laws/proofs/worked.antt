@@ -17,3 +17,4 @@ mod ThreeErrors
 mod LostWithDump
 mod ClosesUnrun
 mod MayBeTold
+mod Applied
