@@ -40,10 +40,10 @@ no_marks : (plan : PlanData) → [] ≡ marks_between plan 0 0
 no_marks plan = refl
 
 -- no wait has ended, and none is pending
-fresh_marks : (p : PlansData) (base : ℕ) (marks : Marks) → marks ≡ record { base = base; marks = []; spare = 0 } → AreMarked p base [] marks
-fresh_marks p base marks is = record {
-  based = ap (λ (m : Marks). m.base) is;
-  all = ap (λ (m : Marks). m.marks) is ∙ ap (λ (g : List SyncEvent). map (mark.mark base) (endings (length p.plans) g)) (sym (sync_none p));
+fresh_marks : (p : PlansData) (base : ℕ) (marks : Marks) → marks.base ≡ base → marks.marks ≡ [] → AreMarked p base [] marks
+fresh_marks p base marks based none = record {
+  based = based;
+  all = none ∙ ap (λ (g : List SyncEvent). map (mark.mark base) (endings (length p.plans) g)) (sym (sync_none p));
   room = subst (λ (g : List SyncEvent). length (pending (length p.plans) g) ≤ marks.spare) (sym (sync_none p)) (omega arith);
 }
 
@@ -124,14 +124,14 @@ module _ {Results : Type 0} (takes : Results → ℕ → Bool) (told : Results �
 module _ {Side Note Results : Type 0} (side : Side → SideData) (table : Side → TableId) (mark : Note → ℕ) (takes : Results → ℕ → Bool) (told : Results → Option (List Written)) where
   pub fresh_house : (p : PlansData) (base : ℕ) (words books : List TableId) (marks : Marks) (core : CoreData) (sides : List Side) (slots : List (SlotData Side Note)) (results : List Results)
       → IsCore core → core.plans ≡ p → core.past ≡ [] → core.books ≡ books → core.outs ≡ replicate (length p.plans) at_home → AreFreshSides side table p.plans words sides → slots ≡ fresh_slots sides → AreFreshResults takes told p.plans results
-      → marks ≡ record { base = base; marks = []; spare = 0 } → HouseInvariant side table mark takes told p base words books marks record { core = core; slots = slots; results = results }
-  fresh_house p base words books marks core sides slots results holds plans past booked outs fresh made written_none none = record {
+      → marks.base ≡ base → marks.marks ≡ [] → HouseInvariant side table mark takes told p base words books marks record { core = core; slots = slots; results = results }
+  fresh_house p base words books marks core sides slots results holds plans past booked outs fresh made written_none based none = record {
     core = holds;
     plans = plans;
     booked = booked;
     slots = ap length made ∙ length-map sides fresh_slot ∙ as_many side table mark p.plans words sides fresh;
     homes = subst (homes.AllFit side table mark p (table_at words) core) (sym made) (fresh_homes side table mark p words core sides past outs fresh);
-    marked = subst (λ h. AreMarked p base h marks) (sym past) (fresh_marks p base marks none);
+    marked = subst (λ h. AreMarked p base h marks) (sym past) (fresh_marks p base marks based none);
     result_count = fresh_count takes told p.plans results written_none;
     results = subst (λ h. writings.AllFit takes told p h results) (sym past) (fresh_results takes told p results written_none);
   }

@@ -46,7 +46,8 @@ impl Report {
         requires { hooks.marks ≡ map (mark hooks.base) (endings_in core.plans core.past) }
         ensures { result ≡ record { plans = core.plans; base = hooks.base; past = core.past } }
     {
-        let (base, marks) = hooks.into_marks();
+        let (hook, marks) = hooks.into_marks();
+        let base = hook.base();
         Report { core, base, marks }
     }
 

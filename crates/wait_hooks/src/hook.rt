@@ -1,5 +1,6 @@
-ghost use Rattle.std.specs.Prelude.{◌≡◌, ℕ};
-ghost use Rattle.wait_hooks.specs.Marks.{mark};
+ghost use Rattle.std.specs.Prelude.{◌≡◌, ℕ, List, Option, None};
+ghost use Rattle.sync_core.specs.declared.ending.Ending.{Ending};
+ghost use Rattle.wait_hooks.specs.Marks.{mark, told_one_more};
 
 use crate::marks::mark;
 use std::marker::Model;
@@ -7,18 +8,24 @@ use sync_core::Ending;
 
 /// A callback for the end of a wait, which is stored and called once for each.
 ///
-/// Contracts see the base of its marks. It may do whatever it likes beside answering the mark.
+/// Contracts see the base of its marks, and the endings that it was told, where it tells them. It may do whatever it likes
+/// beside answering the mark.
 pub trait Hook: Drop {
     // The base of the marks.
     ghost base: { Self → ℕ };
+
+    // The endings that it was told, in order, where it tells them.
+    ghost told: { Self → Option (List Ending) } = { λ hook. None };
 
     /// The base of the marks.
     fn base(&self) -> u32
         ensures { result ≡ base self.now };
 
     /// A wait has ended. Answers its mark over the base.
-    fn ended(&self, ending: Ending) -> u32
-        ensures { result ≡ mark (base self.now) ending };
+    fn ended(&mut self, ending: Ending) -> u32
+        ensures mark { result ≡ mark (base self.old) ending }
+        ensures base { base self.new ≡ base self.old }
+        ensures told { told self.new ≡ told_one_more (told self.old) ending };
 }
 
 /// A callback that answers the mark, and does nothing else. Seen as its base.
@@ -51,7 +58,7 @@ impl Hook for Marker {
         self.base
     }
 
-    fn ended(&self, ending: Ending) -> u32 {
+    fn ended(&mut self, ending: Ending) -> u32 {
         mark(self.base, ending)
     }
 }

@@ -1,5 +1,5 @@
 ghost use Rattle.std.specs.Prelude.{◌≡◌, ◌+◌, ◌-◌, ◌<◌, [], ◌∷◌, ◌++◌, OnOk, OnErr};
-ghost use Rattle.wait_hooks.specs.Marks.{mark};
+ghost use Rattle.wait_hooks.specs.Marks.{mark, told_one_more};
 
 use crate::hook::Hook;
 use gpu_word::Memory;
@@ -9,7 +9,8 @@ use sync_core::Ending;
 
 /// The marks that a stored callback gave, in order.
 ///
-/// Contracts see the base of the marks, the marks, and for how many more there is room.
+/// Contracts see the base of the marks, the marks, for how many more there is room, and the endings that the callback was
+/// told, where it tells them.
 #[derive(Drop)]
 pub struct Hooks<H: Hook> {
     hook: H,
@@ -23,7 +24,7 @@ impl<H: Hook> Model for Hooks<H> {
 
     ghost Value = { Marks };
 
-    ghost view = { λ h. record { base = H.base h.hook; marks = h.marks.items; spare = h.spare } };
+    ghost view = { λ h. record { base = H.base h.hook; marks = h.marks.items; spare = h.spare; told = H.told h.hook } };
 
     ghost invariant = { λ h. vec_len h.marks + h.spare ≤ vec_capacity h.marks };
 }
@@ -31,7 +32,7 @@ impl<H: Hook> Model for Hooks<H> {
 impl<H: Hook> Hooks<H> {
     /// Hooks that have called nothing and have no room yet.
     pub fn make(alloc: Global, hook: H) -> Hooks<H>
-        ensures { result ≡ record { base = H.base hook; marks = []; spare = 0 } }
+        ensures { result ≡ record { base = H.base hook; marks = []; spare = 0; told = H.told hook } }
     {
         Hooks {
             hook,
@@ -64,7 +65,11 @@ impl<H: Hook> Hooks<H> {
     pub fn ended(&mut self, ending: Ending) -> u32
         requires room { 0 < self.old.spare }
         ensures mark { result ≡ mark self.old.base ending }
-        ensures kept { self.new ≡ record self.old { marks = self.old.marks ++ result ∷ []; spare = self.old.spare - 1 } }
+        // It is told once, and nothing else is.
+        ensures told { self.new.told ≡ told_one_more self.old.told ending }
+        ensures marks { self.new.marks ≡ self.old.marks ++ result ∷ [] }
+        ensures spare { self.new.spare ≡ self.old.spare - 1 }
+        ensures base { self.new.base ≡ self.old.base }
     {
         let mark = self.hook.ended(ending);
         self.marks.push_reserved(mark);
@@ -79,11 +84,12 @@ impl<H: Hook> Hooks<H> {
         self.marks.as_slice()
     }
 
-    /// The base of the marks, and the marks of the endings given, in order. The callback is dropped.
-    pub fn into_marks(self) -> (u32, Vec<u32>)
-        ensures base { result.0 ≡ self.base }
+    /// The callback, which is told no more, and the marks of the endings given, in order.
+    pub fn into_marks(self) -> (H, Vec<u32>)
+        ensures base { H.base result.0 ≡ self.base }
+        ensures told { H.told result.0 ≡ self.told }
         ensures marks { result.1.items ≡ self.marks }
     {
-        (self.hook.base(), self.marks)
+        (self.hook, self.marks)
     }
 }

@@ -27,7 +27,7 @@ impl Hook for Counting {
         self.base
     }
 
-    fn ended(&self, ending: Ending) -> u32 {
+    fn ended(&mut self, ending: Ending) -> u32 {
         self.calls.fetch_add(1, Ordering::SeqCst);
         crate::mark(self.base, ending)
     }
@@ -60,6 +60,10 @@ fn each_ending_calls_once_and_marks_wrap(rt: HostRuntime) -> Result<(), Fail> {
     assert_eq!(rt; hooks.ended(ending(u32::MAX, How::Closed)), 4294967293);
     assert_eq!(rt; calls.load(Ordering::SeqCst), 3);
     assert_eq!(rt; hooks.marks(), [4, 3, 4294967293].as_slice());
+    let (counting, marks) = hooks.into_marks();
+    assert_eq!(rt; calls.load(Ordering::SeqCst), 3);
+    assert_eq!(rt; counting.base(), 4294967295);
+    assert_eq!(rt; marks.as_slice(), [4, 3, 4294967293].as_slice());
     Ok(())
 }
 
@@ -69,8 +73,8 @@ fn the_plain_callback_answers_the_mark(rt: HostRuntime) -> Result<(), Fail> {
     assert!(rt; hooks.reserve(1).is_ok());
     assert_eq!(rt; hooks.ended(ending(7, How::Guard)), 1029);
     assert_eq!(rt; hooks.marks(), [1029].as_slice());
-    let (base, marks) = hooks.into_marks();
-    assert_eq!(rt; base, 1000);
+    let (marker, marks) = hooks.into_marks();
+    assert_eq!(rt; marker.base(), 1000);
     assert_eq!(rt; marks.as_slice(), [1029].as_slice());
     Ok(())
 }
