@@ -1,4 +1,4 @@
-ghost use Rattle.std.specs.Prelude.{◌≡◌, ◌<◌, [], ◌∷◌, ◌++◌, IsOk, IfOk, MatchResult};
+ghost use Rattle.std.specs.Prelude.{◌≡◌, ◌<◌, [], ◌∷◌, ◌++◌, IsOk, IfErr, IfOk, MatchResult};
 ghost use Rattle.gpu_cmd.specs.Lawful.{places_of};
 ghost use Rattle.shm_words.specs.Seen.{NoteData};
 ghost use Rattle.gpu_fetch.specs.Side.{MayFetch, with_words};
@@ -29,6 +29,8 @@ impl ServiceSide for ServicePass {
 
     ghost note_belongs = { IsNoteOf };
 
+    ghost wants = { ⊥ };
+
     ghost results_belong = { λ w r. Unit {0} };
 
     ghost reader_belongs = { λ w r. Unit {0} };
@@ -47,6 +49,7 @@ impl ServiceSide for ServicePass {
         ensures grows { MatchResult result (λ value. side_of self.new ≡ with_words (side_of self.old) ((place, value) ∷ []))
             (λ _. side_of self.new ≡ side_of self.old) }
         ensures may { IfOk result (λ value. MayFetch (side_of self.old) (place, value)) }
+        ensures memory { IfErr result (λ _. ⊥) }
         ensures belongs { IsOf self.new words.now }
         ensures notes { (n : NoteData) → IsNoteOf self.old words.now n → IsNoteOf self.new words.now n }
         ensures table { self.new.table ≡ self.old.table }

@@ -1,9 +1,14 @@
-ghost use Rattle.std.specs.Prelude.{◌≡◌, ◌≤◌, IfSome};
+ghost use Rattle.std.specs.Prelude.{◌≡◌, ◌≢◌, ◌≤◌, IfErr, IfSome};
+ghost use Rattle.gpu_cmd.specs.Lawful.{IsLawfulFacts};
+ghost use Rattle.gpu_fetch.specs.Fetched.{FetchesRows};
+ghost use Rattle.gpu_fetch.specs.Shared.{side_of, IsOf};
 
-use crate::{ServiceSide, fetch_command};
+use crate::{Fetched, ServiceSide, fetch_command};
 use gpu_cmd::{CmdError, StreamFacts};
 use gpu_plan::parse;
-use shm_words::{Acted, ClientPass, Note, SharedWords, make};
+use gpu_word::Memory;
+use shm_words::{Acted, ClientPass, Note, ServicePass, SharedWords, make};
+use std::alloc::Global;
 use std::test::Fail;
 
 /// A client that makes an image, and overwrites the header of the command behind its flush.
@@ -26,6 +31,22 @@ fn flushed(client: &mut ClientPass, words: &SharedWords) -> Option<Note>
     }
 }
 
+// A fetch of a command from words that a client may overwrite: where memory was wanted, whole rows were fetched.
+fn fetch_racing(
+    alloc: Global,
+    side: &mut ServicePass,
+    words: &SharedWords,
+    facts: &StreamFacts,
+) -> Result<Fetched, Memory>
+    requires belongs { IsOf side.old words.now }
+    requires lawful { IsLawfulFacts facts.now }
+    requires more { facts.now.get ≢ facts.now.put }
+    requires areas { facts.now.areas ≡ side.old.plan.areas }
+    ensures rows { IfErr result (λ _. FetchesRows (side_of side.old) (side_of side.new) facts.now) }
+{
+    fetch_command(alloc, side, words, facts)
+}
+
 #[test]
 fn a_header_that_was_overwritten_is_fetched_once(rt: HostRuntime) -> Result<(), Fail> {
     let plans = parse(rt.alloc(), OVERWRITES).ok().ok_or("a script")?;
@@ -46,7 +67,7 @@ fn a_header_that_was_overwritten_is_fetched_once(rt: HostRuntime) -> Result<(), 
     let note = flushed(&mut client, &words).ok_or("a flush")?;
     ServiceSide::meet(&mut side, &words, note);
     assert!(rt; client.act(&words) == Acted::Stored);
-    let found = fetch_command(rt.alloc(), &mut side, &words, &facts).ok();
+    let found = fetch_racing(rt.alloc(), &mut side, &words, &facts).ok();
     let found = found.ok_or("memory is ample")?;
     assert!(rt; found.words() == [(0, 0)].as_slice());
     assert_eq!(rt; found.verdict().err(), Some(CmdError::InvalidSize));
