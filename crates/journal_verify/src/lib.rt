@@ -16,6 +16,3 @@ mod watch;
 pub use laws::verdicts_exclude_one_another;
 pub use verdict::Verdict;
 pub use verifying::verify;
-
-#[cfg(test)]
-mod tests;

@@ -14,3 +14,5 @@ pub use laws::findings_exclude_one_another;
 
 #[cfg(test)]
 mod tests;
+#[cfg(test)]
+mod verdict_tests;

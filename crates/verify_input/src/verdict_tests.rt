@@ -1,5 +1,6 @@
-use crate::{JournalFault, Verdict, read_journal, verify};
 use gpu_plan::parse;
+use journal_reader::{JournalFault, read_journal};
+use journal_verify::{Verdict, verify};
 use std::alloc::Global;
 use std::test::Fail;
 
