@@ -2,7 +2,7 @@
 use Rattle.std.proofs.Common.{◌≡◌, ℕ, ◌^◌, ◌<◌, Bool, true, false, not, ◌&&◌, ◌==◌, cond, List, [], ◌∷◌, ◌++◌, length, drop, reverse, IsTrue, refl, sym, ap, subst, ◌∙◌, append_assoc}
 use Rattle.std.specs.Prelude.{codes}
 use Rattle.std.specs.List.{All, flat_map}
-use Rattle.std.proofs.lemmas.List.{reverse-reverse, reverse-append}
+use Rattle.std.proofs.lemmas.List.{append-nil, reverse-reverse, reverse-append}
 use Rattle.std.proofs.lemmas.List.Elements.{All-nil, All-push, All-weaker}
 use Rattle.gpu_cmd.specs.declared.name.Name.{Name}
 use Rattle.gpu_store.specs.Images.{Pictures}
@@ -19,20 +19,20 @@ use Rattle.gpu_journal.specs.declared.end.End.{End}
 use Rattle.gpu_journal.specs.Digits.{number_text}
 use Rattle.gpu_journal.specs.Text.{event_text, journal_text, stream_text, tally_of}
 use Rattle.gpu_journal.specs.Picture.{head_text, image_text, picture_text}
-use Rattle.gpu_journal.specs.Lines.{journal_head, name_text, mark_text}
+use Rattle.gpu_journal.specs.Lines.{journal_head, name_text, mark_text, dump_text}
 use Rattle.gpu_journal.specs.World.{state_of, replay}
 use Rattle.gpu_journal.specs.Waits.{endings_in}
 use Rattle.gpu_journal.specs.Facts.{flush_of, reach}
 use Rattle.gpu_journal.specs.Legal.{MayHaveBeenPut, Obeys, IsLegal}
 use Rattle.gpu_journal.specs.Output.{streams_of, end_of, head_lines, stream_lines, mark_lines, output}
+use Rattle.gpu_journal.specs.Dumps.{dumps_of, dump_line, dump_lines}
 use Rattle.gpu_journal.specs.Laws.{HasWords, is_other}
 use Rattle.gpu_journal.proofs.Numerals.{behind_first, number_cut}
-use Rattle.gpu_journal.proofs.Others.{picture_begins}
 use Rattle.gpu_journal.proofs.Telling.{output_tells}
 use Rattle.serial_laws.specs.Scripts.{AreLawfulPlans}
 use Rattle.serial_laws.proofs.Passed.{lawful_of}
 use Rattle.serial_laws.proofs.Spent.{obeys_known}
-use Rattle.history_laws.specs.Laws.{SameOutputIsSameHistory}
+use Rattle.history_laws.specs.Laws.{SameOutputIsSameHistory, SameRunIsSameHistory}
 
 -- ---- the words of a legal history have 32 bits
 
@@ -57,27 +57,7 @@ events_small p [] lawful legal = All-nil HasWords
 events_small p (e ∷ h) lawful legal =
     subst (All HasWords) (sym (reverse-append (e ∷ []) h)) (All-push HasWords (reverse h) e (events_small p h lawful legal.1) (event_small p e h lawful legal.1 legal.0))
 
--- ---- what stands behind the journal
-
-marks_begin : (mark : Ending → ℕ) (endings : List Ending) → IsTrue (is_other (flat_map (λ ending. mark_text ending (mark ending)) endings))
-unfolding mark_text
-marks_begin mark [] = refl
-marks_begin mark (ending ∷ endings) = refl
-
-streams_begin : (tally : ℕ → Tally) (end : ℕ → End) (streams : List ℕ) (behind : List ℕ) → IsTrue (is_other behind) → IsTrue (is_other (flat_map (λ s. stream_text s (tally s) (end s)) streams ++ behind))
-unfolding stream_text
-streams_begin tally end [] behind other = other
-streams_begin tally end (s ∷ streams) behind other = refl
-
-abbrev behind_journal : PlansData → (Ending → ℕ) → List Event → List ℕ
-behind_journal p mark h = picture_text (replay p h) ++ (stream_lines p h ++ mark_lines p mark h)
-
-behind_begins : (p : PlansData) (mark : Ending → ℕ) (h : List Event) → IsTrue (is_other (behind_journal p mark h))
-behind_begins p mark h =
-    picture_begins (replay p h) (stream_lines p h ++ mark_lines p mark h)
-    (streams_begin (λ s. tally_of (state_of p h s)) (end_of h) (streams_of p) (mark_lines p mark h) (marks_begin mark (endings_in p h)))
-
--- ---- heads and names
+-- ---- what stands behind the head, and what behind the journal
 
 -- the first byte, or 0
 abbrev first : List ℕ → ℕ
@@ -88,37 +68,62 @@ first (b ∷ rest) = b
 abbrev is_apart : List ℕ → Bool
 is_apart x = not (first x == 103) && not (first x == 110)
 
-marks_apart : (mark : Ending → ℕ) (endings : List Ending) → is_apart (flat_map (λ ending. mark_text ending (mark ending)) endings) ≡ true
+-- the text can stand behind a journal, and be told from head lines too
+abbrev CanFollow : List ℕ → Type 0
+CanFollow x = IsTrue (is_other x) × (is_apart x ≡ true)
+
+dumps_follow : (p : PlansData) (h : List Event) (s : ℕ) (dumps : List (ℕ × ℕ)) (behind : List ℕ) → CanFollow behind → CanFollow (flat_map (dump_line p h s) dumps ++ behind)
+unfolding dump_text
+dumps_follow p h s [] behind can = can
+dumps_follow p h s (dump ∷ dumps) behind can = (refl, refl)
+
+all_dumps_follow : (p : PlansData) (h : List Event) (streams : List ℕ) → CanFollow (flat_map (λ s. flat_map (dump_line p h s) (dumps_of p h s)) streams)
+all_dumps_follow p h [] = (refl, refl)
+all_dumps_follow p h (s ∷ streams) = dumps_follow p h s (dumps_of p h s) (flat_map (λ s. flat_map (dump_line p h s) (dumps_of p h s)) streams) (all_dumps_follow p h streams)
+
+lines_follow : (p : PlansData) (h : List Event) → CanFollow (dump_lines p h)
+unfolding dump_lines
+lines_follow p h = all_dumps_follow p h (streams_of p)
+
+marks_follow : (mark : Ending → ℕ) (endings : List Ending) (behind : List ℕ) → CanFollow behind → CanFollow (flat_map (λ ending. mark_text ending (mark ending)) endings ++ behind)
 unfolding mark_text
-marks_apart mark [] = refl
-marks_apart mark (ending ∷ endings) = refl
+marks_follow mark [] behind can = can
+marks_follow mark (ending ∷ endings) behind can = (refl, refl)
 
-streams_apart : (tally : ℕ → Tally) (end : ℕ → End) (streams : List ℕ) (behind : List ℕ) → is_apart behind ≡ true → is_apart (flat_map (λ s. stream_text s (tally s) (end s)) streams ++ behind) ≡ true
+streams_follow : (tally : ℕ → Tally) (end : ℕ → End) (streams : List ℕ) (behind : List ℕ) → CanFollow behind → CanFollow (flat_map (λ s. stream_text s (tally s) (end s)) streams ++ behind)
 unfolding stream_text
-streams_apart tally end [] behind other = other
-streams_apart tally end (s ∷ streams) behind other = refl
+streams_follow tally end [] behind can = can
+streams_follow tally end (s ∷ streams) behind can = (refl, refl)
 
-picture_apart : (images : Pictures) (behind : List ℕ) → is_apart behind ≡ true → is_apart (picture_text images ++ behind) ≡ true
+pictures_follow : (images : Pictures) (behind : List ℕ) → CanFollow behind → CanFollow (picture_text images ++ behind)
 unfolding picture_text image_text head_text
-picture_apart [] behind other = other
-picture_apart (entry ∷ images) behind other = refl
+pictures_follow [] behind can = can
+pictures_follow (entry ∷ images) behind can = (refl, refl)
 
-journal_apart : (events : List Event) (behind : List ℕ) → is_apart behind ≡ true → is_apart (journal_text events ++ behind) ≡ true
+abbrev behind_journal : PlansData → (Ending → ℕ) → List Event → List ℕ → List ℕ
+behind_journal p mark h x = picture_text (replay p h) ++ (stream_lines p h ++ (mark_lines p mark h ++ x))
+
+journal_follows : (p : PlansData) (mark : Ending → ℕ) (h : List Event) (x : List ℕ) → CanFollow x → CanFollow (behind_journal p mark h x)
+journal_follows p mark h x can =
+    pictures_follow (replay p h) (stream_lines p h ++ (mark_lines p mark h ++ x))
+    (streams_follow (λ s. tally_of (state_of p h s)) (end_of h) (streams_of p) (mark_lines p mark h ++ x) (marks_follow mark (endings_in p h) x can))
+
+events_apart : (events : List Event) (behind : List ℕ) → is_apart behind ≡ true → is_apart (journal_text events ++ behind) ≡ true
 unfolding journal_text event_text
-journal_apart [] behind other = other
-journal_apart (Order s n c ∷ events) behind other = refl
-journal_apart (Step s words ∷ events) behind other = refl
-journal_apart (Finish s n ∷ events) behind other = refl
-journal_apart (Lost s why words ∷ events) behind other = refl
-journal_apart (Close s ∷ events) behind other = refl
+events_apart [] behind apart = apart
+events_apart (Order s n c ∷ events) behind apart = refl
+events_apart (Step s words ∷ events) behind apart = refl
+events_apart (Finish s n ∷ events) behind apart = refl
+events_apart (Lost s why words ∷ events) behind apart = refl
+events_apart (Close s ∷ events) behind apart = refl
 
-abbrev behind_head : PlansData → (Ending → ℕ) → List Event → List ℕ
-behind_head p mark h = journal_text (reverse h) ++ behind_journal p mark h
+abbrev behind_head : PlansData → (Ending → ℕ) → List Event → List ℕ → List ℕ
+behind_head p mark h x = journal_text (reverse h) ++ behind_journal p mark h x
 
-head_apart : (p : PlansData) (mark : Ending → ℕ) (h : List Event) → is_apart (behind_head p mark h) ≡ true
-head_apart p mark h =
-    journal_apart (reverse h) (behind_journal p mark h) (picture_apart (replay p h) (stream_lines p h ++ mark_lines p mark h)
-    (streams_apart (λ s. tally_of (state_of p h s)) (end_of h) (streams_of p) (mark_lines p mark h) (marks_apart mark (endings_in p h))))
+head_apart : (p : PlansData) (mark : Ending → ℕ) (h : List Event) (x : List ℕ) → CanFollow x → is_apart (behind_head p mark h x) ≡ true
+head_apart p mark h x can = events_apart (reverse h) (behind_journal p mark h x) (journal_follows p mark h x can).1
+
+-- ---- heads and names
 
 five_flat : (a b c d e : List ℕ) → (((a ++ b) ++ c) ++ d) ++ e ≡ a ++ (b ++ (c ++ (d ++ e)))
 five_flat a b c d e = simp append_assoc
@@ -166,13 +171,23 @@ heads_cut p q true true x y ax ay e =
 
 -- ---- the whole output
 
-output_flat : (p : PlansData) (mark : Ending → ℕ) (h : List Event) → output p mark h ≡ head_lines p ++ behind_head p mark h
+six_flat : (a b c d e x : List ℕ) → ((((a ++ b) ++ c) ++ d) ++ e) ++ x ≡ a ++ (b ++ (c ++ (d ++ (e ++ x))))
+six_flat a b c d e x = simp append_assoc
+
+output_flat : (p : PlansData) (mark : Ending → ℕ) (h : List Event) (x : List ℕ) → output p mark h ++ x ≡ head_lines p ++ behind_head p mark h x
 unfolding output
-output_flat p mark h = five_flat (head_lines p) (journal_text (reverse h)) (picture_text (replay p h)) (stream_lines p h) (mark_lines p mark h)
+output_flat p mark h x = six_flat (head_lines p) (journal_text (reverse h)) (picture_text (replay p h)) (stream_lines p h) (mark_lines p mark h) x
+
+same_text : (p q : PlansData) (mark other : Ending → ℕ) (g h : List Event) (x y : List ℕ) → AreLawfulPlans p → AreLawfulPlans q → IsLegal p g → IsLegal q h → CanFollow x → CanFollow y → output p mark g ++ x ≡ output q other h ++ y → g ≡ h
+same_text p q mark other g h x y lawful lawful' legal legal' can can' e =
+    let flat : head_lines p ++ behind_head p mark g x ≡ head_lines q ++ behind_head q other h y = sym (output_flat p mark g x) ∙ e ∙ output_flat q other h y in
+    let rest = heads_cut p q (p.version == 2) (q.version == 2) (behind_head p mark g x) (behind_head q other h y) (head_apart p mark g x can) (head_apart q other h y can') flat in
+    let same = output_tells (reverse g) (reverse h) (behind_journal p mark g x) (behind_journal q other h y) (events_small p g lawful legal) (events_small q h lawful' legal') (journal_follows p mark g x can).0 (journal_follows q other h y can').0 rest in
+    sym (reverse-reverse g) ∙ ap reverse same.0 ∙ reverse-reverse h
 
 pub same_output_is_same_history : SameOutputIsSameHistory
 same_output_is_same_history p q mark other g h lawful lawful' legal legal' e =
-    let flat : head_lines p ++ behind_head p mark g ≡ head_lines q ++ behind_head q other h = sym (output_flat p mark g) ∙ e ∙ output_flat q other h in
-    let rest = heads_cut p q (p.version == 2) (q.version == 2) (behind_head p mark g) (behind_head q other h) (head_apart p mark g) (head_apart q other h) flat in
-    let same = output_tells (reverse g) (reverse h) (behind_journal p mark g) (behind_journal q other h) (events_small p g lawful legal) (events_small q h lawful' legal') (behind_begins p mark g) (behind_begins q other h) rest in
-    sym (reverse-reverse g) ∙ ap reverse same.0 ∙ reverse-reverse h
+    same_text p q mark other g h [] [] lawful lawful' legal legal' (refl, refl) (refl, refl) (append-nil (output p mark g) ∙ e ∙ sym (append-nil (output q other h)))
+
+pub same_run_is_same_history : SameRunIsSameHistory
+same_run_is_same_history p q mark other g h lawful lawful' legal legal' e = same_text p q mark other g h (dump_lines p g) (dump_lines q h) lawful lawful' legal legal' (lines_follow p g) (lines_follow q h) e

@@ -47,6 +47,11 @@ abbrev pub SameOutputIsSameHistory : Type 0
 SameOutputIsSameHistory = (p q : PlansData) (mark other : Ending → ℕ) (g h : List Event) → AreLawfulPlans p → AreLawfulPlans q → IsLegal p g → IsLegal q h
     → output p mark g ≡ output q other h → g ≡ h
 
+-- and so they are where their dumps are printed behind it
+abbrev pub SameRunIsSameHistory : Type 0
+SameRunIsSameHistory = (p q : PlansData) (mark other : Ending → ℕ) (g h : List Event) → AreLawfulPlans p → AreLawfulPlans q → IsLegal p g → IsLegal q h
+    → output p mark g ++ dump_lines p g ≡ output q other h ++ dump_lines q h → g ≡ h
+
 -- ---- the number of events
 
 -- a serial history has no more events than this

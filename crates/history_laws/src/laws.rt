@@ -1,4 +1,4 @@
-ghost use Rattle.history_laws.specs.Laws.{ScriptsAreLawful, ScriptsRunLegally, ScriptsRunToTheEnd, DumpsMayBeTold, LaterMayBeTold, SameOutputIsSameHistory, SerialIsShort, MostEventsAreFew, SixAlwaysHolds};
+ghost use Rattle.history_laws.specs.Laws.{ScriptsAreLawful, ScriptsRunLegally, ScriptsRunToTheEnd, DumpsMayBeTold, LaterMayBeTold, SameOutputIsSameHistory, SameRunIsSameHistory, SerialIsShort, MostEventsAreFew, SixAlwaysHolds};
 
 /// The law of scripts: the plans of each text that is a script are lawful, so its serial history is legal and complete.
 #[tactic(auto, using(crate::proofs::Scripts::scripts_are_lawful, crate::proofs::Runs::scripts_run_legally, crate::proofs::Runs::scripts_run_to_the_end))]
@@ -16,10 +16,12 @@ pub fn dumps_may_be_told()
     ensures later { LaterMayBeTold }
 {}
 
-/// The law of the whole output: it tells its history, in either version, and with no look at the script.
-#[tactic(auto, using(crate::proofs::Outputs::same_output_is_same_history))]
+/// The law of the whole output: it tells its history, in either version, and with no look at the script. So does an output
+/// with the lines of its dumps behind it, which is what a run prints.
+#[tactic(auto, using(crate::proofs::Outputs::same_output_is_same_history, crate::proofs::Outputs::same_run_is_same_history))]
 pub fn outputs_tell_histories()
-    ensures { SameOutputIsSameHistory }
+    ensures output { SameOutputIsSameHistory }
+    ensures dumps { SameRunIsSameHistory }
 {}
 
 /// The law of the number of events: the serial history of a script has at most 409,800,016.

@@ -46,7 +46,7 @@ use Rattle.gpu_journal.specs.Output.{output}
 use Rattle.serial_laws.specs.Scripts.{AreLawfulPlans}
 use Rattle.serial_laws.specs.Going.{wants_memory}
 use Rattle.serial_laws.specs.Laws.{UnfinishedHasEvent, SerialWantsNoMemory}
-use Rattle.history_laws.specs.Laws.{ScriptsAreLawful, ScriptsRunLegally, ScriptsRunToTheEnd, DumpsMayBeTold, LaterMayBeTold, SameOutputIsSameHistory, SerialIsShort, MostEventsAreFew, SixAlwaysHolds}
+use Rattle.history_laws.specs.Laws.{ScriptsAreLawful, ScriptsRunLegally, ScriptsRunToTheEnd, DumpsMayBeTold, LaterMayBeTold, SameOutputIsSameHistory, SameRunIsSameHistory, SerialIsShort, MostEventsAreFew, SixAlwaysHolds}
 
 clash : (b : Bool) → b ≡ true → b ≡ false → ⊥
 clash b x y = cc
@@ -198,6 +198,12 @@ one_later law p e h s dump enough = (law p (e ∷ []) [] h s dump enough, law p 
 -- two callbacks do not hide a difference of histories
 same_history : SameOutputIsSameHistory → (p : PlansData) (mark other : Ending → ℕ) (g h : List Event) → AreLawfulPlans p → IsLegal p g → IsLegal p h → output p mark g ≡ output p other h → g ≡ h
 same_history law p mark other g h lawful legal also same = law p p mark other g h lawful lawful legal also same
+
+-- and serial histories whose whole text is the same are the same
+same_runs : SameRunIsSameHistory → ScriptsRunLegally → ScriptsAreLawful → (text other : List ℕ) (p q : PlansData) (mark : Ending → ℕ) → script_of text ≡ Ok p → script_of other ≡ Ok q → output p mark (serial p) ++ dump_lines p (serial p) ≡ output q mark (serial q) ++ dump_lines q (serial q) → serial p ≡ serial q
+same_runs law legal lawful text other p q mark is its same =
+    law p q mark mark (serial p) (serial q) (of_script AreLawfulPlans (script_of text) p (lawful text) is) (of_script AreLawfulPlans (script_of other) q (lawful other) its)
+    (of_script (λ p. IsLegal p (serial p)) (script_of text) p (legal text) is) (of_script (λ p. IsLegal p (serial p)) (script_of other) q (legal other) its) same
 
 -- a number that can be finished is of a flush that its client can have come to
 finish_reached : SixAlwaysHolds → (p : PlansData) (g : List Event) (s n : ℕ) → AreLawfulPlans p → IsLegal p g → first_order (left_of p g s) ≡ Some n → is_blocked s (left_of p g s) (pending_in p g) ≡ false → flush_of p g s ≤ reach p g s
