@@ -13,3 +13,4 @@ pub mod Keeping
 pub mod Ordering
 pub mod Fresh
 pub mod Idle
+mod Applied

@@ -8,3 +8,4 @@ pub mod Ensuing
 pub mod Ending
 pub mod Taking
 pub mod Firsts
+mod Applied

@@ -11,3 +11,4 @@ pub mod Reaches
 pub mod Cores
 pub mod Choosing
 pub mod Runs
+mod Applied

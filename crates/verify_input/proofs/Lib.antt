@@ -4,3 +4,4 @@ pub mod Heads
 pub mod Counts
 pub mod Joining
 pub mod Onlys
+mod Applied
