@@ -28,7 +28,7 @@ pub All-pending : (n : ℕ) (h : List SyncEvent) → All (λ w. still (standing 
 All-pending n [] = All-nil (λ w. still (standing []) w ≡ true)
 All-pending n (e ∷ h) = filter_passes (still (standing (e ∷ h))) (added n e.0 e.1 h (pending n h))
 
-and_parts : (a b c : Bool) → (a && (b && c)) ≡ true → (a ≡ true) × (b ≡ true) × (c ≡ true)
+pub and_parts : (a b c : Bool) → (a && (b && c)) ≡ true → (a ≡ true) × (b ≡ true) × (c ≡ true)
 and_parts true true true e = (refl, refl, refl)
 and_parts true true false e = absurd (cc)
 and_parts true false c e = absurd (cc)
@@ -52,7 +52,7 @@ ends_not f w e = not_ended (contains_number w.order (f w.stream).left) (is_held 
 abbrev Grows : Standing → Standing → Type 0
 Grows old new = (new.release ≡ old.release) × ((p : Number → Bool) → list_any p old.left ≡ true → ((x : Number) (k : ℕ) → p record { order = x.order; made = k } ≡ p x) → list_any p new.left ≡ true)
 
-or_true : (a b : Bool) → a ≡ true → (a || b) ≡ true
+pub or_true : (a b : Bool) → a ≡ true → (a || b) ≡ true
 or_true true b e = refl
 or_true false b e = absurd (cc)
 
@@ -86,7 +86,7 @@ none_end n e h grows new =
       ap (λ (l : List Wait). endings n h ++ map (ending_of (standing (e ∷ h))) l) (filter_none (ends (standing (e ∷ h))) (pending n h) olds) ∙ append-nil (endings n h),
     )
 
-eqb_self : (n : ℕ) → eqb n n ≡ true
+pub eqb_self : (n : ℕ) → eqb n n ≡ true
 eqb_self n = grind (arith, nat_tests)
 
 pub kept_parts : (a b c d e : Bool) → (a && (not b && (c && (d && e)))) ≡ true → (b ≡ false) × (d ≡ true) × (e ≡ true)
@@ -149,7 +149,7 @@ ordered_ends n s fs h =
     let olds = All-weaker (λ w. still (standing h) w ≡ true) (λ w. still (standing (e ∷ h)) w ≡ true) (still_grows (standing h) (standing (e ∷ h)) grows) (pending n h) (All-pending n h) in
     none_end n e h grows (All-append (λ w. still (standing (e ∷ h)) w ≡ true) (pending n h) (judged n (standing h) s m 0 fs) olds news)
 
-has_front : (xs : List Number) → 0 < length xs → contains_number (front_of xs) xs ≡ true
+pub has_front : (xs : List Number) → 0 < length xs → contains_number (front_of xs) xs ≡ true
 has_front [] h = absurd (omega arith)
 has_front (x ∷ xs) h = or_true (eqb x.order x.order) (list_any (λ (y : Number). eqb y.order x.order) xs) (eqb_self x.order)
 

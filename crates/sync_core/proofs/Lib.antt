@@ -7,3 +7,11 @@ pub mod Ended
 pub mod Rising
 pub mod Targets
 pub mod Theorems
+pub mod Alike
+pub mod Exact
+pub mod Taking
+pub mod First
+pub mod Finding
+pub mod Placing
+pub mod Going
+pub mod Judging

@@ -1,5 +1,5 @@
 -- The unprocessed numbers: drawn ones, positive, rising, and different from stream to stream.
-use Rattle.std.proofs.Common.{◌≡◌, ◌≢◌, ℕ, ◌+◌, ◌<◌, ◌≤◌, drop, length, get_or, map, eqb, Bool, true, false, ◌||◌, cond, List, [], ◌∷◌, ◌++◌, refl, sym, subst, arith}
+use Rattle.std.proofs.Common.{◌≡◌, ◌≢◌, ℕ, ◌+◌, ◌<◌, ◌≤◌, drop, length, get_or, map, eqb, Bool, true, false, ◌||◌, cond, List, [], ◌∷◌, ◌++◌, refl, sym, ap, subst, ◌∙◌, arith}
 use Rattle.std.specs.Prelude.{nat_lt, All, AllPairs, Some}
 use Rattle.std.specs.List.{list_any}
 use Rattle.std.proofs.lemmas.List.Folds.{Any-from_list_any}
@@ -7,7 +7,7 @@ use Rattle.std.proofs.lemmas.List.Kept.{AllPairs-cons}
 use Rattle.std.proofs.lemmas.List.Elements.{All-weaker, All-nil, All-cons, All-append, All-head, All-tail, All-drop, All-map}
 use Rattle.std.proofs.lemmas.Bool.Decides.{nat_tests}
 use Rattle.sync_core.specs.declared.wait.Number.{Number}
-use Rattle.sync_core.specs.Standing.{Standing, first_order, bumped}
+use Rattle.sync_core.specs.Standing.{Standing, Rises, has_below, first_order, bumped}
 use Rattle.sync_core.specs.Events.{Deed, Ordered, Waited, Released, Finished, WasLost, WasClosed, SyncEvent, orders, drawn_after, moved, standing}
 
 -- Q holds of each of these numbers
@@ -63,12 +63,7 @@ pub left_positive : (h : List SyncEvent) (t : ℕ) → Each (λ m. 0 < m) (stand
 left_positive [] t = All-nil (λ (y : Number). 0 < y.order)
 left_positive (e ∷ h) t = each_after (λ m. 0 < m) e h t (left_positive h t) (λ own. omega arith)
 
--- each number is below all later ones
-abbrev pub Rises : List Number → Type 0
-Rises [] = Unit {0}
-Rises (x ∷ xs) = All (λ (y : Number). x.order < y.order) xs × Rises xs
-
-rises_push : (n k : ℕ) (xs : List Number) → Each (λ m. m < n) xs → Rises xs → Rises (xs ++ record { order = n; made = k } ∷ [])
+pub rises_push : (n k : ℕ) (xs : List Number) → Each (λ m. m < n) xs → Rises xs → Rises (xs ++ record { order = n; made = k } ∷ [])
 rises_push n k [] low up = (All-nil (λ (y : Number). n < y.order), tt)
 rises_push n k (x ∷ xs) low up = (
   All-append (λ (y : Number). x.order < y.order) xs _ up.0 (All-cons (λ (y : Number). x.order < y.order) record { order = n; made = k } [] (All-head (λ (y : Number). y.order < n) x xs low) (All-nil (λ (y : Number). x.order < y.order))),
@@ -131,6 +126,30 @@ first_below n (x ∷ xs) up some = (x.order, refl, below (nat_lt x.order n) refl
       where
         below_of : (a b : ℕ) → nat_lt a b ≡ true → a < b
         below_of a b e = grind (arith, nat_tests)
+
+-- so the first one tells whether one is below n
+pub below_first : (n : ℕ) (x : Number) (xs : List Number) → Rises (x ∷ xs) → has_below n (x ∷ xs) ≡ nat_lt x.order n
+below_first n x xs up = by (nat_lt x.order n) (has_below n xs) refl refl
+  where
+    or_true : (a : Bool) → (a || true) ≡ true
+    or_true true = refl
+    or_true false = refl
+
+    not_low : (a b : ℕ) → a < b → nat_lt a b ≡ false → ⊥
+    not_low a b lt e = absurd (grind (arith, nat_tests))
+
+    by : (a b : Bool) → nat_lt x.order n ≡ a → has_below n xs ≡ b → (a || b) ≡ a
+    by true b e k = refl
+    by false false e k = refl
+    by false true e k =
+        let m = first_below n (x ∷ xs) up (ap (λ (c : Bool). nat_lt x.order n || c) k ∙ or_true (nat_lt x.order n)) in
+        let is = m.1 in
+        let same : x.order ≡ m.0 = cc in
+        absurd (not_low x.order n (subst (λ (j : ℕ). j < n) (sym same) m.2) e)
+
+pub below_at : (n : ℕ) (x : Number) (xs : List Number) → Rises xs → true ≡ nat_lt 0 (length xs) → x ≡ get_or xs 0 x → nat_lt x.order n ≡ has_below n xs
+below_at n x [] up some e = absurd (cc)
+below_at n x (y ∷ ys) up some e = ap (λ (z : Number). nat_lt z.order n) e ∙ sym (below_first n y ys up)
 
 -- the numbers as a list of ℕ rise
 pub map_rises : (xs : List Number) → Rises xs → AllPairs (λ a b. a < b) (map (λ (x : Number). x.order) xs)

@@ -7,14 +7,15 @@ use Rattle.std.proofs.lemmas.List.Elements.{All-weaker, All-nil, All-cons, All-a
 use Rattle.std.proofs.lemmas.Bool.Decides.{nat_tests}
 use Rattle.sync_core.specs.declared.wait.Number.{Number}
 use Rattle.sync_core.specs.declared.wait.Wait.{Wait}
-use Rattle.sync_core.specs.Standing.{Standing, is_known, is_open, has_below, front_of, made_of, bumped}
+use Rattle.sync_core.specs.Standing.{Standing, Rises, is_known, is_open, has_below, front_of, made_of, bumped}
 use Rattle.sync_core.specs.Events.{Deed, Ordered, Waited, Released, Finished, WasLost, WasClosed, SyncEvent, orders, moved, standing}
 use Rattle.sync_core.specs.Pending.{is_kept, still, judged, placed, wait_of, added, kept_waits, pending}
 use Rattle.sync_core.specs.Laws.{Precedes, WaitsRise}
-use Rattle.sync_core.proofs.Numbers.{Each, Rises, left_drawn, left_positive, left_rises, left_differ}
+use Rattle.sync_core.proofs.Numbers.{Each, left_drawn, left_positive, left_rises, left_differ}
 use Rattle.sync_core.proofs.Waits.{news, added_all}
 use Rattle.sync_core.proofs.Ended.{kept_drawn, pending_kept}
 use Rattle.sync_core.proofs.Keeps.{All-placed, kept_parts}
+use Rattle.sync_core.proofs.Placing.{placed_step}
 
 -- each wait precedes all later ones
 abbrev Sorted : List Wait → Type 0
@@ -39,14 +40,6 @@ sorted_append (w ∷ ws) vs up later apart = (
 sorted_pairs : (ws : List Wait) → Sorted ws → AllPairs Precedes ws
 sorted_pairs [] up = λ i j d lt in_range. absurd (omega arith)
 sorted_pairs (w ∷ ws) up = AllPairs-cons Precedes w ws up.0 (sorted_pairs ws up.1)
-
-placed_step : (w v : Wait) (vs : List Wait) → placed w (v ∷ vs) ≡ cond (nat_lt w.order v.order) (w ∷ v ∷ vs) (v ∷ placed w vs)
-placed_step w v vs = by (nat_lt w.order v.order) (1 + position_or_len (λ (u : Wait). nat_lt w.order u.order) vs) (omega arith)
-  where
-    by : (b : Bool) (m : ℕ) → m ≡ suc (position_or_len (λ (u : Wait). nat_lt w.order u.order) vs)
-        → take (cond (not b) m 0) (v ∷ vs) ++ w ∷ drop (cond (not b) m 0) (v ∷ vs) ≡ cond b (w ∷ v ∷ vs) (v ∷ placed w vs)
-    by true m e = refl
-    by false m e = ap (λ (k : ℕ). take k (v ∷ vs) ++ w ∷ drop k (v ∷ vs)) e
 
 is_below : (a b : ℕ) → nat_lt a b ≡ true → a < b
 is_below a b e = grind (arith, nat_tests)
@@ -124,7 +117,7 @@ news_fresh n s Finished h = All-nil (Fresh Finished s h)
 news_fresh n s WasLost h = All-nil (Fresh WasLost s h)
 news_fresh n s WasClosed h = All-nil (Fresh WasClosed s h)
 
-pending_drawn : (n : ℕ) (h : List SyncEvent) → All (λ (w : Wait). w.order ≤ orders h) (pending n h)
+pub pending_drawn : (n : ℕ) (h : List SyncEvent) → All (λ (w : Wait). w.order ≤ orders h) (pending n h)
 pending_drawn n h = All-weaker (Contains (kept_waits n h)) (λ (w : Wait). w.order ≤ orders h) (λ w c. All-contains (λ (v : Wait). v.order ≤ orders h) (kept_waits n h) w (kept_drawn n h) c) (pending n h) (pending_kept n h)
 
 -- the waits of a number have positions below the number of its waits, among those that were there and the new ones
@@ -185,7 +178,8 @@ other_counted n s Finished h t off was = none_new (pending n h) (standing h t).l
 other_counted n s WasLost h t off was = none_new (pending n h) (standing h t).left was
 other_counted n s WasClosed h t off was = none_new (pending n h) (standing h t).left was
 
-positions : (n : ℕ) (h : List SyncEvent) (t : ℕ) → All (λ (x : Number). All (Before x.order x.made) (pending n h)) (standing h t).left
+-- each pending wait has a position below the number of the waits of its number
+pub positions : (n : ℕ) (h : List SyncEvent) (t : ℕ) → All (λ (x : Number). All (Before x.order x.made) (pending n h)) (standing h t).left
 positions n [] t = All-nil (λ (x : Number). All (Before x.order x.made) [])
 positions n (e ∷ h) t =
     All-weaker (Counted (pending n h) (news n e.0 e.1 h)) (λ (x : Number). All (Before x.order x.made) (pending n (e ∷ h)))

@@ -2,13 +2,16 @@
 #![tactic(auto)]
 
 mod ending;
+mod ends;
 mod judge;
 mod judged;
+mod keys;
 mod laws;
+mod queues;
 mod stream;
-mod sweep;
 mod sync;
 mod wait;
+mod which;
 
 pub use ending::{Ending, How};
 pub use judged::{Judged, OrderFault};

@@ -1,12 +1,13 @@
-ghost use Rattle.std.specs.Prelude.{◌≡◌, ◌+◌, ◌<◌, ◌^◌, [], ◌∷◌, ◌++◌, length, max, drop, true, OnOk, OnErr, MatchOption};
-ghost use Rattle.sync_core.specs.Standing.{Standing, nobody, contains_number, has_below, is_open, first_order, front_of, made_of, bumped};
+ghost use Rattle.std.specs.Prelude.{◌≡◌, ◌+◌, ◌<◌, ◌^◌, All, [], ◌∷◌, ◌++◌, length, max, drop, true, OnOk, OnErr, MatchOption};
+ghost use Rattle.sync_core.specs.declared.wait.Number.{Number};
+ghost use Rattle.sync_core.specs.Standing.{Standing, nobody, has_below, is_open, first_order, front_of, made_of, bumped};
 
 use crate::wait::Number;
 use std::alloc::{AllocError, Global};
 use std::collections::VecDeque;
 use std::marker::Model;
 
-/// What is known of one stream.
+/// What is known of one stream. Its unprocessed numbers rise.
 #[derive(Drop)]
 pub struct Stream {
     release: u64,
@@ -16,11 +17,13 @@ pub struct Stream {
 }
 
 impl Model for Stream {
-    ghost use Rattle.sync_core.specs.Standing.{Standing};
+    ghost use Rattle.sync_core.specs.Standing.{Standing, Rises};
 
     ghost Value = { Standing };
 
     ghost view = { λ s. record { release = s.release; lost = s.lost; closed = s.closed; left = s.left.items } };
+
+    ghost invariant = { λ s. Rises s.left.items };
 }
 
 impl Stream {
@@ -36,18 +39,14 @@ impl Stream {
         }
     }
 
-    /// Whether a number is unprocessed.
-    pub fn contains(&self, order: u32) -> bool
-        ensures { result ≡ contains_number order self.now.left }
-    {
-        self.left.iter().any(|x| x.order == order)
-    }
-
-    /// Whether a lower number is unprocessed.
+    /// Whether a lower number is unprocessed, which the first one tells.
     pub fn has_below(&self, order: u32) -> bool
         ensures { result ≡ has_below order self.now.left }
     {
-        self.left.iter().any(|x| x.order < order)
+        match self.left.front() {
+            Some(first) => first.order < order,
+            None => false,
+        }
     }
 
     /// The greatest release so far.
@@ -95,8 +94,9 @@ impl Stream {
         }
     }
 
-    /// Adds a number of which so many waits were made.
+    /// Adds a number above all others, of which so many waits were made.
     pub fn push(&mut self, order: u32, made: u64) -> Result<(), AllocError>
+        requires { All (λ (x : Number). x.order < order) self.old.left }
         ensures ok { OnOk result (self.new ≡ record self.old { left = self.old.left ++ record { order = order; made = made } ∷ [] }) }
         ensures err { OnErr result (self.new ≡ self.old) }
     {

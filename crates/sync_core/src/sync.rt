@@ -4,37 +4,41 @@ ghost use Rattle.sync_core.specs.Events.{SyncEvent, Ordered, Waited, Released, F
 ghost use Rattle.sync_core.specs.Core.{StandsFor, HasRoom, left_of, blocked, judgement};
 
 use crate::ending::Ending;
-use crate::judge::{has_wait_of, judge, judge_all, stream_at};
+use crate::ends::{drop_numbers, passed, record_ends};
+use crate::judge::{draw, judge, stream_at};
 use crate::judged::{Judged, OrderFault};
+use crate::queues::Queues;
 use crate::stream::Stream;
-use crate::sweep::sweep;
 use crate::wait::Wait;
+use crate::which::Which;
 use gpu_word::Memory;
 use std::alloc::Global;
 use std::marker::Model;
 
 /// The order numbers of all streams, the waits between them and their endings.
 ///
-/// Streams count from 1. The pending waits lie in rising order of order number and position, and
-/// the room of each one's ending is taken where it is kept, so that no later event needs memory.
+/// Streams count from 1. The pending waits lie in queues that find those that an event ends. The
+/// room of each one's ending, and of taking it out, is taken where it is kept, so that no later
+/// event needs memory.
 #[derive(Drop)]
 pub struct SyncCore {
     drawn: u32,
     streams: Vec<Stream>,
-    pending: Vec<Wait>,
+    pending: Queues,
+    taken: Vec<Wait>,
     endings: Vec<Ending>,
     room: usize,
 }
 
 impl Model for SyncCore {
-    ghost use Rattle.std.specs.Prelude.{◌≤◌, ◌+◌, vec_len, vec_capacity};
-    ghost use Rattle.sync_core.specs.Core.{Core};
+    ghost use Rattle.std.specs.Prelude.{◌≤◌, ◌+◌, length, vec_len, vec_capacity};
+    ghost use Rattle.sync_core.specs.Core.{Core, StandsForOne};
 
     ghost Value = { Core };
 
-    ghost view = { λ c. record { drawn = c.drawn; streams = c.streams.items; pending = c.pending.items; endings = c.endings.items; room = c.room } };
+    ghost view = { λ c. record { drawn = c.drawn; streams = c.streams.items; pending = c.pending; endings = c.endings.items; room = c.room } };
 
-    ghost invariant = { λ c. (vec_len c.pending + vec_len c.endings ≤ c.room) × (c.room ≤ vec_capacity c.endings) };
+    ghost invariant = { λ c. (length c.pending + vec_len c.endings ≤ c.room) × (c.room ≤ vec_capacity c.endings) × (length c.pending ≤ vec_capacity c.taken) × StandsForOne record { drawn = c.drawn; streams = c.streams.items; pending = c.pending; endings = c.endings.items; room = c.room } };
 }
 
 impl SyncCore {
@@ -52,7 +56,8 @@ impl SyncCore {
         Ok(SyncCore {
             drawn: 0,
             streams: all,
-            pending: Vec::new(alloc),
+            pending: Queues::new(alloc),
+            taken: Vec::new(alloc),
             endings: Vec::new(alloc),
             room: 0,
         })
@@ -74,7 +79,7 @@ impl SyncCore {
         ensures { result ≡ blocked self.now s }
     {
         match self.front(s) {
-            Some(n) => has_wait_of(self.pending.as_slice(), s, n),
+            Some(n) => self.pending.has_of(n),
             None => false,
         }
     }
@@ -125,18 +130,22 @@ impl SyncCore {
             drawn,
             streams,
             pending,
+            taken,
             endings,
             room,
         } = self;
-        let stream = &mut streams[s as usize - 1];
-        if stream.is_lost() {
+        if streams[s as usize - 1].is_lost() {
             return Err(OrderFault::Lost);
         }
-        pending.reserve(fences.len())?;
-        endings.reserve(pending.len() + fences.len())?;
+        let waits = pending.len() + fences.len();
+        taken.clear();
+        taken.reserve(waits)?;
+        endings.reserve(waits)?;
         let n = *drawn + 1;
-        stream.push(n, fences.len() as u64)?;
-        judge_all(streams.as_slice(), s, n, fences, pending);
+        if draw(streams, s, n, fences, pending).is_err() {
+            pending.take(Which::Of(n), taken);
+            return Err(OrderFault::Memory);
+        }
         *room = endings.capacity();
         *drawn = n;
         Ok(n)
@@ -154,6 +163,7 @@ impl SyncCore {
         let SyncCore {
             streams,
             pending,
+            taken,
             endings,
             room,
             ..
@@ -166,13 +176,13 @@ impl SyncCore {
             return Err(Memory);
         }
         let wait = Wait {
-            stream: s,
             order: front.order,
+            stream: s,
+            position: front.made,
             target: t,
             release: r,
-            position: front.made,
         };
-        let judged = judge(streams.as_slice(), wait, pending, endings)?;
+        let judged = judge(streams.as_slice(), wait, pending, taken, endings)?;
         *room = endings.capacity();
         let stream = &mut streams[s as usize - 1];
         stream.bump();
@@ -189,12 +199,14 @@ impl SyncCore {
         let SyncCore {
             streams,
             pending,
+            taken,
             endings,
             ..
         } = self;
         let stream = &mut streams[s as usize - 1];
         stream.raise(r);
-        sweep(streams.as_slice(), pending, endings);
+        pending.take(Which::Released(s, stream.release()), taken);
+        record_ends(streams.as_slice(), taken.as_slice(), endings);
     }
 
     /// Finishes the first number of stream s.
@@ -208,12 +220,14 @@ impl SyncCore {
         let SyncCore {
             streams,
             pending,
+            taken,
             endings,
             ..
         } = self;
         let stream = &mut streams[s as usize - 1];
         stream.finish();
-        sweep(streams.as_slice(), pending, endings);
+        pending.take(passed(s, stream.first()), taken);
+        record_ends(streams.as_slice(), taken.as_slice(), endings);
     }
 
     /// Loses stream s: its numbers and its own waits go.
@@ -226,12 +240,15 @@ impl SyncCore {
         let SyncCore {
             streams,
             pending,
+            taken,
             endings,
             ..
         } = self;
         let stream = &mut streams[s as usize - 1];
+        drop_numbers(stream, pending, taken);
         stream.lose();
-        sweep(streams.as_slice(), pending, endings);
+        pending.take(Which::On(s), taken);
+        record_ends(streams.as_slice(), taken.as_slice(), endings);
     }
 
     /// Closes stream s: its numbers and its own waits go, and waits on it end.
@@ -244,11 +261,14 @@ impl SyncCore {
         let SyncCore {
             streams,
             pending,
+            taken,
             endings,
             ..
         } = self;
         let stream = &mut streams[s as usize - 1];
+        drop_numbers(stream, pending, taken);
         stream.close();
-        sweep(streams.as_slice(), pending, endings);
+        pending.take(Which::On(s), taken);
+        record_ends(streams.as_slice(), taken.as_slice(), endings);
     }
 }

@@ -1,16 +1,20 @@
-use Rattle.std.proofs.Common.{◌≡◌, ℕ, List, [], ◌∷◌, Some, sym, ap, ◌∙◌}
+use Rattle.std.proofs.Common.{◌≡◌, List, eqb, sym, ap, ◌∙◌}
+use Rattle.std.specs.List.{list_any}
 use Rattle.sync_core.specs.declared.wait.Number.{Number}
 use Rattle.sync_core.specs.declared.wait.Wait.{Wait}
-use Rattle.sync_core.specs.Standing.{first_order}
-use Rattle.sync_core.specs.Pending.{has_wait_of, is_blocked}
-use Rattle.sync_core.specs.Core.{Core, left_of}
+use Rattle.sync_core.specs.Standing.{Standing, at, first_order}
+use Rattle.sync_core.specs.Pending.{is_blocked, pending}
+use Rattle.sync_core.specs.Core.{Core, blocked, left_of}
+use Rattle.sync_core.proofs.Going.{blocked_of}
 use Rattle.sync_core.proofs.sync.SyncCore.blocked.Goals as goal
-
-blocked_first : (s n : ℕ) (xs : List Number) (ws : List Wait) → Some n ≡ first_order xs → has_wait_of s n ws ≡ is_blocked s xs ws
-blocked_first s n [] ws e = absurd (cc)
-blocked_first s n (x ∷ xs) ws e = let same : n ≡ x.order = cc in ap (λ (k : ℕ). has_wait_of s k ws) same
 
 pub returns-in-Some : goal.returns-in-Some
 returns-in-Some c =
-    c.has_wait_of.ensures ∙ ap (has_wait_of c.args.s c.in-Some.n) (c.as_slice.ensures.value ∙ ap (λ (k : Core). k.pending) c.self.view_is)
-    ∙ blocked_first c.args.s c.in-Some.n (left_of c.args.self.now c.args.s) c.args.self.now.pending (sym c.in-Some.is ∙ c.front.ensures.value)
+    let h = c.self.invariant.3.0 in
+    let st = c.self.invariant.3.1 in
+    let n = c.in-Some.n in
+    let left = (at c.self.inside.streams.items c.args.s).left in
+    c.has_of.ensures ∙ ap (λ (l : List Wait). list_any (λ (w : Wait). eqb w.order n) l) st.pending
+    ∙ blocked_of _ c.args.s h left (ap (λ (x : Standing). x.left) (sym (st.streams c.args.s))) n (sym c.in-Some.is ∙ c.front.ensures.value ∙ ap (λ (k : Core). first_order (left_of k c.args.s)) (sym c.self.view_is))
+    ∙ ap (is_blocked c.args.s left) (sym st.pending)
+    ∙ ap (λ (k : Core). blocked k c.args.s) c.self.view_is
