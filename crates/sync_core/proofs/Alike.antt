@@ -63,7 +63,7 @@ parts true true false d e k = absurd (cc)
 parts true false c d e k = absurd (cc)
 parts false b c d e k = absurd (cc)
 
-same_number : (x y : ℕ) → is_eq (nat_cmp x y) ≡ true → x ≡ y
+pub same_number : (x y : ℕ) → is_eq (nat_cmp x y) ≡ true → x ≡ y
 same_number x y e = let k : eqb x y ≡ true = sym (unsigned_tied x y) ∙ e in grind (arith, nat_tests)
 
 -- waits that are not told apart are the same

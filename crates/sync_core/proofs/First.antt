@@ -10,7 +10,7 @@ use Rattle.sync_core.specs.declared.keys.ByRelease.{ByRelease}
 use Rattle.sync_core.specs.declared.keys.ByOrder.{ByOrder}
 use Rattle.sync_core.specs.Keys.{wait_cmp, release_cmp, order_cmp}
 
-at_most : (x y : ℕ) → x ≤ y → is_gt (nat_cmp x y) ≡ false
+pub at_most : (x y : ℕ) → x ≤ y → is_gt (nat_cmp x y) ≡ false
 at_most x y le = by (nat_cmp x y) (ranks x y)
   where
     by : (r : Ordering) → MatchOrdering r (x < y) (x ≡ y) (y < x) → is_gt r ≡ false
@@ -18,7 +18,7 @@ at_most x y le = by (nat_cmp x y) (ranks x y)
     by Equal m = refl
     by Greater m = absurd (omega arith)
 
-then_at_most : (a b : Ordering) → is_gt a ≡ false → is_gt b ≡ false → is_gt (ordering_then a b) ≡ false
+pub then_at_most : (a b : Ordering) → is_gt a ≡ false → is_gt b ≡ false → is_gt (ordering_then a b) ≡ false
 then_at_most Less b x y = refl
 then_at_most Equal b x y = y
 then_at_most Greater b x y = x

@@ -15,3 +15,4 @@ pub mod Finding
 pub mod Placing
 pub mod Going
 pub mod Judging
+pub mod Slots

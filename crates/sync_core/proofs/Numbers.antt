@@ -7,7 +7,8 @@ use Rattle.std.proofs.lemmas.List.Kept.{AllPairs-cons}
 use Rattle.std.proofs.lemmas.List.Elements.{All-weaker, All-nil, All-cons, All-append, All-head, All-tail, All-drop, All-map}
 use Rattle.std.proofs.lemmas.Bool.Decides.{nat_tests}
 use Rattle.sync_core.specs.declared.wait.Number.{Number}
-use Rattle.sync_core.specs.Standing.{Standing, Rises, has_below, first_order, bumped}
+pub use Rattle.sync_core.specs.Standing.{Rises}
+use Rattle.sync_core.specs.Standing.{Standing, has_below, first_order, bumped}
 use Rattle.sync_core.specs.Events.{Deed, Ordered, Waited, Released, Finished, WasLost, WasClosed, SyncEvent, orders, drawn_after, moved, standing}
 
 -- Q holds of each of these numbers

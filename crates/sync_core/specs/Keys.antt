@@ -5,6 +5,7 @@ use Rattle.std.specs.Ordering.{nat_cmp, ordering_then}
 use Rattle.sync_core.specs.declared.wait.Wait.{Wait}
 use Rattle.sync_core.specs.declared.keys.ByRelease.{ByRelease}
 use Rattle.sync_core.specs.declared.keys.ByOrder.{ByOrder}
+use Rattle.sync_core.specs.declared.keys.Place.{Place}
 
 -- by order number, stream and position
 abbrev pub wait_cmp : Wait → Wait → Ordering
@@ -23,3 +24,10 @@ by_release w = record { target = w.target; release = w.release; order = w.order;
 
 abbrev pub by_order : Wait → ByOrder
 by_order w = record { target = w.target; order = w.order; stream = w.stream; position = w.position; release = w.release }
+
+-- by order number, stream and position alone
+abbrev pub place_cmp : Place → Place → Ordering
+place_cmp a b = ordering_then (nat_cmp a.order b.order) (ordering_then (nat_cmp a.stream b.stream) (nat_cmp a.position b.position))
+
+abbrev pub place_of : Wait → Place
+place_of w = record { order = w.order; stream = w.stream; position = w.position }

@@ -4,4 +4,5 @@ pub mod Pending
 pub mod Core
 pub mod Keys
 pub mod Queues
+pub mod Slots
 pub mod Laws

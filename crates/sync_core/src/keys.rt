@@ -1,5 +1,5 @@
 ghost use Rattle.std.specs.Prelude.{◌≡◌};
-ghost use Rattle.sync_core.specs.Keys.{by_release, by_order};
+ghost use Rattle.sync_core.specs.Keys.{by_release, by_order, place_of};
 
 use crate::wait::Wait;
 
@@ -85,6 +85,30 @@ impl ByOrder {
             position: self.position,
             target: self.target,
             release: self.release,
+        }
+    }
+}
+
+/// The place of a wait among all of them: no two have the same.
+#[derive(Clone, Copy, PartialEq, Eq, PartialOrd, Ord)]
+pub struct Place {
+    /// The order number that waits.
+    pub order: u32,
+    /// The stream that waits.
+    pub stream: u32,
+    /// The position of the wait.
+    pub position: u64,
+}
+
+impl Place {
+    /// The place of a wait.
+    pub fn of(wait: Wait) -> Place
+        ensures { result ≡ place_of wait }
+    {
+        Place {
+            order: wait.order,
+            stream: wait.stream,
+            position: wait.position,
         }
     }
 }

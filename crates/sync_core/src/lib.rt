@@ -8,6 +8,7 @@ mod judged;
 mod keys;
 mod laws;
 mod queues;
+mod records;
 mod stream;
 mod sync;
 mod wait;

@@ -12,16 +12,18 @@ ghost use Rattle.sync_core.specs.Pending.{placed};
 ghost use Rattle.sync_core.specs.Queues.{takes, leaves, has, GoesLast};
 
 use crate::keys::{ByOrder, ByRelease};
+use crate::records::Records;
 use crate::wait::Wait;
 use crate::which::Which;
 use std::alloc::{AllocError, Global};
 use std::collections::BTreeSet;
 use std::marker::Model;
 
-/// The pending waits, in rising order, with a queue by release and one by order number.
+/// The pending waits: their records in rising order, with a queue by release and one by order
+/// number.
 #[derive(Drop)]
 pub struct Queues {
-    all: BTreeSet<Wait>,
+    all: Records,
     releases: BTreeSet<ByRelease>,
     orders: BTreeSet<ByOrder>,
 }
@@ -33,9 +35,9 @@ impl Model for Queues {
 
     ghost Value = { List Wait };
 
-    ghost view = { λ q. q.all.keys };
+    ghost view = { λ q. q.all };
 
-    ghost invariant = { λ q. HoldExactly q.releases.keys q.orders.keys q.all.keys };
+    ghost invariant = { λ q. HoldExactly q.releases.keys q.orders.keys q.all };
 }
 
 impl Queues {
@@ -44,7 +46,7 @@ impl Queues {
         ensures { result ≡ [] }
     {
         Queues {
-            all: BTreeSet::new(alloc),
+            all: Records::new(alloc),
             releases: BTreeSet::new(alloc),
             orders: BTreeSet::new(alloc),
         }
@@ -58,11 +60,12 @@ impl Queues {
         self.all.len()
     }
 
-    /// Takes a wait out, if it is there.
+    /// Takes a wait out.
     pub fn remove(&mut self, wait: Wait)
+        requires { has self.old wait ≡ true }
         ensures { self.new ≡ remove_key (is_at (wait_cmp wait)) self.old }
     {
-        let _all = self.all.remove(&wait);
+        self.all.remove(wait);
         let _release = self.releases.remove(&ByRelease::of(wait));
         let _order = self.orders.remove(&ByOrder::of(wait));
     }
@@ -95,7 +98,7 @@ impl Queues {
     pub fn has_of(&self, order: u32) -> bool
         ensures { result ≡ list_any (λ (w : Wait). w.order == order) self.now }
     {
-        first_of(&self.all, order).is_some()
+        self.all.first_of(order).is_some()
     }
 
     /// A wait that is to be taken, if there is one.
@@ -117,7 +120,7 @@ impl Queues {
                 Some(key) => Some(key.wait()),
                 None => None,
             },
-            Which::Of(order) => first_of(&self.all, order),
+            Which::Of(order) => self.all.first_of(order),
         }
     }
 
@@ -175,25 +178,6 @@ fn first_order(orders: &BTreeSet<ByOrder>, target: u32) -> Option<ByOrder>
     };
     match orders.range(from..).next() {
         Some(key) if key.target == target => Some(*key),
-        _ => None,
-    }
-}
-
-/// The first wait of an order number.
-fn first_of(all: &BTreeSet<Wait>, order: u32) -> Option<Wait>
-    ensures order { IfSome result (λ w. w.order ≡ order) }
-    ensures member { IfSome result (λ w. has all.now.keys w ≡ true) }
-    ensures none { IfNone result ((q : Wait) → has all.now.keys q ≡ true → q.order ≢ order) }
-{
-    let from = Wait {
-        order,
-        stream: 0,
-        position: 0,
-        target: 0,
-        release: 0,
-    };
-    match all.range(from..).next() {
-        Some(wait) if wait.order == order => Some(*wait),
         _ => None,
     }
 }
