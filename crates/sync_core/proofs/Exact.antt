@@ -1,7 +1,6 @@
 -- A queue holds exactly the waits after each change of one wait.
-use Rattle.std.proofs.Common.{◌≡◌, Bool, true, false, cond, List, Result, Ok, Err, refl, sym, ap, ◌∙◌}
+use Rattle.std.proofs.Common.{◌≡◌, Bool, true, false, cond, List, Result, Ok, Err, sym, ap, ◌∙◌}
 use Rattle.std.specs.Result.{OnOk, OnErr, is_err}
-use Rattle.std.specs.List.{list_any}
 use Rattle.std.specs.BTreeMap.{is_at}
 use Rattle.sync_core.specs.declared.wait.Wait.{Wait}
 use Rattle.sync_core.specs.Keys.{wait_cmp}

@@ -1,5 +1,5 @@
 -- Which pending waits stay after an event, and which end.
-use Rattle.std.proofs.Common.{◌≡◌, ◌≢◌, ℕ, ◌+◌, ◌<◌, ◌≤◌, length, get_or, drop, max, eqb, Bool, true, false, not, ◌&&◌, ◌||◌, cond, List, [], ◌∷◌, refl, sym, ap, subst, ◌∙◌, arith}
+use Rattle.std.proofs.Common.{◌≡◌, ◌≢◌, ℕ, ◌+◌, ◌<◌, length, get_or, drop, max, eqb, Bool, true, false, not, ◌&&◌, ◌||◌, cond, List, [], ◌∷◌, refl, sym, ap, subst, ◌∙◌, arith}
 use Rattle.std.specs.Prelude.{nat_lt, All, Option, Some, None, filter}
 use Rattle.std.specs.List.{list_any}
 use Rattle.std.proofs.lemmas.List.Folds.{Any-from_list_any, list_any_none}
@@ -8,7 +8,7 @@ use Rattle.std.proofs.lemmas.Bool.Decides.{nat_tests}
 use Rattle.sync_core.specs.declared.wait.Number.{Number}
 use Rattle.sync_core.specs.declared.wait.Wait.{Wait}
 use Rattle.sync_core.specs.declared.which.Which.{Which}
-use Rattle.sync_core.specs.declared.which.Which.TheVariants.{Released, UpTo, On, Of}
+use Rattle.sync_core.specs.declared.which.Which.TheVariants.{Released, On}
 use Rattle.sync_core.specs.Standing.{Standing, Rises, contains_number, has_below, first_order, front_of, made_of}
 use Rattle.sync_core.specs.Events as events
 use Rattle.sync_core.specs.Events.{Deed, SyncEvent, orders, moved, standing}
@@ -37,7 +37,7 @@ module _ {X : Type 0} where
 eqb_same : (a b : ℕ) → eqb a b ≡ true → a ≡ b
 eqb_same a b e = grind (arith, nat_tests)
 
-eqb_turn : (a b : ℕ) → eqb a b ≡ eqb b a
+pub eqb_turn : (a b : ℕ) → eqb a b ≡ eqb b a
 eqb_turn a b = by (eqb a b) (eqb b a) refl refl
   where
     by : (x y : Bool) → eqb a b ≡ x → eqb b a ≡ y → x ≡ y

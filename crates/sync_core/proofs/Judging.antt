@@ -1,6 +1,6 @@
 -- Fence by fence, the kept ones come to the end; number by number, the waits of a stream go.
 use Rattle.std.proofs.Common.{◌≡◌, ℕ, zero, suc, ◌+◌, ◌<◌, ◌≤◌, length, drop, get_or, eqb, Bool, true, false, not, ◌&&◌, ◌||◌, cond, List, [], ◌∷◌, ◌++◌, refl, sym, ap, subst, ◌∙◌, arith, append_assoc}
-use Rattle.std.specs.Prelude.{nat_lt, All, Option, Some, None, filter}
+use Rattle.std.specs.Prelude.{All, Some, None, filter}
 use Rattle.std.proofs.lemmas.List.{append-nil}
 use Rattle.std.proofs.lemmas.List.Elements.{All-weaker, All-nil, All-cons, All-append, filter-append}
 use Rattle.std.proofs.lemmas.Bool.Decides.{nat_tests}
@@ -12,7 +12,7 @@ use Rattle.sync_core.specs.Pending.{is_kept, judged, placed}
 use Rattle.sync_core.specs.Queues.{leaves}
 use Rattle.sync_core.proofs.Keeps.{filter_all, eqb_self}
 use Rattle.sync_core.proofs.Placing.{placed_last}
-use Rattle.sync_core.proofs.Going.{filter_twice}
+use Rattle.sync_core.proofs.Going.{filter_twice, eqb_turn}
 
 drop_at : {X : Type 0} (i m : ℕ) (xs : List X) (d : X) → m ≡ suc i → i < length xs → drop i xs ≡ get_or xs i d ∷ drop m xs
 drop_at i m [] d e lt = absurd (omega arith)
@@ -42,15 +42,6 @@ upto_next n s i ws all = All-weaker (Upto n s i) (Upto n s (i + 1)) (λ w u. (u.
 
 module _ (streams : ℕ) (f : ℕ → Standing) (s n i : ℕ) (fences : List (ℕ × ℕ)) (d : ℕ × ℕ) (ws whole : List Wait) (lt : i < length fences)
     (done : ws ++ judged streams f s n i (drop i fences) ≡ whole) where
-  fence : ℕ × ℕ
-  fence = get_or fences i d
-
-  made : Wait
-  made = record { stream = s; order = n; target = (get_or fences i d).0; release = (get_or fences i d).1; position = i }
-
-  rest : List Wait
-  rest = judged streams f s n (i + 1) (drop (i + 1) fences)
-
   step : ws ++ cond (is_kept streams f s n (get_or fences i d).0 (get_or fences i d).1) (record { stream = s; order = n; target = (get_or fences i d).0; release = (get_or fences i d).1; position = i } ∷ judged streams f s n (i + 1) (drop (i + 1) fences)) (judged streams f s n (i + 1) (drop (i + 1) fences)) ≡ whole
   step = ap (λ (l : List (ℕ × ℕ)). ws ++ judged streams f s n i l) (sym (drop_at i (i + 1) fences d (omega arith) lt)) ∙ done
 
@@ -73,15 +64,6 @@ module _ (streams : ℕ) (f : ℕ → Standing) (s n i : ℕ) (fences : List (�
       let w : Wait = record { stream = s; order = n; target = (get_or fences i d).0; release = (get_or fences i d).1; position = i } in
       let tail = judged streams f s n (i + 1) (drop (i + 1) fences) in
       ap (λ (b : Bool). ws ++ cond b (w ∷ tail) tail) (sym off) ∙ step
-
-eqb_turn : (a b : ℕ) → eqb a b ≡ eqb b a
-eqb_turn a b = by (eqb a b) (eqb b a) refl refl
-  where
-    by : (x y : Bool) → eqb a b ≡ x → eqb b a ≡ y → x ≡ y
-    by true true e f = refl
-    by true false e f = absurd (grind (arith, nat_tests))
-    by false true e f = absurd (grind (arith, nat_tests))
-    by false false e f = refl
 
 neither : (a b : Bool) → (not a && not b) ≡ not (a || b)
 neither true b = refl

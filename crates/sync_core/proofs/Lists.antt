@@ -1,27 +1,10 @@
--- A loop that records what passes a test.
-use Rattle.std.proofs.Common.{◌≡◌, ℕ, ◌+◌, ◌<◌, ◌≤◌, suc, Bool, true, false, not, ◌&&◌, List, [], ◌∷◌, ◌++◌, length, take, get_or, map, cond, refl, sym, ap, ◌∙◌, arith, append_assoc}
+-- What stays and what ends of a list of waits.
+use Rattle.std.proofs.Common.{◌≡◌, ℕ, ◌+◌, ◌≤◌, suc, Bool, true, false, not, ◌&&◌, List, [], ◌∷◌, length, map, cond, refl, arith}
 use Rattle.std.specs.Prelude.{filter}
-use Rattle.std.proofs.lemmas.List.{map-append, append-nil, length-map}
-use Rattle.std.proofs.lemmas.List.Elements.{filter_more}
+use Rattle.std.proofs.lemmas.List.{length-map}
 use Rattle.sync_core.specs.declared.wait.Wait.{Wait}
 use Rattle.sync_core.specs.Standing.{Standing, contains_number}
 use Rattle.sync_core.specs.Pending.{is_held, still, ends, ending_of}
-
-module _ {X Y : Type 0} (f : X → Y) (p : X → Bool) where
-  pub recorded : (xs : List X) (i : ℕ) (d : X) (old now : List Y) → i < length xs → p (get_or xs i d) ≡ true → now ≡ old ++ map f (filter p (take i xs))
-      → now ++ f (get_or xs i d) ∷ [] ≡ old ++ map f (filter p (take (i + 1) xs))
-  recorded xs i d old now h pass is =
-      let more = filter_more p xs i d h in
-      ap (λ (l : List Y). l ++ f (get_or xs i d) ∷ []) is
-      ∙ append_assoc old (map f (filter p (take i xs))) (f (get_or xs i d) ∷ [])
-      ∙ ap (λ (l : List Y). old ++ l) (sym (map-append f (filter p (take i xs)) (get_or xs i d ∷ [])))
-      ∙ ap (λ (l : List X). old ++ map f l) (ap (λ (b : Bool). filter p (take i xs) ++ cond b (get_or xs i d ∷ []) []) (sym pass) ∙ sym more)
-
-  pub passed_over : (xs : List X) (i : ℕ) (d : X) (old now : List Y) → i < length xs → p (get_or xs i d) ≡ false → now ≡ old ++ map f (filter p (take i xs))
-      → now ≡ old ++ map f (filter p (take (i + 1) xs))
-  passed_over xs i d old now h fails is =
-      let more = filter_more p xs i d h in
-      is ∙ ap (λ (l : List X). old ++ map f l) (sym (append-nil (filter p (take i xs))) ∙ ap (λ (b : Bool). filter p (take i xs) ++ cond b (get_or xs i d ∷ []) []) (sym fails) ∙ sym more)
 
 -- no element passes both tests
 module _ {X : Type 0} (p q : X → Bool) (apart : (x : X) → p x ≡ true → q x ≡ false) where

@@ -1,20 +1,19 @@
 -- The records of waits in a slab, and the entries that lead to them.
-use Rattle.std.proofs.Common.{◌≡◌, ◌≢◌, ℕ, zero, suc, ◌+◌, ◌<◌, ◌≤◌, Bool, true, false, ◌&&◌, ◌||◌, cond, List, [], ◌∷◌, Option, Some, None, length, get_or, map, refl, sym, ap, subst, ◌∙◌, arith}
-use Rattle.std.specs.Prelude.{All, Contains, IsSome, IfNone, IfSome, unwrap_or}
-use Rattle.std.specs.List.{list_any, AllByRecursion}
+use Rattle.std.proofs.Common.{◌≡◌, ℕ, ◌+◌, ◌<◌, ◌≤◌, Bool, true, false, ◌&&◌, ◌||◌, cond, List, [], ◌∷◌, Option, Some, None, get_or, refl, sym, ap, subst, ◌∙◌, arith}
+use Rattle.std.specs.Prelude.{All, IsSome, unwrap_or}
 use Rattle.std.specs.List.Sorted.{IsStrictlySortedBy}
 use Rattle.std.specs.Map.{lookup, remove_entry, keys_of}
 use Rattle.std.specs.Set.{remove_key}
 use Rattle.std.specs.declared.cmp.Ordering.{Ordering}
 use Rattle.std.specs.declared.cmp.Ordering.TheVariants.{Less, Equal, Greater}
-use Rattle.std.specs.Ordering.{nat_cmp, ordering_then, is_eq, is_gt, match_ordering, eq_by_cmp}
+use Rattle.std.specs.Ordering.{nat_cmp, ordering_then, is_eq, is_gt, match_ordering}
 use Rattle.std.specs.Cmp.{IsTotalOrder, nat_cmp_total, on_total, tied_then, eq_by_cmp_equiv}
 use Rattle.std.specs.BTreeMap.{is_at, insert_entry}
 use Rattle.std.specs.BTreeSet.{insert_key}
 use Rattle.std.proofs.lemmas.Cmp.{then_total}
 use Rattle.std.proofs.lemmas.List.{get_or-map, length-map}
 use Rattle.std.proofs.lemmas.List.Elements.{All-weaker, All-nil, All-cons, All-head, All-tail}
-use Rattle.std.proofs.lemmas.Map.Keys.{Less-from_sorted, sorted_from_all_adjacent, IsDistinct-from_sorted, IsDistinct-head, IsDistinct-tail}
+use Rattle.std.proofs.lemmas.Map.Keys.{Less-from_sorted, sorted_from_all_adjacent}
 use Rattle.slab.specs.Slab.{Slab, get, Updates}
 use Rattle.sync_core.specs.declared.wait.Wait.{Wait}
 use Rattle.sync_core.specs.declared.keys.Place.{Place}
@@ -194,9 +193,6 @@ rise a es leads up =
 
 -- the entry of a wait goes, and the slot that it led to
 module _ (a b : Slab Wait) (i : ℕ) (w : Wait) (gone : Updates a b i None) where
-  test : Place → Bool
-  test p = is_at (place_cmp (place_of w)) p
-
   removed_leads : (P : Place × ℕ → Type 0) (es : List (Place × ℕ)) → All P es → All P (remove_entry (is_at (place_cmp (place_of w))) es)
   removed_leads P [] all = all
   removed_leads P (e ∷ es) all = by (removed_leads P es (All-tail P e es all)) (is_at (place_cmp (place_of w)) e.0)
@@ -304,7 +300,4 @@ has_removed w q ws off = by (is_at (wait_cmp w) q) refl
 
 -- the least entry from a number on
 pub place_from : (n : ℕ) (q : Place) → n ≤ q.order → is_gt (place_cmp record { order = n; stream = 0; position = 0 } q) ≡ false
-place_from n q le = by_wait
-  where
-    by_wait : is_gt (place_cmp record { order = n; stream = 0; position = 0 } q) ≡ false
-    by_wait = then_at_most (nat_cmp n q.order) _ (at_most n q.order le) (then_at_most (nat_cmp 0 q.stream) _ (at_most 0 q.stream (omega arith)) (at_most 0 q.position (omega arith)))
+place_from n q le = then_at_most (nat_cmp n q.order) _ (at_most n q.order le) (then_at_most (nat_cmp 0 q.stream) _ (at_most 0 q.stream (omega arith)) (at_most 0 q.position (omega arith)))

@@ -1,5 +1,4 @@
 -- The orders in which the waits are kept.
-use Rattle.std.specs.Prelude.{ℕ}
 use Rattle.std.specs.declared.cmp.Ordering.{Ordering}
 use Rattle.std.specs.Ordering.{nat_cmp, ordering_then}
 use Rattle.sync_core.specs.declared.wait.Wait.{Wait}

@@ -1,4 +1,4 @@
-use Rattle.std.proofs.Common.{◌≡◌, [], not, sym, ap, ◌∙◌, arith}
+use Rattle.std.proofs.Common.{[], sym, ap, ◌∙◌, arith}
 use Rattle.sync_core.specs.Standing.{Standing}
 use Rattle.sync_core.proofs.Judging.{first_gone, none_gone}
 use Rattle.sync_core.proofs.ends.drop_numbers.Goals as goal

@@ -1,7 +1,7 @@
 use Rattle.std.proofs.Common.{◌≡◌, ◌≤◌, [], not, length, vec_capacity}
 use Rattle.std.specs.Prelude.{filter}
 use Rattle.sync_core.specs.declared.wait.Wait.{Wait}
-use Rattle.sync_core.specs.Standing.{Standing, contains_number}
+use Rattle.sync_core.specs.Standing.{contains_number}
 use Rattle.sync_core.proofs.ends.drop_numbers.Given as goal
 
 abbrev pub invariant-loop-n : goal.invariant-loop-n

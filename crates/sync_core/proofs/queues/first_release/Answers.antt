@@ -1,4 +1,4 @@
-use Rattle.std.proofs.Common.{◌≡◌, ◌≤◌, sym, ◌∙◌, arith}
+use Rattle.std.proofs.Common.{sym, ◌∙◌, arith}
 use Rattle.sync_core.proofs.First.{head_le, next_le, release_from}
 use Rattle.sync_core.proofs.queues.first_release.Goals as goal
 

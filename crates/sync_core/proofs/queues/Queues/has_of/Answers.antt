@@ -1,4 +1,4 @@
-use Rattle.std.proofs.Common.{◌≡◌, eqb, List, ap, ◌∙◌}
+use Rattle.std.proofs.Common.{eqb, List, ap, ◌∙◌}
 use Rattle.std.specs.List.{list_any}
 use Rattle.sync_core.specs.declared.wait.Wait.{Wait}
 use Rattle.sync_core.proofs.Finding.{found_of}

@@ -1,4 +1,4 @@
-use Rattle.std.proofs.Common.{◌≡◌, length, ap, ◌∙◌, true, false, sym, subst, List}
+use Rattle.std.proofs.Common.{length, ap, ◌∙◌, true, sym, subst, List}
 use Rattle.std.specs.List.{list_any}
 use Rattle.std.specs.BTreeMap.{is_at}
 use Rattle.sync_core.specs.declared.wait.Wait.{Wait}

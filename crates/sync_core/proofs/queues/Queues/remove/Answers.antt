@@ -1,4 +1,4 @@
-use Rattle.std.proofs.Common.{◌≡◌, ap, ◌∙◌, false}
+use Rattle.std.proofs.Common.{ap, ◌∙◌, false}
 use Rattle.std.specs.BTreeMap.{is_at}
 use Rattle.sync_core.specs.declared.keys.ByRelease.{ByRelease}
 use Rattle.sync_core.specs.declared.keys.ByOrder.{ByOrder}

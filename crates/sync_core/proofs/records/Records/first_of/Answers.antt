@@ -1,13 +1,10 @@
-use Rattle.std.proofs.Common.{◌≡◌, ◌≢◌, ◌≤◌, ℕ, List, Option, Some, None, true, false, sym, ap, subst, ◌∙◌, arith}
-use Rattle.std.specs.Prelude.{All, IsSome, IfSome, IfNone, option_copied}
-use Rattle.std.specs.Map.{lookup}
-use Rattle.std.specs.BTreeMap.{is_at}
-use Rattle.slab.specs.Slab.{Slab, get}
+use Rattle.std.proofs.Common.{◌≡◌, ℕ, List, Option, Some, true, sym, ap, subst, ◌∙◌, arith}
+use Rattle.std.specs.Prelude.{IsSome, IfSome, IfNone}
 use Rattle.sync_core.specs.declared.wait.Wait.{Wait}
 use Rattle.sync_core.specs.declared.keys.Place.{Place}
-use Rattle.sync_core.specs.Keys.{place_cmp, place_of}
+use Rattle.sync_core.specs.Keys.{place_of}
 use Rattle.sync_core.specs.Queues.{has}
-use Rattle.sync_core.specs.Slots.{Leads, wait_in, waits_of}
+use Rattle.sync_core.specs.Slots.{wait_in}
 use Rattle.sync_core.proofs.First.{head_le}
 use Rattle.sync_core.proofs.Slots.{found, led, place_from}
 use Rattle.sync_core.proofs.records.Records.first_of.Goals as goal

@@ -1,12 +1,12 @@
-use Rattle.std.proofs.Common.{◌≡◌, ◌-◌, ◌∷◌, [], true, not, length, refl, sym, ap, subst, ◌∙◌, arith}
+use Rattle.std.proofs.Common.{◌≡◌, ◌-◌, ◌∷◌, [], true, not, length, sym, ap, subst, ◌∙◌, arith}
 use Rattle.std.specs.Prelude.{filter}
 use Rattle.sync_core.specs.declared.wait.Wait.{Wait}
 use Rattle.sync_core.specs.declared.which.Which.TheVariants.{On}
 use Rattle.sync_core.specs.Queues.{takes, leaves}
-use Rattle.sync_core.specs.Standing.{Standing, at, IsKnown, contains_number, first_order}
+use Rattle.sync_core.specs.Standing.{Standing, at, IsKnown, contains_number}
 use Rattle.sync_core.specs.Events as events
-use Rattle.sync_core.specs.Core.{Core, StandsFor, blocked}
-use Rattle.sync_core.proofs.Stands.{lose_stands, index_of, at_read, has_known}
+use Rattle.sync_core.specs.Core.{Core, StandsFor}
+use Rattle.sync_core.proofs.Stands.{lose_stands, index_of, at_read}
 use Rattle.sync_core.proofs.sync.SyncCore.lose.Goals as goal
 
 pub returns-clause-stands : goal.returns-clause-stands
