@@ -4,3 +4,4 @@ pub mod Reading
 pub mod Clients
 pub mod Rounds
 pub mod Served
+pub mod Stands

@@ -1,12 +1,11 @@
 //! The first phase of a round: each client goes as far as it can.
-ghost use Rattle.std.specs.Prelude.{◌≡◌, ℕ, ◌+◌, ◌-◌, ◌≤◌, length, true, IfOk, OnOk};
+ghost use Rattle.std.specs.Prelude.{◌≡◌, ◌-◌, ◌≤◌, length, true, IfOk, OnOk};
 ghost use Rattle.sync_core.specs.Standing.{IsKnown, is_open};
 ghost use Rattle.gpu_journal.specs.Waits.{standing_of};
 ghost use Rattle.gpu_journal.specs.Serial.{stays};
-ghost use Rattle.gpu_run.specs.Clients.{done_at};
 ghost use Rattle.gpu_run.specs.Reading.{HaveRead};
-ghost use Rattle.gpu_run.specs.Rounds.{ActsAs, IsRising, HaveActed};
 ghost use Rattle.gpu_run.specs.Served.{IsServed};
+ghost use Rattle.gpu_run.specs.Stands.{Acting, Stands, HasActed};
 
 use crate::client::Client;
 use gpu_fetch::PlainPass;
@@ -49,13 +48,11 @@ fn act_once<N: Naming, H: Hook>(
     stream: u32,
 ) -> Result<Act, Memory>
     requires known { IsKnown (length N.plans.plans) stream }
-    requires rising { IsRising N.plans house.old.core.past }
-    requires served { IsServed N.plans house.old clients.old }
-    requires read { HaveRead N.plans house.old.core.past clients.old }
+    requires stands { Stands (Acting (stream - 1)) N.plans house.old clients.old }
     requires open { stays N.plans house.old.core.past stream ≡ true }
     ensures served { OnOk result (IsServed N.plans house.new clients.new) }
     ensures read { OnOk result (HaveRead N.plans house.new.core.past clients.new) }
-    ensures acts { IfOk result (λ act. ActsAs N.plans act house.old.core.past house.new.core.past (done_at clients.old) (done_at clients.new) stream) }
+    ensures acts { IfOk result (λ act. HasActed N.plans act house.old house.new clients.old clients.new stream) }
 {
     let finishes = house.finishes(stream);
     let token = house.greatest(stream);
@@ -85,14 +82,8 @@ fn act_on<N: Naming, H: Hook>(
     stream: u32,
 ) -> Result<(), Memory>
     requires known { IsKnown (length N.plans.plans) stream }
-    requires rising { IsRising N.plans house.old.core.past }
-    requires served { IsServed N.plans house.old clients.old }
-    requires read { HaveRead N.plans house.old.core.past clients.old }
-    requires acted { HaveActed N.plans house.old.core.past (done_at clients.old) (stream - 1) }
-    ensures rising { OnOk result (IsRising N.plans house.new.core.past) }
-    ensures served { OnOk result (IsServed N.plans house.new clients.new) }
-    ensures read { OnOk result (HaveRead N.plans house.new.core.past clients.new) }
-    ensures acted { OnOk result (HaveActed N.plans house.new.core.past (done_at clients.new) stream) }
+    requires stands { Stands (Acting (stream - 1)) N.plans house.old clients.old }
+    ensures stands { OnOk result (Stands (Acting stream) N.plans house.new clients.new) }
     ensures longer { OnOk result (length house.old.core.past ≤ length house.new.core.past) }
 {
     if !is_open(house, stream) {
@@ -115,13 +106,8 @@ pub(crate) fn act_all<N: Naming, H: Hook>(
     house: &mut House<N, PlainPass, H>,
     clients: &mut [Client],
 ) -> Result<(), Memory>
-    requires rising { IsRising N.plans house.old.core.past }
-    requires served { IsServed N.plans house.old clients.old }
-    requires read { HaveRead N.plans house.old.core.past clients.old }
-    ensures rising { OnOk result (IsRising N.plans house.new.core.past) }
-    ensures served { OnOk result (IsServed N.plans house.new clients.new) }
-    ensures read { OnOk result (HaveRead N.plans house.new.core.past clients.new) }
-    ensures acted { OnOk result (HaveActed N.plans house.new.core.past (done_at clients.new) (length N.plans.plans)) }
+    requires stands { Stands (Acting 0) N.plans house.old clients.old }
+    ensures stands { OnOk result (Stands (Acting (length N.plans.plans)) N.plans house.new clients.new) }
     ensures longer { OnOk result (length house.old.core.past ≤ length house.new.core.past) }
 {
     for stream in 1..=house.plans().count() {

@@ -2,11 +2,7 @@
 ghost use Rattle.std.specs.Prelude.{◌≡◌, ◌-◌, ◌≤◌, length, slice_get};
 ghost use Rattle.sync_core.specs.Standing.{IsKnown};
 ghost use Rattle.gpu_journal.specs.Serial.{is_close};
-ghost use Rattle.serial_laws.specs.Scripts.{AreLawfulPlans};
-ghost use Rattle.gpu_run.specs.Clients.{done_at};
-ghost use Rattle.gpu_run.specs.Reading.{HaveRead};
-ghost use Rattle.gpu_run.specs.Rounds.{IsRising, HaveActed, HaveClosed, IsRunning};
-ghost use Rattle.gpu_run.specs.Served.{IsServed};
+ghost use Rattle.gpu_run.specs.Stands.{Acting, Closing, Running, Stands};
 
 use crate::acting::is_open;
 use crate::client::Client;
@@ -32,17 +28,8 @@ fn close_one<N: Naming, H: Hook>(
     stream: u32,
 )
     requires known { IsKnown (length N.plans.plans) stream }
-    requires lawful { AreLawfulPlans N.plans }
-    requires rising { IsRising N.plans house.old.core.past }
-    requires served { IsServed N.plans house.old clients.now }
-    requires acted { HaveActed N.plans house.old.core.past (done_at clients.now) (length N.plans.plans) }
-    requires closed { HaveClosed N.plans house.old.core.past (stream - 1) }
-    requires read { HaveRead N.plans house.old.core.past clients.now }
-    ensures rising { IsRising N.plans house.new.core.past }
-    ensures served { IsServed N.plans house.new clients.now }
-    ensures read { HaveRead N.plans house.new.core.past clients.now }
-    ensures acted { HaveActed N.plans house.new.core.past (done_at clients.now) (length N.plans.plans) }
-    ensures closed { HaveClosed N.plans house.new.core.past stream }
+    requires stands { Stands (Closing (stream - 1)) N.plans house.old clients.now }
+    ensures stands { Stands (Closing stream) N.plans house.new clients.now }
     ensures longer { length house.old.core.past ≤ length house.new.core.past }
 {
     if !is_open(house, stream) {
@@ -57,15 +44,8 @@ fn close_one<N: Naming, H: Hook>(
 
 /// Closes each stream whose client stands at its Close, in rising order.
 pub(crate) fn close_all<N: Naming, H: Hook>(house: &mut House<N, PlainPass, H>, clients: &[Client])
-    requires lawful { AreLawfulPlans N.plans }
-    requires rising { IsRising N.plans house.old.core.past }
-    requires served { IsServed N.plans house.old clients.now }
-    requires acted { HaveActed N.plans house.old.core.past (done_at clients.now) (length N.plans.plans) }
-    requires read { HaveRead N.plans house.old.core.past clients.now }
-    ensures rising { IsRising N.plans house.new.core.past }
-    ensures served { IsServed N.plans house.new clients.now }
-    ensures read { HaveRead N.plans house.new.core.past clients.now }
-    ensures running { IsRunning N.plans house.new.core.past (done_at clients.now) }
+    requires stands { Stands (Acting (length N.plans.plans)) N.plans house.old clients.now }
+    ensures stands { Stands Running N.plans house.new clients.now }
     ensures longer { length house.old.core.past ≤ length house.new.core.past }
 {
     for stream in 1..=house.plans().count() {

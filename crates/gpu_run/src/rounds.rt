@@ -1,9 +1,7 @@
 //! The rounds of the run on one thread.
-ghost use Rattle.std.specs.Prelude.{◌≡◌, [], OnOk};
+ghost use Rattle.std.specs.Prelude.{◌≡◌, OnOk};
 ghost use Rattle.gpu_journal.specs.Serial.{serial};
-ghost use Rattle.serial_laws.specs.Scripts.{AreLawfulPlans};
-ghost use Rattle.gpu_run.specs.Reading.{HaveRead};
-ghost use Rattle.gpu_run.specs.Served.{IsServed};
+ghost use Rattle.gpu_run.specs.Stands.{Acting, Stands};
 
 use crate::acting::act_all;
 use crate::client::Client;
@@ -23,13 +21,9 @@ pub(crate) fn play<N: Naming, H: Hook>(
     house: &mut House<N, PlainPass, H>,
     clients: &mut [Client],
 ) -> Result<(), Memory>
-    requires lawful { AreLawfulPlans N.plans }
-    requires fresh { house.old.core.past ≡ [] }
-    requires served { IsServed N.plans house.old clients.old }
-    requires read { HaveRead N.plans house.old.core.past clients.old }
+    requires { Stands (Acting 0) N.plans house.old clients.old }
     ensures serial { OnOk result (house.new.core.past ≡ serial N.plans) }
-    ensures served { OnOk result (IsServed N.plans house.new clients.new) }
-    ensures read { OnOk result (HaveRead N.plans house.new.core.past clients.new) }
+    ensures stands { OnOk result (Stands (Acting 0) N.plans house.new clients.new) }
 {
     loop {
         let before = house.journal().events().len();

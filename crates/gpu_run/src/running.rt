@@ -1,11 +1,12 @@
 //! The third phase of a round: streams run, one after the other.
-ghost use Rattle.std.specs.Prelude.{◌≡◌, ◌+◌, ◌-◌, ◌<◌, ◌≤◌, ◌∷◌, length, true, false, Some, None, is_some, IfOk, IfSome, MatchOption, OnOk};
-ghost use Rattle.gpu_journal.specs.Serial.{is_runnable, begins_round, count, runner, choice, run_event, next, IsPlayed};
+ghost use Rattle.std.specs.Prelude.{◌≡◌, ◌+◌, ◌-◌, ◌<◌, ◌≤◌, ◌∷◌, length, true, false, Some, is_some, IfOk, IfSome, MatchOption, OnOk};
+ghost use Rattle.gpu_journal.specs.Serial.{is_runnable, begins_round, count, runner, choice, run_event, IsPlayed};
 ghost use Rattle.serial_laws.specs.Scripts.{AreLawfulPlans};
 ghost use Rattle.gpu_run.specs.Clients.{done_at};
 ghost use Rattle.gpu_run.specs.Reading.{HaveRead};
-ghost use Rattle.gpu_run.specs.Rounds.{IsRising, IsRunning, goes_on};
+ghost use Rattle.gpu_run.specs.Rounds.{IsRunning, goes_on};
 ghost use Rattle.gpu_run.specs.Served.{IsServed, IsOut};
+ghost use Rattle.gpu_run.specs.Stands.{Acting, Running, Stands, EndsWhereNoneCame};
 
 use crate::client::Client;
 use gpu_fetch::PlainPass;
@@ -92,16 +93,10 @@ pub(crate) fn run_all<N: Naming, H: Hook>(
     house: &mut House<N, PlainPass, H>,
     clients: &[Client],
 ) -> Result<(), Memory>
-    requires lawful { AreLawfulPlans N.plans }
-    requires rising { IsRising N.plans house.old.core.past }
-    requires served { IsServed N.plans house.old clients.now }
-    requires running { IsRunning N.plans house.old.core.past (done_at clients.now) }
-    requires read { HaveRead N.plans house.old.core.past clients.now }
-    ensures rising { OnOk result (IsRising N.plans house.new.core.past) }
-    ensures served { OnOk result (IsServed N.plans house.new clients.now) }
-    ensures read { OnOk result (HaveRead N.plans house.new.core.past clients.now) }
+    requires stands { Stands Running N.plans house.old clients.now }
+    ensures stands { OnOk result (Stands (Acting 0) N.plans house.new clients.now) }
     ensures longer { OnOk result (length house.old.core.past ≤ length house.new.core.past) }
-    ensures ended { OnOk result (length house.new.core.past ≤ length house.old.core.past → next N.plans house.new.core.past ≡ None) }
+    ensures ended { OnOk result (EndsWhereNoneCame N.plans house.old.core.past house.new.core.past) }
 {
     loop {
         match house.take() {

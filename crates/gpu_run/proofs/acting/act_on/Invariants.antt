@@ -2,17 +2,12 @@ use Rattle.std.proofs.Common.{◌≡◌, ◌≤◌, ◌-◌, length, true}
 use Rattle.gpu_plan.specs.Plans.{plan_of}
 use Rattle.gpu_journal.specs.Serial.{stays}
 use Rattle.gpu_run.specs.Clients.{done_at}
-use Rattle.gpu_run.specs.Reading.{HaveRead}
-use Rattle.gpu_run.specs.Rounds.{IsRising, HaveActed}
-use Rattle.gpu_run.specs.Served.{IsServed}
+use Rattle.gpu_run.specs.Stands.{Acting, Stands}
 use Rattle.gpu_run.proofs.acting.act_on.Given as goal
 
 abbrev pub invariant-loop : goal.invariant-loop
 invariant-loop g l = record {
-  rising : IsRising g.N.Naming.plans l.house.core.past;
-  served : IsServed g.N.Naming.plans l.house l.clients;
-  read : HaveRead g.N.Naming.plans l.house.core.past l.clients;
-  acted : HaveActed g.N.Naming.plans l.house.core.past (done_at l.clients) (l.stream - 1);
+  stands : Stands (Acting (l.stream - 1)) g.N.Naming.plans l.house l.clients;
   open_still : stays g.N.Naming.plans l.house.core.past l.stream ≡ true;
   longer : length l.initial.house.core.past ≤ length l.house.core.past;
 }

@@ -11,7 +11,7 @@ use Rattle.gpu_run.proofs.acting.act_once.Goals as goal
 pub returns-then-not-passes-clause-acts : goal.returns-then-not-passes-clause-acts
 returns-then-not-passes-clause-acts g c =
     let client = get_or c.args.clients.now (c.args.stream - 1) c.index-clients-stream.result in
-    let r = ready_in g.N.Naming.plans c.args.house.now c.args.clients.now c.args.stream c.finishes-finishes.result c.greatest-token.result c.plan-plan.result.now client c.index-clients-stream.result c.requires.known c.requires.served c.requires.rising c.requires.open
+    let r = ready_in g.N.Naming.plans c.args.house.now c.args.clients.now c.args.stream c.finishes-finishes.result c.greatest-token.result c.plan-plan.result.now client c.index-clients-stream.result c.requires.known c.requires.stands.served c.requires.stands.rising c.requires.open
     c.finishes-finishes.ensures.value c.greatest-token.ensures.value c.finishes-finishes.ensures.home c.greatest-token.ensures.home (ap (λ (q : PlansData). slice_get q.plans (c.args.stream - 1)) (sym c.plans.ensures) ∙ c.plan-plan.ensures) refl in
     (refl, nothing_done c.args.clients.now c.args.stream c.index-clients-stream.result, (ready_stays g.N.Naming.plans c.args.house.now c.args.clients.now c.args.stream c.finishes-finishes.result c.greatest-token.result c.plan-plan.result.now client r (sym c.passes.ensures ∙ c.if-not-passes.true)).2)
 
@@ -20,7 +20,7 @@ act-requires-clause-plan g c =
     let client = c.read.new.self in
     let same = c.in_ok-read.ensures.words in
     let passing = ap (λ (w : PlainData). passes c.plan-plan.result.now.actions w.done c.finishes-finishes.result (c.greatest-token.result ∷ [])) same ∙ sym c.passes.ensures ∙ c.if-not-passes.false in
-    let r = ready_in g.N.Naming.plans c.args.house.now c.args.clients.now c.args.stream c.finishes-finishes.result c.greatest-token.result c.plan-plan.result.now client c.index-clients-stream.result c.requires.known c.requires.served c.requires.rising c.requires.open
+    let r = ready_in g.N.Naming.plans c.args.house.now c.args.clients.now c.args.stream c.finishes-finishes.result c.greatest-token.result c.plan-plan.result.now client c.index-clients-stream.result c.requires.known c.requires.stands.served c.requires.stands.rising c.requires.open
     c.finishes-finishes.ensures.value c.greatest-token.ensures.value c.finishes-finishes.ensures.home c.greatest-token.ensures.home (ap (λ (q : PlansData). slice_get q.plans (c.args.stream - 1)) (sym c.plans.ensures) ∙ c.plan-plan.ensures) same in
     ready_plan g.N.Naming.plans c.args.house.now c.args.clients.now c.args.stream c.finishes-finishes.result c.greatest-token.result c.plan-plan.result.now client r
 
@@ -29,7 +29,7 @@ order-requires-clause-next g c =
     let client = c.read.new.self in
     let same = c.in_ok-read.ensures.words in
     let passing = ap (λ (w : PlainData). passes c.plan-plan.result.now.actions w.done c.finishes-finishes.result (c.greatest-token.result ∷ [])) same ∙ sym c.passes.ensures ∙ c.if-not-passes.false in
-    let r = ready_in g.N.Naming.plans c.args.house.now c.args.clients.now c.args.stream c.finishes-finishes.result c.greatest-token.result c.plan-plan.result.now client c.index-clients-stream.result c.requires.known c.requires.served c.requires.rising c.requires.open
+    let r = ready_in g.N.Naming.plans c.args.house.now c.args.clients.now c.args.stream c.finishes-finishes.result c.greatest-token.result c.plan-plan.result.now client c.index-clients-stream.result c.requires.known c.requires.stands.served c.requires.stands.rising c.requires.open
     c.finishes-finishes.ensures.value c.greatest-token.ensures.value c.finishes-finishes.ensures.home c.greatest-token.ensures.home (ap (λ (q : PlansData). slice_get q.plans (c.args.stream - 1)) (sym c.plans.ensures) ∙ c.plan-plan.ensures) same in
     ready_left g.N.Naming.plans c.args.house.now c.args.clients.now c.args.stream c.finishes-finishes.result c.greatest-token.result c.plan-plan.result.now client r c.act.new.self passing c.act.ensures.words c.in-Some.ensures.flush
 
@@ -38,7 +38,7 @@ order-requires-clause-note g c =
     let client = c.read.new.self in
     let same = c.in_ok-read.ensures.words in
     let passing = ap (λ (w : PlainData). passes c.plan-plan.result.now.actions w.done c.finishes-finishes.result (c.greatest-token.result ∷ [])) same ∙ sym c.passes.ensures ∙ c.if-not-passes.false in
-    let r = ready_in g.N.Naming.plans c.args.house.now c.args.clients.now c.args.stream c.finishes-finishes.result c.greatest-token.result c.plan-plan.result.now client c.index-clients-stream.result c.requires.known c.requires.served c.requires.rising c.requires.open
+    let r = ready_in g.N.Naming.plans c.args.house.now c.args.clients.now c.args.stream c.finishes-finishes.result c.greatest-token.result c.plan-plan.result.now client c.index-clients-stream.result c.requires.known c.requires.stands.served c.requires.stands.rising c.requires.open
     c.finishes-finishes.ensures.value c.greatest-token.ensures.value c.finishes-finishes.ensures.home c.greatest-token.ensures.home (ap (λ (q : PlansData). slice_get q.plans (c.args.stream - 1)) (sym c.plans.ensures) ∙ c.plan-plan.ensures) same in
     ready_note g.N.Naming.plans c.args.house.now c.args.clients.now c.args.stream c.finishes-finishes.result c.greatest-token.result c.plan-plan.result.now client r c.act.new.self passing c.act.ensures.words c.in-Some.ensures.flush c.in-Some.note c.in-Some.ensures.mark
 
@@ -47,7 +47,7 @@ returns-in-None-clause-served g c =
     let client = c.read.new.self in
     let same = c.in_ok-read.ensures.words in
     let passing = ap (λ (w : PlainData). passes c.plan-plan.result.now.actions w.done c.finishes-finishes.result (c.greatest-token.result ∷ [])) same ∙ sym c.passes.ensures ∙ c.if-not-passes.false in
-    let r = ready_in g.N.Naming.plans c.args.house.now c.args.clients.now c.args.stream c.finishes-finishes.result c.greatest-token.result c.plan-plan.result.now client c.index-clients-stream.result c.requires.known c.requires.served c.requires.rising c.requires.open
+    let r = ready_in g.N.Naming.plans c.args.house.now c.args.clients.now c.args.stream c.finishes-finishes.result c.greatest-token.result c.plan-plan.result.now client c.index-clients-stream.result c.requires.known c.requires.stands.served c.requires.stands.rising c.requires.open
     c.finishes-finishes.ensures.value c.greatest-token.ensures.value c.finishes-finishes.ensures.home c.greatest-token.ensures.home (ap (λ (q : PlansData). slice_get q.plans (c.args.stream - 1)) (sym c.plans.ensures) ∙ c.plan-plan.ensures) same in
     ready_passed g.N.Naming.plans c.args.house.now c.args.clients.now c.args.stream c.finishes-finishes.result c.greatest-token.result c.plan-plan.result.now client r c.act.new.self passing c.act.ensures.words (record { beside = c.act.ensures.beside; notes = c.act.ensures.notes }) c.in-None.ensures.quiet
 
@@ -56,7 +56,7 @@ returns-in-None-clause-acts g c =
     let client = c.read.new.self in
     let same = c.in_ok-read.ensures.words in
     let passing = ap (λ (w : PlainData). passes c.plan-plan.result.now.actions w.done c.finishes-finishes.result (c.greatest-token.result ∷ [])) same ∙ sym c.passes.ensures ∙ c.if-not-passes.false in
-    let r = ready_in g.N.Naming.plans c.args.house.now c.args.clients.now c.args.stream c.finishes-finishes.result c.greatest-token.result c.plan-plan.result.now client c.index-clients-stream.result c.requires.known c.requires.served c.requires.rising c.requires.open
+    let r = ready_in g.N.Naming.plans c.args.house.now c.args.clients.now c.args.stream c.finishes-finishes.result c.greatest-token.result c.plan-plan.result.now client c.index-clients-stream.result c.requires.known c.requires.stands.served c.requires.stands.rising c.requires.open
     c.finishes-finishes.ensures.value c.greatest-token.ensures.value c.finishes-finishes.ensures.home c.greatest-token.ensures.home (ap (λ (q : PlansData). slice_get q.plans (c.args.stream - 1)) (sym c.plans.ensures) ∙ c.plan-plan.ensures) same in
     (refl, ready_further g.N.Naming.plans c.args.house.now c.args.clients.now c.args.stream c.finishes-finishes.result c.greatest-token.result c.plan-plan.result.now client r c.act.new.self passing c.act.ensures.words)
 
@@ -65,7 +65,7 @@ returns-in-Ok-clause-served g c =
     let client = c.read.new.self in
     let same = c.in_ok-read.ensures.words in
     let passing = ap (λ (w : PlainData). passes c.plan-plan.result.now.actions w.done c.finishes-finishes.result (c.greatest-token.result ∷ [])) same ∙ sym c.passes.ensures ∙ c.if-not-passes.false in
-    let r = ready_in g.N.Naming.plans c.args.house.now c.args.clients.now c.args.stream c.finishes-finishes.result c.greatest-token.result c.plan-plan.result.now client c.index-clients-stream.result c.requires.known c.requires.served c.requires.rising c.requires.open
+    let r = ready_in g.N.Naming.plans c.args.house.now c.args.clients.now c.args.stream c.finishes-finishes.result c.greatest-token.result c.plan-plan.result.now client c.index-clients-stream.result c.requires.known c.requires.stands.served c.requires.stands.rising c.requires.open
     c.finishes-finishes.ensures.value c.greatest-token.ensures.value c.finishes-finishes.ensures.home c.greatest-token.ensures.home (ap (λ (q : PlansData). slice_get q.plans (c.args.stream - 1)) (sym c.plans.ensures) ∙ c.plan-plan.ensures) same in
     ready_ordered g.N.Naming.plans c.args.house.now c.args.clients.now c.args.stream c.finishes-finishes.result c.greatest-token.result c.plan-plan.result.now client r c.act.new.self passing c.act.ensures.words c.in-Some.ensures.flush c.order.new.self c.in-Some.note (record { beside = c.act.ensures.beside; notes = c.act.ensures.notes }) c.in-Some.ensures.noted c.in-Ok.ensures.event c.order.ensures.outs c.in-Ok.ensures.slots
 
@@ -74,7 +74,7 @@ returns-in-Ok-clause-acts g c =
     let client = c.read.new.self in
     let same = c.in_ok-read.ensures.words in
     let passing = ap (λ (w : PlainData). passes c.plan-plan.result.now.actions w.done c.finishes-finishes.result (c.greatest-token.result ∷ [])) same ∙ sym c.passes.ensures ∙ c.if-not-passes.false in
-    let r = ready_in g.N.Naming.plans c.args.house.now c.args.clients.now c.args.stream c.finishes-finishes.result c.greatest-token.result c.plan-plan.result.now client c.index-clients-stream.result c.requires.known c.requires.served c.requires.rising c.requires.open
+    let r = ready_in g.N.Naming.plans c.args.house.now c.args.clients.now c.args.stream c.finishes-finishes.result c.greatest-token.result c.plan-plan.result.now client c.index-clients-stream.result c.requires.known c.requires.stands.served c.requires.stands.rising c.requires.open
     c.finishes-finishes.ensures.value c.greatest-token.ensures.value c.finishes-finishes.ensures.home c.greatest-token.ensures.home (ap (λ (q : PlansData). slice_get q.plans (c.args.stream - 1)) (sym c.plans.ensures) ∙ c.plan-plan.ensures) same in
     (c.in-Ok.ensures.event, ready_further g.N.Naming.plans c.args.house.now c.args.clients.now c.args.stream c.finishes-finishes.result c.greatest-token.result c.plan-plan.result.now client r c.act.new.self passing c.act.ensures.words, ready_reached g.N.Naming.plans c.args.house.now c.args.clients.now c.args.stream c.finishes-finishes.result c.greatest-token.result c.plan-plan.result.now client r c.act.new.self passing c.act.ensures.words c.in-Some.ensures.flush)
 
@@ -83,18 +83,18 @@ returns-in-None-clause-read g c =
     let client = c.read.new.self in
     let same = c.in_ok-read.ensures.words in
     let passing = ap (λ (w : PlainData). passes c.plan-plan.result.now.actions w.done c.finishes-finishes.result (c.greatest-token.result ∷ [])) same ∙ sym c.passes.ensures ∙ c.if-not-passes.false in
-    let r = ready_in g.N.Naming.plans c.args.house.now c.args.clients.now c.args.stream c.finishes-finishes.result c.greatest-token.result c.plan-plan.result.now client c.index-clients-stream.result c.requires.known c.requires.served c.requires.rising c.requires.open
+    let r = ready_in g.N.Naming.plans c.args.house.now c.args.clients.now c.args.stream c.finishes-finishes.result c.greatest-token.result c.plan-plan.result.now client c.index-clients-stream.result c.requires.known c.requires.stands.served c.requires.stands.rising c.requires.open
     c.finishes-finishes.ensures.value c.greatest-token.ensures.value c.finishes-finishes.ensures.home c.greatest-token.ensures.home (ap (λ (q : PlansData). slice_get q.plans (c.args.stream - 1)) (sym c.plans.ensures) ∙ c.plan-plan.ensures) same in
     let on = ready_further g.N.Naming.plans c.args.house.now c.args.clients.now c.args.stream c.finishes-finishes.result c.greatest-token.result c.plan-plan.result.now client r c.act.new.self passing c.act.ensures.words in
-    found_acted g.N.Naming.plans c.args.house.now.core.past c.args.clients.now c.args.stream c.index-clients-stream.result c.plan-plan.result.now c.stream.result.now client.read c.act.new.self r.in_row r.its_plan c.stream.ensures c.in_ok-read.ensures.read c.act.ensures.read c.requires.rising on c.requires.read
+    found_acted g.N.Naming.plans c.args.house.now.core.past c.args.clients.now c.args.stream c.index-clients-stream.result c.plan-plan.result.now c.stream.result.now client.read c.act.new.self r.in_row r.its_plan c.stream.ensures c.in_ok-read.ensures.read c.act.ensures.read c.requires.stands.rising on c.requires.stands.read
 
 pub returns-in-Ok-clause-read : goal.returns-in-Ok-clause-read
 returns-in-Ok-clause-read g c =
     let client = c.read.new.self in
     let same = c.in_ok-read.ensures.words in
     let passing = ap (λ (w : PlainData). passes c.plan-plan.result.now.actions w.done c.finishes-finishes.result (c.greatest-token.result ∷ [])) same ∙ sym c.passes.ensures ∙ c.if-not-passes.false in
-    let r = ready_in g.N.Naming.plans c.args.house.now c.args.clients.now c.args.stream c.finishes-finishes.result c.greatest-token.result c.plan-plan.result.now client c.index-clients-stream.result c.requires.known c.requires.served c.requires.rising c.requires.open
+    let r = ready_in g.N.Naming.plans c.args.house.now c.args.clients.now c.args.stream c.finishes-finishes.result c.greatest-token.result c.plan-plan.result.now client c.index-clients-stream.result c.requires.known c.requires.stands.served c.requires.stands.rising c.requires.open
     c.finishes-finishes.ensures.value c.greatest-token.ensures.value c.finishes-finishes.ensures.home c.greatest-token.ensures.home (ap (λ (q : PlansData). slice_get q.plans (c.args.stream - 1)) (sym c.plans.ensures) ∙ c.plan-plan.ensures) same in
     let on = ready_further g.N.Naming.plans c.args.house.now c.args.clients.now c.args.stream c.finishes-finishes.result c.greatest-token.result c.plan-plan.result.now client r c.act.new.self passing c.act.ensures.words in
     found_ordered g.N.Naming.plans c.args.house.now.core.past c.order.new.self.core.past c.args.stream (set c.args.clients.now (c.args.stream - 1) c.act.new.self) c.in-Ok.ensures.event
-    (found_acted g.N.Naming.plans c.args.house.now.core.past c.args.clients.now c.args.stream c.index-clients-stream.result c.plan-plan.result.now c.stream.result.now client.read c.act.new.self r.in_row r.its_plan c.stream.ensures c.in_ok-read.ensures.read c.act.ensures.read c.requires.rising on c.requires.read)
+    (found_acted g.N.Naming.plans c.args.house.now.core.past c.args.clients.now c.args.stream c.index-clients-stream.result c.plan-plan.result.now c.stream.result.now client.read c.act.new.self r.in_row r.its_plan c.stream.ensures c.in_ok-read.ensures.read c.act.ensures.read c.requires.stands.rising on c.requires.stands.read)

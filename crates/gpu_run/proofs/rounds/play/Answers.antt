@@ -1,12 +1,8 @@
-use Rattle.std.proofs.Common.{◌≡◌, ◌≢◌, ◌∙◌, sym, ap, subst, length, arith}
+use Rattle.std.proofs.Common.{◌≡◌, ◌≢◌, ◌∙◌, sym, ap, length, arith}
 use Rattle.std.proofs.lemmas.List.{length-reverse}
 use Rattle.serial_laws.proofs.Bounded.{serial_is_alone}
-use Rattle.gpu_run.specs.Rounds.{IsRising}
-use Rattle.gpu_run.proofs.Turns.{begins, fewer}
+use Rattle.gpu_run.proofs.Turns.{fewer}
 use Rattle.gpu_run.proofs.rounds.play.Goals as goal
-
-pub loop-house-init : goal.loop-house-init
-loop-house-init g c = record { rising = subst (IsRising g.N.Naming.plans) (sym c.requires.fresh) (begins g.N.Naming.plans); served = c.requires.served; read = c.requires.read }
 
 pub loop-house-smaller : goal.loop-house-smaller
 loop-house-smaller g c =
@@ -16,7 +12,7 @@ loop-house-smaller g c =
     let new = ap length c.events.ensures ∙ length-reverse c.journal-in-loop-house.result.now.events ∙ ap length c.journal-in-loop-house.ensures.past in
     let old = ap length c.events-before.ensures ∙ length-reverse c.journal.result.now.events ∙ ap length c.journal.ensures.past in
     let other : length c.run_all.new.house.core.past ≢ length c.loop-house.house.core.past = λ e. c.if-events-before.false (new ∙ e ∙ sym old) in
-    fewer g.N.Naming.plans c.loop-house.house.core.past c.run_all.new.house.core.past c.requires.lawful c.in_ok-run_all.ensures.rising.played (omega (arith, a, b, d, other))
+    fewer g.N.Naming.plans c.loop-house.house.core.past c.run_all.new.house.core.past c.requires.lawful c.in_ok-run_all.ensures.stands.rising.played (omega (arith, a, b, d, other))
 
 pub returns-then-events-before : goal.returns-then-events-before
 returns-then-events-before g c =
@@ -26,7 +22,6 @@ returns-then-events-before g c =
     let old = ap length c.events-before.ensures ∙ length-reverse c.journal.result.now.events ∙ ap length c.journal.ensures.past in
     let same : length c.run_all.new.house.core.past ≡ length c.loop-house.house.core.past = sym new ∙ c.if-events-before.true ∙ old in
     record {
-      served = c.in_ok-run_all.ensures.served;
-      read = c.in_ok-run_all.ensures.read;
-      serial = serial_is_alone g.N.Naming.plans c.run_all.new.house.core.past c.requires.lawful record { played = c.in_ok-run_all.ensures.rising.played; ended = c.in_ok-run_all.ensures.ended (omega (arith, a, b, same)) };
+      stands = c.in_ok-run_all.ensures.stands;
+      serial = serial_is_alone g.N.Naming.plans c.run_all.new.house.core.past c.requires.lawful record { played = c.in_ok-run_all.ensures.stands.rising.played; ended = c.in_ok-run_all.ensures.ended (omega (arith, a, b, same)) };
     }
