@@ -12,9 +12,11 @@ use Rattle.gpu_cmd.specs.declared.error.CmdError.{CmdError}
 use Rattle.step_parts.specs.declared.acted.Acted.{Acted}
 use Rattle.house_core.specs.declared.steps.Stepped.{Stepped}
 use Rattle.house_core.specs.declared.steps.Stepped.TheVariants as stepped
-use Rattle.house_core.specs.Answers.{MatchStepped}
+use Rattle.house_core.specs.Answers.{Steps, IsDone, IsRefused}
+use Rattle.house_core.specs.Desks.{RunData}
 use Rattle.gpu_house.specs.declared.answers.Next.{Next}
-use Rattle.gpu_house.specs.Steps.{MatchNext, next_of}
+use Rattle.gpu_house.specs.declared.answers.Next.TheVariants.{More, Paused, FlushEnd}
+use Rattle.gpu_house.specs.Steps.{next_of}
 use Rattle.house_core.specs.Core.{CoreData, Grows, Stays, Waits}
 
 -- the first where a test holds, else the second
@@ -61,24 +63,24 @@ known_here p rows t s count at known = subst (λ (n : ℕ). IsKnown n t) (sym co
 
 -- ---- how a step was answered
 
-module _ (lost closed : Type 0) (invalid : CmdError → Type 0) (executed : Acted → Type 0) where
-  pub of_lost : (answer : Stepped) → answer ≡ stepped.Lost → MatchStepped answer lost closed invalid executed → lost
-  of_lost answer e m = subst (λ (a : Stepped). MatchStepped a lost closed invalid executed) e m
+module _ (old new : CoreData) (run left : RunData) (words : List (ℕ × ℕ)) (answer : Stepped) (is : Steps old new run left words answer) where
+  pub of_lost : answer ≡ stepped.Lost → Steps old new run left words stepped.Lost
+  of_lost e = subst (Steps old new run left words) e is
 
-  pub of_closed : (answer : Stepped) → answer ≡ stepped.Closed → MatchStepped answer lost closed invalid executed → closed
-  of_closed answer e m = subst (λ (a : Stepped). MatchStepped a lost closed invalid executed) e m
+  pub of_closed : answer ≡ stepped.Closed → Steps old new run left words stepped.Closed
+  of_closed e = subst (Steps old new run left words) e is
 
-  pub of_invalid : (answer : Stepped) (error : CmdError) → answer ≡ stepped.Invalid error → MatchStepped answer lost closed invalid executed → invalid error
-  of_invalid answer error e m = subst (λ (a : Stepped). MatchStepped a lost closed invalid executed) e m
+  pub of_invalid : (error : CmdError) → answer ≡ stepped.Invalid error → IsRefused old new run left words error
+  of_invalid error e = subst (Steps old new run left words) e is
 
-  pub of_done : (answer : Stepped) (acted : Acted) → answer ≡ stepped.Done acted → MatchStepped answer lost closed invalid executed → executed acted
-  of_done answer acted e m = subst (λ (a : Stepped). MatchStepped a lost closed invalid executed) e m
+  pub of_done : (acted : Acted) → answer ≡ stepped.Done acted → IsDone old new run left words acted
+  of_done acted e = subst (Steps old new run left words) e is
 
 -- what goes on after a step that was executed
-pub goes_on : (executed : Bool → Type 0) (invalid : CmdError → Type 0) (lost closed : Type 0) (next : Next) (kept at_end : Bool) → next ≡ next_of kept at_end → executed kept → MatchNext next executed invalid lost closed
-goes_on executed invalid lost closed next kept at_end e is = subst (λ (n : Next). MatchNext n executed invalid lost closed) (sym e) (by kept at_end is)
+pub goes_on : (P : Next → Type 0) (next : Next) (kept at_end : Bool) → next ≡ next_of kept at_end → (kept ≡ true → P Paused) → (kept ≡ false → P FlushEnd) → (kept ≡ false → P More) → P next
+goes_on P next kept at_end e paused ended more = subst P (sym e) (by kept at_end paused ended more)
   where
-    by : (kept at_end : Bool) → executed kept → MatchNext (next_of kept at_end) executed invalid lost closed
-    by true at_end is = is
-    by false true is = is
-    by false false is = is
+    by : (kept at_end : Bool) → (kept ≡ true → P Paused) → (kept ≡ false → P FlushEnd) → (kept ≡ false → P More) → P (next_of kept at_end)
+    by true at_end paused ended more = paused refl
+    by false true paused ended more = ended refl
+    by false false paused ended more = more refl

@@ -18,13 +18,12 @@ use Rattle.gpu_journal.specs.Serial.{count, stays, is_runnable, run_event, IsPla
 use Rattle.serial_laws.specs.Scripts.{AreLawfulPlans}
 use Rattle.serial_laws.proofs.Obeying.{can_run, played_is_legal}
 use Rattle.run_laws.proofs.Fronts.{left_open}
-use Rattle.house_core.specs.Answers.{IsMovedBy}
-use Rattle.house_core.specs.Core.{with_out, IsRunOf}
+use Rattle.house_core.specs.Core.{with_out}
 use Rattle.house_core.specs.Desks.{at_home}
 use Rattle.gpu_house.specs.Slots.{slot_at}
 use Rattle.gpu_house.specs.House.{OutData}
 use Rattle.gpu_house.specs.Changes.{CameDone}
-use Rattle.gpu_house.specs.Steps.{MatchNext}
+use Rattle.gpu_house.specs.Steps.{Steps}
 use Rattle.gpu_house.specs.declared.answers.Next.{Next}
 use Rattle.gpu_house.specs.declared.answers.Next.TheVariants.{More, Paused, FlushEnd, Invalid, Lost, Closed}
 use Rattle.gpu_run.specs.Clients.{ClientData, client_at, done_at}
@@ -96,14 +95,13 @@ fetched_with p house clients run new words list facts verdict w out there is mor
     (subst (IsBeside new.side) is beside) (λ n b. subst (λ (v : PlainData). IsNoteBeside new.side v n) is (notes n (subst (λ (v : PlainData). IsNoteBeside run.side v n) (sym is) b)))
 
 -- the note that a fetch has met is met after the step
-pub stays_met : (p : PlansData) (new : PlainHouse) (run now : OutData SideData ℕ) (words : List (ℕ × ℕ)) (next : Next) → run.note ≡ None → MatchNext next (λ kept. now.note ≡ None) (λ error. now.note ≡ None) (Unit {0}) (Unit {0})
-    → MatchNext next (λ kept. IsMovedBy run.run now.run words kept × IsRunOf p new.core.past now.run) (λ error. now.run ≡ run.run) (now ≡ run) (now ≡ run) → now.note ≡ run.note
-stays_met p new run now words More met still moved = still ∙ sym met
-stays_met p new run now words Paused met still moved = still ∙ sym met
-stays_met p new run now words FlushEnd met still moved = still ∙ sym met
-stays_met p new run now words (Invalid error) met still moved = still ∙ sym met
-stays_met p new run now words Lost met still moved = ap (λ (r : OutData SideData ℕ). r.note) moved
-stays_met p new run now words Closed met still moved = ap (λ (r : OutData SideData ℕ). r.note) moved
+pub stays_met : {side : SideData → SideData} {mark : ℕ → ℕ} (p : PlansData) (house new : PlainHouse) (run now : OutData SideData ℕ) (words : List (ℕ × ℕ)) (next : Next) → run.note ≡ None → Steps side mark p house new run now words next → now.note ≡ run.note
+stays_met p house new run now words More met is = is.met ∙ sym met
+stays_met p house new run now words Paused met is = is.met ∙ sym met
+stays_met p house new run now words FlushEnd met is = is.met ∙ sym met
+stays_met p house new run now words (Invalid error) met is = is.met ∙ sym met
+stays_met p house new run now words Lost met is = ap (λ (r : OutData SideData ℕ). r.note) is.run
+stays_met p house new run now words Closed met is = ap (λ (r : OutData SideData ℕ). r.note) is.run
 
 -- what is neither of the answers to go on is one to stop
 pub stops : (next : Next) → (next ≡ More → ⊥) → (next ≡ FlushEnd → ⊥) → goes_further next ≡ false

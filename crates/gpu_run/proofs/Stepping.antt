@@ -30,8 +30,8 @@ use Rattle.house_core.specs.Desks.{Out, RunData, at_home}
 use Rattle.house_core.specs.Answers.{IsMovedBy}
 use Rattle.gpu_house.specs.Slots.{SlotData, slot_at}
 use Rattle.gpu_house.specs.House.{OutData}
-use Rattle.gpu_house.specs.Changes.{Same, with_side}
-use Rattle.gpu_house.specs.Steps.{MatchNext}
+use Rattle.gpu_house.specs.Changes.{with_side}
+use Rattle.gpu_house.specs.Steps.{Steps}
 use Rattle.gpu_house.specs.declared.answers.Next.{Next}
 use Rattle.gpu_house.specs.declared.answers.Next.TheVariants.{More, Paused, FlushEnd, Invalid, Closed}
 use Rattle.gpu_house.specs.declared.answers.Next.TheVariants as nexts
@@ -208,16 +208,10 @@ module _ (p : PlansData) (house new : PlainHouse) (clients : List ClientData) (r
     not_closed x o closed = let off : is_open x ≡ false = ap (λ (b : Bool). not x.lost && not b) closed ∙ and_right (not x.lost) false refl in cc
 
     -- whatever was answered
-    pub has_stepped : (next : Next)
-        → MatchNext next (λ kept. (is_open (standing_of p h s) ≡ true) × IsOk (verdict_at p h s words) × (kept ≡ keeps p h s (asked_by p s words (world p h)))) (λ error. (is_open (standing_of p h s) ≡ true) × (verdict_at p h s words ≡ Err error))
-        ((standing_of p h s).lost ≡ true) (((standing_of p h s).lost ≡ false) × ((standing_of p h s).closed ≡ true))
-        → MatchNext next (λ kept. new.core.past ≡ Step s words ∷ h) (λ error. new.core.past ≡ Lost s (Error error) words ∷ h) (Same house new) (Same house new)
-        → MatchNext next (λ kept. IsMovedBy run.run now.run words kept × IsRunOf p new.core.past now.run) (λ error. now.run ≡ run.run) (now ≡ run) (now ≡ run)
-        → MatchNext next (λ kept. new.core.outs ≡ with_out house.core.outs s record { order = run.run.order; paused = kept }) (λ error. new.core.outs ≡ house.core.outs) (Unit {0}) (Unit {0})
-        → HasStepped p house new clients run now (goes_further next)
-    has_stepped More cause event moved outs = stepped_done false cause.1 cause.2 event moved.0 moved.1 record { order = run.run.order; paused = false } outs
-    has_stepped Paused cause event moved outs = stepped_done true cause.1 cause.2 event moved.0 moved.1 record { order = run.run.order; paused = true } outs
-    has_stepped FlushEnd cause event moved outs = stepped_done false cause.1 cause.2 event moved.0 moved.1 record { order = run.run.order; paused = false } outs
-    has_stepped (Invalid error) cause event moved outs = stepped_lost error cause.1 event moved outs
-    has_stepped nexts.Lost cause event moved outs = absurd (not_lost (standing_of p h s) still_open cause)
-    has_stepped Closed cause event moved outs = absurd (not_closed (standing_of p h s) still_open cause.1)
+    pub has_stepped : {side : SideData → SideData} {mark : ℕ → ℕ} (next : Next) → Steps side mark p house new run now words next → HasStepped p house new clients run now (goes_further next)
+    has_stepped More is = stepped_done false is.valid is.kept is.event is.moved is.run record { order = run.run.order; paused = false } is.outs
+    has_stepped Paused is = stepped_done true is.valid is.kept is.event is.moved is.run record { order = run.run.order; paused = true } is.outs
+    has_stepped FlushEnd is = stepped_done false is.valid is.kept is.event is.moved is.run record { order = run.run.order; paused = false } is.outs
+    has_stepped (Invalid error) is = stepped_lost error is.verdict is.event is.run is.outs
+    has_stepped nexts.Lost is = absurd (not_lost (standing_of p h s) still_open is.is_over)
+    has_stepped Closed is = absurd (not_closed (standing_of p h s) still_open is.is_over.1)

@@ -51,9 +51,13 @@ asked_stays p (WaitName name release) n x = (refl, refl)
 asked_stays p (Pixels op) n x = (refl, refl)
 asked_stays p (Results write) n x = (refl, refl)
 
--- the desk of a step fits
+-- the desk of stream s after a step on these words
+abbrev pub desk_after : PlansData → ℕ → List (ℕ × ℕ) → Acted → DeskData → DeskData
+desk_after p s words acted desk = stepped_desk (noted acted.answer (stepped (plan_of p s).areas words desk.state)) acted desk
+
+-- it fits
 pub fits_step : (p : PlansData) (h : List Event) (s : ℕ) (words : List (ℕ × ℕ)) (acted : Acted) (desk : DeskData) → DeskFits p h s desk → WasExecuted p h s words acted → MayGoOn p h s desk.out.order false
-    → DeskFits p (Step s words ∷ h) s (stepped_desk p s words acted desk)
+    → DeskFits p (Step s words ∷ h) s (desk_after p s words acted desk)
 fits_step p h s words acted desk was told may =
     let asked = asked_by p s words (world p h) in
     let own = standing_own p (Step s words) h in
@@ -112,7 +116,7 @@ may_step c run is =
 
 -- the run after a step
 abbrev pub run_after : Parts → RunData → List (ℕ × ℕ) → Acted → RunData
-run_after c run words acted = run_of run.stream (plan_of c.plans run.stream) run.place run.facts.put (stepped_desk c.plans run.stream words acted (desk_at c.desks run.stream))
+run_after c run words acted = run_of run.stream (plan_of c.plans run.stream).areas run.place run.facts.put (desk_after c.plans run.stream words acted (desk_at c.desks run.stream))
 
 -- it is what the journal says then
 pub run_goes_on : (c : Parts) (run : RunData) (words : List (ℕ × ℕ)) (acted : Acted) → CoreInvariant c → IsOut c run → Obeys c.plans c.past (Step run.stream words) → WasExecuted c.plans c.past run.stream words acted
@@ -121,7 +125,7 @@ run_goes_on c run words acted was is obeys told =
     let p = c.plans in
     let h = c.past in
     let s = run.stream in
-    let desk = stepped_desk p s words acted (desk_at c.desks s) in
+    let desk = desk_after p s words acted (desk_at c.desks s) in
     let finished = (agrees c run is).finished in
     let order = ap (λ (out : Out). out.order) is.out in
     let open' = (left_open p h s was.legal obeys.rule_4).0 in

@@ -9,7 +9,7 @@ use Rattle.house_core.proofs.Again.{Place, place_of}
 
 -- all that a core keeps
 abbrev pub parts_of : Inside → Parts
-parts_of core = record { plans = core.plans; past = core.journal.events; spare = core.journal.spare; owed = core.owed; sync = core.sync; seats = core.scheduler; images = core.images; desks = core.desks.items }
+parts_of core = record { plans = core.plans; past = core.journal.events; spare = core.journal.spare; owed = core.owed; sync = core.scene.sync; seats = core.scheduler; images = core.scene.images; desks = core.desks.items }
 
 -- a stream of the plans, as contracts see them, has its place
 pub place_seen : (c : Parts) (v : CoreData) (s : ℕ) → seen c ≡ v → CoreInvariant c → IsKnown (length v.plans.plans) s → Place c s

@@ -97,8 +97,8 @@ fits_away p h s n desk was may = record {
 
 -- the run of the first number, from the flush that the desk finds and up to its put
 pub record HasLeft (p : PlansData) (h : List Event) (s : ℕ) (desk : DeskData) (place put : ℕ) : Type 0 where
-  pub plan : IsOfPlans p (run_of s (plan_of p s) place put desk)
-  pub run : IsRunOf p h (run_of s (plan_of p s) place put desk)
+  pub plan : IsOfPlans p (run_of s (plan_of p s).areas place put desk)
+  pub run : IsRunOf p h (run_of s (plan_of p s).areas place put desk)
 
 pub leaves : (c : Parts) (s n place put : ℕ) → IsChosen c s → first_order (left_of c.plans c.past s) ≡ Some n → slice_get (desk_at c.desks s).places (desk_at c.desks s).finished ≡ Some place → put ≡ put_in (slice_get (plan_of c.plans s).actions place)
     → HasLeft c.plans c.past s (record (desk_at c.desks s) { out = record { order = n; paused = false } }) place put

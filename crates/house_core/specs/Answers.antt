@@ -1,35 +1,27 @@
 -- What a step of the core answers.
-use Rattle.std.specs.Prelude.{◌≡◌, ℕ, ◌+◌, ◌<◌, ◌==◌, Bool, List, length, if◌then◌else◌}
-use Rattle.std.specs.List.{All}
+use Rattle.std.specs.Prelude.{◌≡◌, ℕ, ◌+◌, ◌==◌, Bool, true, false, List, length, Err, IsOk, if◌then◌else◌}
 use Rattle.gpu_word.specs.Header.{size_of}
 use Rattle.gpu_cmd.specs.declared.error.CmdError.{CmdError}
-use Rattle.gpu_cmd.specs.Spans.{words_in}
 use Rattle.gpu_plan.specs.Plans.{PlansData, plan_of}
-use Rattle.stream_state.specs.Steps.{header_in, writes}
-use Rattle.stream_state.specs.Told.{writes_told}
+use Rattle.stream_state.specs.Steps.{header_in}
+use Rattle.sync_core.specs.Standing.{is_open}
 use Rattle.gpu_journal.specs.declared.event.Event.{Event}
-use Rattle.gpu_journal.specs.World.{world, asked_by, drawn_by, replay, state_of}
+use Rattle.gpu_journal.specs.declared.event.Event.TheVariants.{Step, Lost}
+use Rattle.gpu_journal.specs.declared.event.Why.TheVariants.{Error}
+use Rattle.gpu_journal.specs.World.{replay, state_of}
+use Rattle.gpu_journal.specs.Waits.{standing_of}
+use Rattle.gpu_journal.specs.Facts.{verdict_at}
 use Rattle.run_laws.specs.Going.{keeps}
 use Rattle.step_parts.specs.declared.acted.Acted.{Acted}
+use Rattle.step_parts.specs.Executing.{IsToldOf}
 use Rattle.house_core.specs.declared.steps.Stepped.{Stepped}
-use Rattle.house_core.specs.declared.steps.Stepped.TheVariants.{Lost, Closed, Invalid, Done}
+use Rattle.house_core.specs.declared.steps.Stepped.TheVariants as stepped
 use Rattle.house_core.specs.Desks.{RunData}
+use Rattle.house_core.specs.Core.{CoreData, Stays, Grows, IsRunOf, with_out}
 
--- by cases: the stream is lost; it is closed; its command is invalid; its command was executed
-abbrev pub MatchStepped : Stepped → Type 0 → Type 0 → (CmdError → Type 0) → (Acted → Type 0) → Type 0
-MatchStepped Lost lost closed invalid done = lost
-MatchStepped Closed lost closed invalid done = closed
-MatchStepped (Invalid error) lost closed invalid done = invalid error
-MatchStepped (Done acted) lost closed invalid done = done acted
-
--- what is told of a step of stream s on these words: what it asked for, how that was answered, whether its wait was kept,
--- and that each place that it writes is one of the stream's result places
-pub record WasExecuted (p : PlansData) (h : List Event) (s : ℕ) (words : List (ℕ × ℕ)) (acted : Acted) : Type 0 where
-  pub effect : acted.effect ≡ asked_by p s words (world p h)
-  pub answer : acted.answer ≡ (drawn_by acted.effect (replay p h)).answer
-  pub kept : acted.kept ≡ keeps p h s acted.effect
-  pub writes : writes_told acted.effect ≡ writes (plan_of p s).areas words (state_of p h s)
-  pub places : All (λ write. write.0 < words_in (plan_of p s).areas.results) (writes_told acted.effect)
+-- what is told of a step of stream s on these words, by the journal before it
+abbrev pub WasExecuted : PlansData → List Event → ℕ → List (ℕ × ℕ) → Acted → Type 0
+WasExecuted p h s words = IsToldOf (plan_of p s).areas words (state_of p h s) (replay p h) (keeps p h s)
 
 -- the place of the next header, behind a command of this size
 abbrev pub further : ℕ → ℕ → ℕ → ℕ
@@ -47,3 +39,40 @@ pub record IsMovedBy (old new : RunData) (words : List (ℕ × ℕ)) (kept : Boo
   pub finished : new.finished ≡ old.finished
   pub paused : new.paused ≡ kept
   pub book : new.book ≡ old.book
+
+-- a step of a run was executed: the journal notes it, the run is paused where its wait was kept, and it moved on to the next
+-- command and is what the journal says again
+pub record HasStepped (old new : CoreData) (out left : RunData) (words : List (ℕ × ℕ)) (answer : Acted) : Type 0 where
+  pub event : Grows old new (Step out.stream words)
+  pub acted : WasExecuted old.plans old.past out.stream words answer
+  pub outs : new.outs ≡ with_out old.outs out.stream record { order = out.order; paused = answer.kept }
+  pub moved : IsMovedBy out left words answer.kept
+  pub run : IsRunOf new.plans new.past left
+
+-- the stream is open and the words are a valid command, whose step was executed
+pub record IsDone (old new : CoreData) (out left : RunData) (words : List (ℕ × ℕ)) (acted : Acted) : Type 0 where
+  pub still_open : is_open (standing_of old.plans old.past out.stream) ≡ true
+  pub valid : IsOk (verdict_at old.plans old.past out.stream words)
+  pub stepped : HasStepped old new out left words acted
+
+-- the stream is open and the words are no valid command, so the stream is lost by this error
+pub record IsRefused (old new : CoreData) (out left : RunData) (words : List (ℕ × ℕ)) (error : CmdError) : Type 0 where
+  pub still_open : is_open (standing_of old.plans old.past out.stream) ≡ true
+  pub verdict : verdict_at old.plans old.past out.stream words ≡ Err error
+  pub event : Grows old new (Lost out.stream (Error error) words)
+  pub outs : new.outs ≡ old.outs
+  pub run : left ≡ out
+
+-- the stream was over before, and nothing has changed
+pub record IsOver (old new : CoreData) (out left : RunData) (cause : Type 0) : Type 0 where
+  pub over : cause
+  pub stays : Stays old new
+  pub run : left ≡ out
+
+-- how a step is answered: the stream was lost or closed before, it is lost by an error now, or its command was executed
+abbrev pub Steps : CoreData → CoreData → RunData → RunData → List (ℕ × ℕ) → Stepped → Type 0
+Steps old new out left words stepped.Lost = IsOver old new out left ((standing_of old.plans old.past out.stream).lost ≡ true)
+Steps old new out left words stepped.Closed =
+    IsOver old new out left (((standing_of old.plans old.past out.stream).lost ≡ false) × ((standing_of old.plans old.past out.stream).closed ≡ true))
+Steps old new out left words (stepped.Invalid error) = IsRefused old new out left words error
+Steps old new out left words (stepped.Done acted) = IsDone old new out left words acted

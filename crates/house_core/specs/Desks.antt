@@ -2,9 +2,9 @@
 use Rattle.std.specs.Prelude.{◌≡◌, ℕ, zero, suc, ◌<◌, Bool, false, List, [], ◌∷◌, slice_index_or, if◌then◌else◌, Option, MatchOption}
 use Rattle.atomic_table.specs.Seated.{TableId}
 use Rattle.gpu_books.specs.Seen.{HalfData, no_book}
+use Rattle.gpu_cmd.specs.declared.areas.Areas.{Areas}
 use Rattle.gpu_cmd.specs.declared.facts.StreamFacts.{StreamFacts}
 use Rattle.stream_state.specs.State.{State, first_state, facts_of}
-use Rattle.gpu_plan.specs.Plans.{PlanData}
 
 -- the order number of a run that is out, or 0 where none is, and whether that run is paused
 pub record Out : Type 0 where
@@ -89,13 +89,13 @@ pub record Agree (run : RunData) (desk : DeskData) : Type 0 where
   pub order : run.order ≡ desk.out.order
   pub paused : run.paused ≡ desk.out.paused
 
--- the run of a desk, which stands at this place, up to this put
-abbrev pub run_of : ℕ → PlanData → ℕ → ℕ → DeskData → RunData
-run_of s plan place put desk = record {
+-- the run of a desk, with these areas, which stands at this place, up to this put
+abbrev pub run_of : ℕ → Areas → ℕ → ℕ → DeskData → RunData
+run_of s areas place put desk = record {
   stream = s;
   order = desk.out.order;
   place = place;
-  facts = facts_of plan.areas put desk.state;
+  facts = facts_of areas put desk.state;
   entries = desk.state.entries;
   finished = desk.finished;
   greatest = desk.greatest;

@@ -1,22 +1,16 @@
-ghost use Rattle.std.specs.Prelude.{◌≡◌, ◌↔◌, ◌==◌, ◌<◌, ◌+◌, ◌%◌, ◌^◌, false, List, length, IsTrue, IfOk, OnErr};
+ghost use Rattle.std.specs.Prelude.{◌≡◌, ◌↔◌, ◌==◌, ◌<◌, ◌+◌, ◌%◌, ◌^◌, false, IsTrue, IfOk, OnOk, OnErr};
 ghost use Rattle.gpu_cmd.specs.Lawful.{IsLawfulFacts};
-ghost use Rattle.gpu_plan.specs.Plans.{plan_of};
-ghost use Rattle.sync_core.specs.Events.{SyncEvent, noted as happened};
-ghost use Rattle.sync_core.specs.Core.{StandsFor};
-ghost use Rattle.gpu_journal.specs.World.{drawn_by};
-ghost use Rattle.gpu_journal.specs.Waits.{deed_asked};
 ghost use Rattle.house_core.specs.Desks.{Agree, at_home, run_of};
-ghost use Rattle.house_core.specs.Stepping.{IsReadyFor, IsToldOf, stepped_desk};
+ghost use Rattle.step_parts.specs.Executing.{areas_of, IsReady, Executes};
+ghost use Rattle.house_core.specs.Stepping.{stepped_desk};
 
 use crate::desk::Desk;
 use gpu_books::Half;
-use gpu_cmd::{Command, StreamFacts};
-use gpu_plan::{Plan, Plans};
-use gpu_store::Images;
+use gpu_cmd::StreamFacts;
+use gpu_plan::Plan;
 use gpu_word::Memory;
 use std::marker::Model;
-use step_parts::Acted;
-use sync_core::SyncCore;
+use step_parts::{Acted, Scene, Taken};
 
 /// What a run carries outside the lock.
 #[derive(Drop)]
@@ -127,7 +121,7 @@ impl Carried {
         requires home { desk.old.out.order ≡ 0 }
         ensures desk { desk.new ≡ record desk.old { out = record { order = order; paused = false } } }
         ensures home { desk.old.out ≡ at_home }
-        ensures run { result ≡ run_of stream plan.now place put desk.new }
+        ensures run { result ≡ run_of stream plan.now.areas place put desk.new }
     {
         let half = desk.leave(order);
         Carried {
@@ -143,33 +137,25 @@ impl Carried {
         }
     }
 
-    /// The run executes a command on these words.
+    /// The run executes the command that was taken for it.
     pub fn step(
         &mut self,
         desk: &mut Desk,
-        images: &mut Images,
-        sync: &mut SyncCore,
-        plans: &Plans,
-        command: &Command,
-        words: &[(u32, u32)],
+        scene: &mut Scene,
+        taken: &Taken<'_>,
     ) -> Result<Acted, Memory>
         requires book { self.old.book ≡ desk.old.book }
         requires agree { Agree self.old desk.old }
-        requires areas { self.old.facts.areas ≡ (plan_of plans.now self.old.stream).areas }
-        requires ready { IsReadyFor plans.now sync.old desk.old self.old.stream words.now command.now }
-        ensures told { IfOk result (IsToldOf plans.now sync.old desk.old.state images.old self.old.stream words.now) }
-        ensures desk { IfOk result (λ acted. desk.new ≡ stepped_desk plans.now self.old.stream words.now acted desk.old) }
-        ensures run { IfOk result (λ acted. self.new ≡ run_of self.old.stream (plan_of plans.now self.old.stream) self.old.place self.old.facts.put desk.new) }
-        ensures images { IfOk result (λ acted. images.new ≡ (drawn_by acted.effect images.old).images) }
-        ensures waits { IfOk result (λ acted. (h : List SyncEvent) → StandsFor sync.old h → StandsFor sync.new (happened self.old.stream (deed_asked plans.now acted.effect) h)) }
-        ensures count { length sync.new.streams ≡ length sync.old.streams }
+        requires areas { self.old.facts.areas ≡ areas_of taken.now }
+        requires ready { IsReady taken.now scene.old.sync desk.old.state }
+        ensures executes { IfOk result (Executes taken.now scene.old scene.new desk.old.state desk.new.state) }
+        ensures desk { IfOk result (λ acted. desk.new ≡ stepped_desk desk.new.state acted desk.old) }
+        ensures run { OnOk result (self.new ≡ run_of self.old.stream (areas_of taken.now) self.old.place self.old.facts.put desk.new) }
+        ensures same_scene { OnErr result (scene.new ≡ scene.old) }
         ensures same_desk { OnErr result (desk.new ≡ desk.old) }
         ensures same_run { OnErr result (self.new ≡ self.old) }
-        ensures same_images { OnErr result (images.new ≡ images.old) }
-        ensures same_waits { OnErr result (sync.new ≡ sync.old) }
     {
-        let stream = self.stream;
-        let acted = desk.step(&mut self.half, images, sync, plans, stream, command, words)?;
+        let acted = desk.step(&mut self.half, scene, taken)?;
         self.entries = desk.state().entries();
         self.facts = desk.state().facts(&self.facts.areas, self.facts.put);
         self.greatest = desk.greatest();

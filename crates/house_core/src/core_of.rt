@@ -22,6 +22,7 @@ use seq_sched::Scheduler;
 use serial_laws::plans_are_lawful;
 use std::alloc::Global;
 use std::marker::Model;
+use step_parts::Scene;
 use stream_state::StreamState;
 use sync_core::{Ending, SyncCore};
 
@@ -34,9 +35,8 @@ pub struct Core {
     pub(crate) alloc: Global,
     pub(crate) plans: Plans,
     pub(crate) journal: Journal,
-    pub(crate) sync: SyncCore,
+    pub(crate) scene: Scene,
     pub(crate) scheduler: Scheduler,
-    pub(crate) images: Images,
     pub(crate) desks: Vec<Desk>,
     pub(crate) owed: usize,
 }
@@ -49,7 +49,7 @@ impl Model for Core {
 
     ghost view = { λ c. record { plans = c.plans; past = c.journal.events; spare = c.journal.spare; books = books_of c.desks.items; outs = outs_of c.desks.items } };
 
-    ghost invariant = { λ c. CoreInvariant record { plans = c.plans; past = c.journal.events; spare = c.journal.spare; owed = c.owed; sync = c.sync; seats = c.scheduler; images = c.images; desks = c.desks.items } };
+    ghost invariant = { λ c. CoreInvariant record { plans = c.plans; past = c.journal.events; spare = c.journal.spare; owed = c.owed; sync = c.scene.sync; seats = c.scheduler; images = c.scene.images; desks = c.desks.items } };
 }
 
 impl Core {
@@ -71,13 +71,13 @@ impl Core {
         let mut journal = Journal::make(alloc);
         journal.reserve(count as usize)?;
         let desks = desks(alloc, &plans, books)?;
+        let images = Images::make(alloc);
         Ok(Core {
             alloc,
             plans,
             journal,
-            sync,
+            scene: Scene { images, sync },
             scheduler,
-            images: Images::make(alloc),
             desks,
             owed: count as usize,
         })
@@ -110,7 +110,7 @@ impl Core {
     pub fn images(&self) -> &Images
         ensures { result.now ≡ replay self.now.plans self.now.past }
     {
-        &self.images
+        &self.scene.images
     }
 
     /// The state of a stream: what its steps left.
@@ -125,14 +125,14 @@ impl Core {
     pub fn endings(&self) -> &[Ending]
         ensures { result.now ≡ endings_in self.now.plans self.now.past }
     {
-        self.sync.endings()
+        self.scene.sync.endings()
     }
 
     /// How many waits are pending.
     pub fn waiting(&self) -> usize
         ensures { result ≡ length (pending_in self.now.plans self.now.past) }
     {
-        self.sync.waiting()
+        self.scene.sync.waiting()
     }
 
     /// How many flushes of a stream are finished.

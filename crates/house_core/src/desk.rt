@@ -1,22 +1,15 @@
-ghost use Rattle.std.specs.Prelude.{◌≡◌, ◌↔◌, ◌==◌, ◌&&◌, ◌+◌, ◌<◌, ◌≤◌, ◌^◌, true, false, List, length, slice_get, IfSome, IfNone, IsTrue, IfOk, OnOk, OnErr};
+ghost use Rattle.std.specs.Prelude.{◌≡◌, ◌↔◌, ◌==◌, ◌&&◌, ◌+◌, ◌<◌, ◌≤◌, ◌^◌, true, false, length, slice_get, IfSome, IfNone, IsTrue, IfOk, OnOk, OnErr};
 ghost use Rattle.gpu_books.specs.Seen.{HalfData, blank_half};
-ghost use Rattle.sync_core.specs.Events.{SyncEvent, noted as happened};
-ghost use Rattle.sync_core.specs.Core.{StandsFor};
-ghost use Rattle.gpu_journal.specs.World.{drawn_by};
-ghost use Rattle.gpu_journal.specs.Waits.{deed_asked};
 ghost use Rattle.house_core.specs.Desks.{DeskData, at_home, fresh_desk, book_numbers, kept_half};
-ghost use Rattle.house_core.specs.Stepping.{IsReadyFor, IsToldOf, stepped_desk};
+ghost use Rattle.step_parts.specs.Executing.{IsReady, Executes};
+ghost use Rattle.house_core.specs.Stepping.{stepped_desk};
 
 use gpu_books::{Book, Half, agree, set};
-use gpu_cmd::Command;
-use gpu_plan::Plans;
-use gpu_store::Images;
-use gpu_word::{Memory, split};
+use gpu_word::Memory;
 use std::alloc::Global;
 use std::marker::Model;
-use step_parts::{Acted, act};
+use step_parts::{Acted, Scene, Taken, act};
 use stream_state::{Effect, StreamState};
-use sync_core::SyncCore;
 
 /// What the house keeps of one stream beside its waits.
 ///
@@ -242,42 +235,24 @@ impl Desk {
         self.paused = false;
     }
 
-    /// The run that is out executes a command on these words.
+    /// The run that is out executes the command that was taken for it.
     pub fn step(
         &mut self,
         half: &mut Half,
-        images: &mut Images,
-        sync: &mut SyncCore,
-        plans: &Plans,
-        stream: u32,
-        command: &Command,
-        words: &[(u32, u32)],
+        scene: &mut Scene,
+        taken: &Taken<'_>,
     ) -> Result<Acted, Memory>
         requires book { half.old.book ≡ self.old.book }
         requires out { 0 < self.old.out.order }
-        requires ready { IsReadyFor plans.now sync.old self.old stream words.now command.now }
-        ensures told { IfOk result (IsToldOf plans.now sync.old self.old.state images.old stream words.now) }
-        ensures desk { IfOk result (λ acted. self.new ≡ stepped_desk plans.now stream words.now acted self.old) }
+        requires ready { IsReady taken.now scene.old.sync self.old.state }
+        ensures executes { IfOk result (Executes taken.now scene.old scene.new self.old.state self.new.state) }
+        ensures desk { IfOk result (λ acted. self.new ≡ stepped_desk self.new.state acted self.old) }
         ensures half { OnOk result (half.new ≡ kept_half self.new) }
-        ensures images { IfOk result (λ acted. images.new ≡ (drawn_by acted.effect images.old).images) }
-        ensures waits { IfOk result (λ acted. (h : List SyncEvent) → StandsFor sync.old h → StandsFor sync.new (happened stream (deed_asked plans.now acted.effect) h)) }
-        ensures count { length sync.new.streams ≡ length sync.old.streams }
+        ensures same_scene { OnErr result (scene.new ≡ scene.old) }
         ensures same_desk { OnErr result (self.new ≡ self.old) }
         ensures same_half { OnErr result (half.new ≡ half.old) }
-        ensures same_images { OnErr result (images.new ≡ images.old) }
-        ensures same_waits { OnErr result (sync.new ≡ sync.old) }
     {
-        let size = split(words[0].1).size;
-        let acted = act(
-            images,
-            sync,
-            &mut self.state,
-            plans,
-            stream,
-            command,
-            size,
-            words,
-        )?;
+        let acted = act(scene, &mut self.state, taken)?;
         if let Effect::Token(token) = &acted.effect {
             self.greatest = self.greatest.max(*token);
         }

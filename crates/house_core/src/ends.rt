@@ -33,7 +33,7 @@ impl Core {
     {
         let Core {
             journal,
-            sync,
+            scene,
             desks,
             owed,
             ..
@@ -41,8 +41,8 @@ impl Core {
         let desk = &mut desks[stream as usize - 1];
         *owed -= desk.unfinished() as usize + 1;
         desk.lose();
-        sync.lose(stream);
-        sync.has_room();
+        scene.sync.lose(stream);
+        scene.sync.has_room();
         journal.push(Event::Lost { stream, why, words });
     }
 
@@ -54,7 +54,7 @@ impl Core {
     {
         let Core {
             journal,
-            sync,
+            scene,
             desks,
             owed,
             ..
@@ -62,8 +62,8 @@ impl Core {
         let desk = &mut desks[stream as usize - 1];
         *owed -= desk.unfinished() as usize + 1;
         desk.close();
-        sync.close(stream);
-        sync.has_room();
+        scene.sync.close(stream);
+        scene.sync.has_room();
         journal.push(Event::Close { stream });
     }
 

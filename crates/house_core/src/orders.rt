@@ -41,7 +41,7 @@ impl Core {
         let Core {
             plans,
             journal,
-            sync,
+            scene,
             desks,
             owed,
             ..
@@ -53,15 +53,15 @@ impl Core {
         let Some(place) = desk.place(desk.ordered()) else {
             unreachable!()
         };
-        if sync.drawn() == u32::MAX || desk.ordered() == u32::MAX {
+        if scene.sync.drawn() == u32::MAX || desk.ordered() == u32::MAX {
             return Err(OrderFault::Memory);
         }
         let Ok(()) = take_room(journal, *owed, 2) else {
             return Err(OrderFault::Memory);
         };
         let fences = fences_of(&plans.plan(stream).actions()[place as usize]);
-        let order = sync.order(stream, fences)?;
-        sync.has_room();
+        let order = scene.sync.order(stream, fences)?;
+        scene.sync.has_room();
         let desk = &mut desks[stream as usize - 1];
         desk.order();
         *owed += 1;

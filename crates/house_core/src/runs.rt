@@ -42,13 +42,13 @@ impl Core {
     {
         let Core {
             plans,
-            sync,
+            scene,
             scheduler,
             desks,
             ..
         } = self;
-        let stream = scheduler.pick(sync)?;
-        let Some(order) = sync.front(stream) else {
+        let stream = scheduler.pick(&scene.sync)?;
+        let Some(order) = scene.sync.front(stream) else {
             unreachable!()
         };
         let desk = &mut desks[stream as usize - 1];
@@ -113,15 +113,15 @@ impl Core {
         let order = run.order();
         let Core {
             journal,
-            sync,
+            scene,
             scheduler,
             desks,
             owed,
             ..
         } = self;
         *owed -= 1;
-        sync.finish(stream);
-        sync.has_room();
+        scene.sync.finish(stream);
+        scene.sync.has_room();
         scheduler.give_back(stream);
         run.finish(&mut desks[stream as usize - 1]);
         journal.push(Event::Finish { stream, order });

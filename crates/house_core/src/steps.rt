@@ -1,14 +1,13 @@
 //! Steps: the next command of a run is executed, or its stream is lost.
-ghost use Rattle.std.specs.Prelude.{◌≡◌, length, true, false, Ok, Err, IsOk, IfOk, OnErr};
+ghost use Rattle.std.specs.Prelude.{◌≡◌, length, true, false, Ok, IfOk, OnErr};
 ghost use Rattle.std.specs.List.{All};
 ghost use Rattle.sync_core.specs.Standing.{IsKnown, is_open};
-ghost use Rattle.gpu_journal.specs.declared.event.Event.TheVariants.{Step, Lost};
-ghost use Rattle.gpu_journal.specs.declared.event.Why.TheVariants.{Error};
+ghost use Rattle.gpu_journal.specs.declared.event.Event.TheVariants.{Step};
 ghost use Rattle.gpu_journal.specs.Waits.{standing_of};
 ghost use Rattle.gpu_journal.specs.Facts.{facts_at, verdict_at};
 ghost use Rattle.gpu_journal.specs.Legal.{Obeys};
-ghost use Rattle.house_core.specs.Answers.{MatchStepped, WasExecuted, IsMovedBy};
-ghost use Rattle.house_core.specs.Core.{Stays, Grows, IsOfPlans, IsRunOf, MayHavePut, with_out, book_at, out_at};
+ghost use Rattle.house_core.specs.Answers.{HasStepped, Steps};
+ghost use Rattle.house_core.specs.Core.{Stays, IsOfPlans, IsRunOf, MayHavePut, book_at, out_at};
 
 use crate::carried::Carried;
 use crate::core_of::{Core, take_room};
@@ -16,7 +15,7 @@ use gpu_cmd::{CmdError, Command};
 use gpu_fetch::Fetched;
 use gpu_journal::{Event, Why, Words};
 use gpu_word::Memory;
-use step_parts::Acted;
+use step_parts::{Acted, Taken};
 
 /// How a step was answered.
 #[derive(Debug, Drop)]
@@ -58,29 +57,22 @@ impl Core {
         requires shows { IsRunOf self.old.plans self.old.past run.old }
         requires obeys { Obeys self.old.plans self.old.past (Step run.old.stream words) }
         requires command { verdict_at self.old.plans self.old.past run.old.stream words ≡ Ok command.now }
-        ensures event { IfOk result (λ acted. Grows self.old self.new (Step run.old.stream words)) }
-        ensures acted { IfOk result (WasExecuted self.old.plans self.old.past run.old.stream words) }
-        ensures outs { IfOk result (λ acted. self.new.outs ≡ with_out self.old.outs run.old.stream record { order = run.old.order; paused = acted.kept }) }
-        ensures run { IfOk result (λ acted. IsRunOf self.new.plans self.new.past run.new) }
-        ensures moved { IfOk result (λ acted. IsMovedBy run.old run.new words acted.kept) }
+        ensures stepped { IfOk result (HasStepped self.old self.new run.old run.new words) }
         ensures err { OnErr result (Stays self.old self.new) }
         ensures same { OnErr result (run.new ≡ run.old) }
     {
-        let Core {
-            plans,
-            journal,
-            sync,
-            images,
-            desks,
-            owed,
-            ..
-        } = self;
         let stream = run.stream();
-        take_room(journal, *owed, 1)?;
-        let desk = &mut desks[stream as usize - 1];
-        let acted = run.step(desk, images, sync, plans, command, words.as_slice())?;
-        sync.has_room();
-        journal.push(Event::Step { stream, words });
+        take_room(&mut self.journal, self.owed, 1)?;
+        let desk = &mut self.desks[stream as usize - 1];
+        let taken = Taken {
+            plans: &self.plans,
+            stream,
+            command,
+            words: words.as_slice(),
+        };
+        let acted = run.step(desk, &mut self.scene, &taken)?;
+        self.scene.sync.has_room();
+        self.journal.push(Event::Step { stream, words });
         Ok(acted)
     }
 
@@ -90,36 +82,16 @@ impl Core {
     /// # Errors
     ///
     /// `Memory`: nothing has changed.
-    pub fn step(&mut self, run: &mut Carried, fetched: &Fetched) -> Result<Stepped, Memory>
+    pub fn step(&mut self, run: &mut Carried, fetched: Fetched) -> Result<Stepped, Memory>
         requires plan { IsOfPlans self.old.plans run.old }
         requires book { run.old.book ≡ book_at self.old.books run.old.stream }
         requires going { run.old.paused ≡ false }
-        requires facts { fetched.now.facts ≡ run.old.facts }
-        requires may { All (MayHavePut self.old.plans run.old) fetched.now.words }
-        ensures cause { IfOk result (λ answer. MatchStepped answer
-            ((standing_of self.old.plans self.old.past run.old.stream).lost ≡ true)
-            (((standing_of self.old.plans self.old.past run.old.stream).lost ≡ false) × ((standing_of self.old.plans self.old.past run.old.stream).closed ≡ true))
-            (λ error. (is_open (standing_of self.old.plans self.old.past run.old.stream) ≡ true) × (verdict_at self.old.plans self.old.past run.old.stream fetched.now.words ≡ Err error))
-            (λ acted. (is_open (standing_of self.old.plans self.old.past run.old.stream) ≡ true) × IsOk (verdict_at self.old.plans self.old.past run.old.stream fetched.now.words))) }
-        ensures event { IfOk result (λ answer. MatchStepped answer
-            (Stays self.old self.new)
-            (Stays self.old self.new)
-            (λ error. Grows self.old self.new (Lost run.old.stream (Error error) fetched.now.words))
-            (λ acted. Grows self.old self.new (Step run.old.stream fetched.now.words))) }
-        ensures acted { IfOk result (λ answer. MatchStepped answer (Unit {0}) (Unit {0}) (λ error. Unit {0})
-            (WasExecuted self.old.plans self.old.past run.old.stream fetched.now.words)) }
-        ensures outs { IfOk result (λ answer. MatchStepped answer
-            (self.new.outs ≡ self.old.outs)
-            (self.new.outs ≡ self.old.outs)
-            (λ error. self.new.outs ≡ self.old.outs)
-            (λ acted. self.new.outs ≡ with_out self.old.outs run.old.stream record { order = run.old.order; paused = acted.kept })) }
-        ensures run { IfOk result (λ answer. MatchStepped answer
-            (run.new ≡ run.old)
-            (run.new ≡ run.old)
-            (λ error. run.new ≡ run.old)
-            (λ acted. IsMovedBy run.old run.new fetched.now.words acted.kept × IsRunOf self.new.plans self.new.past run.new)) }
+        requires facts { fetched.facts ≡ run.old.facts }
+        requires may { All (MayHavePut self.old.plans run.old) fetched.words }
+        ensures steps { IfOk result (Steps self.old self.new run.old run.new fetched.words) }
         ensures out { out_at self.old.outs run.old.stream ≡ record { order = run.old.order; paused = false } }
-        ensures shows { is_open (standing_of self.old.plans self.old.past run.old.stream) ≡ true → IsRunOf self.old.plans self.old.past run.old }
+        ensures shows { is_open (standing_of self.old.plans self.old.past run.old.stream) ≡ true
+            → IsRunOf self.old.plans self.old.past run.old }
         ensures err { OnErr result (Stays self.old self.new) }
         ensures same { OnErr result (run.new ≡ run.old) }
     {
@@ -132,7 +104,7 @@ impl Core {
             return Ok(Stepped::Closed);
         }
         let words = Words::of(self.alloc, fetched.words())?;
-        match self.judge(stream, fetched) {
+        match self.judge(stream, &fetched) {
             Ok(command) => Ok(Stepped::Done(self.enter_step(run, &command, words)?)),
             Err(error) => {
                 self.enter_lost(stream, Why::Error(error), words);

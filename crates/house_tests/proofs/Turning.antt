@@ -1,5 +1,5 @@
 -- One turn of a run of the one stream.
-use Rattle.std.proofs.Common.{◌≡◌, ℕ, ◌+◌, Bool, true, false, not, ◌&&◌, IsOk, Option, None, Err, List, ◌∷◌, ◌++◌, length, refl, sym, ap, subst, ◌∙◌, arith}
+use Rattle.std.proofs.Common.{◌≡◌, ℕ, ◌+◌, Bool, true, false, not, ◌&&◌, Option, None, List, ◌∷◌, ◌++◌, length, refl, sym, ap, subst, ◌∙◌, arith}
 use Rattle.std.proofs.lemmas.Bool.{and_right}
 use Rattle.std.proofs.lemmas.List.{length-append}
 use Rattle.gpu_cmd.specs.declared.error.CmdError.{CmdError}
@@ -9,20 +9,17 @@ use Rattle.sync_core.specs.Standing.{Standing, is_open}
 use Rattle.gpu_journal.specs.declared.event.Event.{Event}
 use Rattle.gpu_journal.specs.declared.event.Event.TheVariants.{Step, Finish, Lost}
 use Rattle.gpu_journal.specs.declared.event.Why.TheVariants.{Error}
-use Rattle.gpu_journal.specs.World.{Known, world, asked_by}
+use Rattle.gpu_journal.specs.World.{Known}
 use Rattle.gpu_journal.specs.Waits.{standing_of}
-use Rattle.gpu_journal.specs.Facts.{verdict_at}
 use Rattle.gpu_journal.specs.Serial.{order_event}
-use Rattle.run_laws.specs.Going.{keeps}
 use Rattle.run_laws.proofs.Going.{lost_ends}
 use Rattle.run_laws.proofs.Knowns.{known_order, known_finish, known_lost, step_ordered}
-use Rattle.house_core.specs.Core.{IsRunOf}
 use Rattle.house_core.specs.Desks.{RunData}
 use Rattle.house_core.specs.Answers.{IsMovedBy}
 use Rattle.gpu_house.specs.Slots.{SlotData, slot_at}
 use Rattle.gpu_house.specs.House.{HouseData, OutData}
 use Rattle.gpu_house.specs.Changes.{Same, StillBelongs, WroteResults, ResultsBelong}
-use Rattle.gpu_house.specs.Steps.{MatchNext}
+use Rattle.gpu_house.specs.Steps.{Steps}
 use Rattle.gpu_house.specs.declared.answers.Next.{Next}
 use Rattle.gpu_house.specs.declared.answers.Next.TheVariants.{More, Paused, FlushEnd, Invalid, Closed}
 use Rattle.gpu_house.specs.declared.answers.Next.TheVariants as nexts
@@ -159,16 +156,10 @@ module _ {Side Note Results Words : Type 0} (belongs : Side → Words → Type 0
         }
 
     -- whatever was answered
-    pub stepped : (next : Next)
-        → MatchNext next (λ kept. (is_open (standing_of p h s) ≡ true) × IsOk (verdict_at p h s found) × (kept ≡ keeps p h s (asked_by p s found (world p h)))) (λ error. (is_open (standing_of p h s) ≡ true) × (verdict_at p h s found ≡ Err error))
-        ((standing_of p h s).lost ≡ true) (((standing_of p h s).lost ≡ false) × ((standing_of p h s).closed ≡ true))
-        → MatchNext next (λ kept. new.core.past ≡ Step s found ∷ h) (λ error. new.core.past ≡ Lost s (Error error) found ∷ h) (Same house new) (Same house new)
-        → MatchNext next (λ kept. IsMovedBy run.run now.run found kept × IsRunOf p new.core.past now.run) (λ error. now.run ≡ run.run) (now ≡ run) (now ≡ run)
-        → MatchNext next (λ kept. now.note ≡ None) (λ error. now.note ≡ None) (Unit {0}) (Unit {0})
-        → HasStepped p house new now (goes_further next)
-    stepped More cause event moved met = stepped_done false event moved.0 met
-    stepped Paused cause event moved met = stepped_done true event moved.0 met
-    stepped FlushEnd cause event moved met = stepped_done false event moved.0 met
-    stepped (Invalid error) cause event moved met = stepped_lost error event moved met
-    stepped nexts.Lost cause event moved met = stepped_over (λ o. not_lost (standing_of p h s) o cause) event moved
-    stepped Closed cause event moved met = stepped_over (λ o. not_closed (standing_of p h s) o cause.1) event moved
+    pub stepped : {mark : Note → ℕ} (next : Next) → Steps seen mark p house new run now found next → HasStepped p house new now (goes_further next)
+    stepped More is = stepped_done false is.event is.moved is.met
+    stepped Paused is = stepped_done true is.event is.moved is.met
+    stepped FlushEnd is = stepped_done false is.event is.moved is.met
+    stepped (Invalid error) is = stepped_lost error is.event is.run is.met
+    stepped nexts.Lost is = stepped_over (λ o. not_lost (standing_of p h s) o is.is_over) is.same is.run
+    stepped Closed is = stepped_over (λ o. not_closed (standing_of p h s) o is.is_over.1) is.same is.run

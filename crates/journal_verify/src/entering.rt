@@ -46,7 +46,7 @@ impl Judge {
         ensures fits { OnOk result (FitsPlans plans.now self.new) }
     {
         let fences = fences_at(plans.plan(s).actions(), place);
-        draw(&mut self.core, s, fences)?;
+        draw(&mut self.scene.sync, s, fences)?;
         self.drawn += 1;
         self.watches[s as usize - 1].order();
         Ok(())
@@ -61,7 +61,7 @@ impl Judge {
         ensures turned { OnOk result (HasTurned s (Some Finished) (λ k. record k { finished = k.finished + 1 }) self.old.drawn self.old.images self.old.states self.old self.new) }
         ensures fits { OnOk result (FitsPlans plans.now self.new) }
     {
-        self.core.finish(s);
+        self.scene.sync.finish(s);
         self.watches[s as usize - 1].finish(plans.plan(s))?;
         Ok(())
     }
@@ -73,7 +73,7 @@ impl Judge {
         ensures turned { HasTurned s (Some WasLost) (λ k. record k { stays = false }) self.old.drawn self.old.images self.old.states self.old self.new }
         ensures fits { FitsPlans plans.now self.new }
     {
-        self.core.lose(s);
+        self.scene.sync.lose(s);
         self.watches[s as usize - 1].leave();
     }
 
@@ -84,7 +84,7 @@ impl Judge {
         ensures turned { HasTurned s (Some WasClosed) (λ k. record k { stays = false }) self.old.drawn self.old.images self.old.states self.old self.new }
         ensures fits { FitsPlans plans.now self.new }
     {
-        self.core.close(s);
+        self.scene.sync.close(s);
         self.watches[s as usize - 1].leave();
     }
 }

@@ -11,21 +11,17 @@ use crate::copy::copy;
 use crate::outcome::Outcome;
 use crate::watch::Watch;
 use gpu_cmd::{CmdError, Command, StreamFacts};
-use gpu_journal::{Event, Why};
 use gpu_plan::{Action, Plans};
-use gpu_store::{Answer, Images};
-use gpu_word::{Memory, split};
-use std::alloc::{AllocError, Global};
+use std::alloc::AllocError;
 use std::marker::Model;
-use stream_state::{Effect, StreamState};
-use sync_core::SyncCore;
+use step_parts::Scene;
+use stream_state::StreamState;
 
 /// What is kept while events are judged one after the other.
 #[derive(Drop)]
 pub(crate) struct Judge {
     pub(crate) drawn: u32,
-    pub(crate) core: SyncCore,
-    pub(crate) images: Images,
+    pub(crate) scene: Scene,
     pub(crate) states: Vec<StreamState>,
     pub(crate) watches: Vec<Watch>,
 }
@@ -35,7 +31,7 @@ impl Model for Judge {
 
     ghost Value = { JudgeData };
 
-    ghost view = { λ j. record { drawn = j.drawn; core = j.core; images = j.images; states = j.states.items; watches = j.watches.items } };
+    ghost view = { λ j. record { drawn = j.drawn; core = j.scene.sync; images = j.scene.images; states = j.states.items; watches = j.watches.items } };
 }
 
 // The put of the flush at a place, or 0 where none is.
@@ -154,10 +150,10 @@ impl Judge {
         requires fits { FitsPlans plans.now self.now }
         ensures { IfOk result (λ outcome. outcome ≡ fetch_outcome plans.now self.now s words.now) }
     {
-        if self.core.front(s).is_none() {
+        if self.scene.sync.front(s).is_none() {
             return Ok(Outcome::Broken(4));
         }
-        if self.core.blocked(s) {
+        if self.scene.sync.blocked(s) {
             return Ok(Outcome::Broken(5));
         }
         let facts = self.facts(plans, s);

@@ -16,11 +16,11 @@ impl Judge {
         requires fits { FitsPlans plans.now self.now }
         ensures { result ≡ finish_fault plans.now self.now s n }
     {
-        match self.core.front(s) {
+        match self.scene.sync.front(s) {
             Some(front) if front == n => {}
             _ => return Some(4),
         }
-        if self.core.blocked(s) {
+        if self.scene.sync.blocked(s) {
             return Some(5);
         }
         let facts = self.facts(plans, s);

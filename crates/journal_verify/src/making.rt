@@ -10,6 +10,7 @@ use gpu_plan::Plans;
 use gpu_store::Images;
 use gpu_word::Memory;
 use std::alloc::Global;
+use step_parts::Scene;
 use stream_state::first_states;
 use sync_core::SyncCore;
 
@@ -33,13 +34,13 @@ impl Judge {
         ensures counted { IfOk result (λ judge. HasCounted 0 judge) }
     {
         let count = plans.count();
-        let core = SyncCore::make(alloc, count)?;
+        let sync = SyncCore::make(alloc, count)?;
+        let images = Images::make(alloc);
         let states = first_states(alloc, count)?;
         let watches = first_watches(alloc, plans)?;
         Ok(Judge {
             drawn: 0,
-            core,
-            images: Images::make(alloc),
+            scene: Scene { images, sync },
             states,
             watches,
         })
@@ -64,6 +65,6 @@ impl Judge {
     pub(crate) fn into_images(self) -> Images
         ensures { result ≡ self.images }
     {
-        self.images
+        self.scene.images
     }
 }

@@ -1,2 +1,4 @@
 pub mod Plans
 mod Claimed
+mod Asking
+mod Executed

@@ -1,3 +1,3 @@
-pub mod Asking
 pub mod Keeping
 pub mod Claims
+pub mod Executing

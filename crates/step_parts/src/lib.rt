@@ -4,10 +4,13 @@
 mod acted;
 mod acting;
 mod claim;
+mod scene;
 mod taken;
 
 pub use acted::Acted;
 pub use acting::act;
+pub use scene::Scene;
+pub use taken::Taken;
 
 #[cfg(test)]
 mod playing;

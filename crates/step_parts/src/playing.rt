@@ -1,13 +1,12 @@
 //! Two streams whose commands are executed as they stand in the rings, for the tests.
 ghost use Rattle.std.specs.Prelude.{◌≡◌, ◌≢◌, ◌+◌, ◌<◌, ◌^◌, ◌++◌, length, IfOk, OnOk};
-ghost use Rattle.gpu_word.specs.Header.{size_of};
 ghost use Rattle.gpu_cmd.specs.Lawful.{IsLawfulAreas};
 ghost use Rattle.gpu_cmd.specs.Copied.{words_at};
 ghost use Rattle.stream_state.specs.State.{IsBounded};
-ghost use Rattle.stream_state.specs.Steps.{header_in, command_in};
+ghost use Rattle.stream_state.specs.Steps.{command_in};
 ghost use Rattle.stream_state.specs.Laws.{IsTaken};
 
-use crate::{Acted, act};
+use crate::{Acted, Scene, Taken, act};
 use gpu_cmd::{Areas, Command, decode, head};
 use gpu_plan::{Plans, parse};
 use gpu_store::Images;
@@ -23,18 +22,16 @@ const SCRIPT: &[u8] = b"gpu-script 2\nstream 0 5 normal 64\nresults 0 4\nstream 
 
 /// All that the streams' commands touch.
 #[derive(Drop)]
-pub struct Scene {
+pub struct Play {
     pub plans: Plans,
-    pub images: Images,
-    pub sync: SyncCore,
+    pub scene: Scene,
     pub states: Vec<StreamState>,
 }
 
-// A command that passed all checks, with the size in its header and the words that were fetched for it.
+// A command that passed all checks, with the words that were fetched for it.
 #[derive(Drop)]
 struct Accepted {
     command: Command,
-    size: u32,
     words: Vec<(u32, u32)>,
 }
 
@@ -64,7 +61,6 @@ fn accept(
     requires bounded { IsBounded state.now }
     ensures taken { IfOk result (λ found. IsTaken areas.now found.words.items state.now) }
     ensures command { IfOk result (λ found. found.command ≡ command_in found.words.items) }
-    ensures size { IfOk result (λ found. found.size ≡ size_of (header_in found.words.items)) }
 {
     let facts = state.facts(areas, 63);
     assert!(rt; facts.put < facts.areas.ring);
@@ -85,15 +81,14 @@ fn accept(
     push_words(&mut words, facts.get, ring)?;
     Ok(Accepted {
         command: found.command,
-        size: shape.size,
         words,
     })
 }
 
-impl Scene {
+impl Play {
     /// The streams of the script, each with a number.
-    pub fn make(rt: &impl Abort, alloc: Global) -> Result<Scene, Fail>
-        ensures waits { IfOk result (λ scene. length scene.sync.streams ≡ length scene.plans.plans) }
+    pub fn make(rt: &impl Abort, alloc: Global) -> Result<Play, Fail>
+        ensures waits { IfOk result (λ play. length play.scene.sync.streams ≡ length play.plans.plans) }
     {
         let plans = parse(alloc, SCRIPT).ok().ok_or("a script")?;
         assert!(rt; plans.count() == 2);
@@ -103,10 +98,10 @@ impl Scene {
         let mut states = Vec::new(alloc);
         states.push(StreamState::make(alloc))?;
         states.push(StreamState::make(alloc))?;
-        Ok(Scene {
+        let images = Images::make(alloc);
+        Ok(Play {
             plans,
-            images: Images::make(alloc),
-            sync,
+            scene: Scene { images, sync },
             states,
         })
     }
@@ -125,11 +120,11 @@ impl Scene {
         stream: u32,
         ring: &[u32],
     ) -> Result<Acted, Memory>
-        requires waits { length self.old.sync.streams ≡ length self.old.plans.plans }
-        ensures waits { length self.new.sync.streams ≡ length self.new.plans.plans }
+        requires waits { length self.old.scene.sync.streams ≡ length self.old.plans.plans }
+        ensures waits { length self.new.scene.sync.streams ≡ length self.new.plans.plans }
     {
         assert!(rt; 1 <= stream && stream <= self.plans.count());
-        assert!(rt; self.sync.front(stream).is_some());
+        assert!(rt; self.scene.sync.front(stream).is_some());
         assert!(rt; stream as usize <= self.states.len());
         let state = &mut self.states[stream as usize - 1];
         let (value, operation, texels) = state.errors();
@@ -137,15 +132,12 @@ impl Scene {
         assert!(rt; errors <= u64::from(state.fetched()));
         let areas = self.plans.plan(stream).areas();
         let found = accept(rt, alloc, areas, state, ring)?;
-        act(
-            &mut self.images,
-            &mut self.sync,
-            state,
-            &self.plans,
+        let taken = Taken {
+            plans: &self.plans,
             stream,
-            &found.command,
-            found.size,
-            &found.words,
-        )
+            command: &found.command,
+            words: &found.words,
+        };
+        act(&mut self.scene, state, &taken)
     }
 }

@@ -1,5 +1,6 @@
-use Rattle.std.proofs.Common.{◌≡◌, ℕ, ◌-◌, false, true, ◌∷◌, List, drop, option_map, IsOk, length, refl, sym, ap, subst, ◌∙◌, arith, length-set}
+use Rattle.std.proofs.Common.{◌≡◌, ℕ, ◌-◌, Bool, false, true, List, drop, option_map, length, refl, sym, ap, subst, ◌∙◌, arith, length-set}
 use Rattle.std.specs.Prelude.{slice_set, slice_index_or}
+use Rattle.std.specs.List.{All}
 use Rattle.gpu_word.specs.Results.{writes_of}
 use Rattle.gpu_cmd.specs.Spans.{words_in}
 use Rattle.gpu_plan.specs.Plans.{PlansData, plan_of}
@@ -13,10 +14,8 @@ use Rattle.gpu_journal.specs.declared.event.Event.{Event}
 use Rattle.gpu_journal.specs.declared.event.Event.TheVariants.{Step, Lost}
 use Rattle.gpu_journal.specs.declared.event.Why.TheVariants.{Error}
 use Rattle.gpu_journal.specs.Waits.{standing_of, pending_in}
-use Rattle.gpu_journal.specs.Facts.{verdict_at}
 use Rattle.run_laws.specs.Going.{keeps}
-use Rattle.house_core.specs.Answers.{IsMovedBy}
-use Rattle.house_core.specs.Core.{IsRunOf, is_home, with_out, book_at}
+use Rattle.house_core.specs.Core.{IsRunOf, MayHavePut, is_home, book_at}
 use Rattle.run_laws.proofs.Going.{lost_ends}
 use Rattle.house_core.specs.Desks.{Out}
 use Rattle.gpu_house.specs.Names.{table_at}
@@ -31,9 +30,18 @@ use Rattle.house_core.specs.Desks.{RunData}
 use Rattle.gpu_house.specs.Slots.{RunFits}
 use Rattle.gpu_house.specs.House.{HouseData, OutData}
 use Rattle.gpu_house.specs.Changes.{StillBelongs, met_by}
-use Rattle.gpu_house.specs.Steps.{told_side}
+use Rattle.gpu_house.specs.Steps.{told_side, IsDone, Steps}
 use Rattle.gpu_house.proofs.Stepping.{note_marked, met_fits, stepped_fits, told_list, ends}
+use Rattle.gpu_house.proofs.house.House.step.Given.{Over}
 use Rattle.gpu_house.proofs.house.House.step.Goals as goal
+
+-- the words of the step are the last that its side fetched, so they may have been put
+pub step-requires-clause-may : goal.step-requires-clause-may
+step-requires-clause-may g c =
+    let S = g.P.ServiceSide in
+    let run = c.run.inside.carried in
+    let last = ap (λ o. drop o.run.facts.fetched (S.side o.side).fetched) c.run.view_is ∙ c.requires.list in
+    subst (λ (q : PlansData). All (MayHavePut q run) c.args.fetched.words) (sym c.self.invariant.plans) (subst (All (MayHavePut g.N.Naming.plans run)) last c.run.invariant.may)
 
 -- memory was wanted for the step
 pub invariant_of-self-in_err-step : goal.invariant_of-self-in_err-step
@@ -52,7 +60,7 @@ invariant_of-self-in-Lost g c =
     let room = c.take_room.ensures in
     kept_still g.P.ServiceSide.side g.P.ServiceSide.table g.P.ServiceSide.mark g.P.ServiceSide.takes g.P.ServiceSide.written g.N.Naming.plans g.N.Naming.base g.N.Naming.words g.N.Naming.books c.self.inside.hooks c.take_room.new.hooks
     record { core = c.self.inside.core; slots = slots; results = results } record { core = c.step.new.self; slots = slots; results = results } c.self.invariant
-    (of_lost _ _ _ _ c.in_ok-step.field-0 c.in-Lost.is c.in_ok-step.ensures.event) refl refl room.base room.marks room.grows
+    (of_lost _ _ _ _ _ c.in_ok-step.field-0 c.in_ok-step.ensures.steps c.in-Lost.is).stays refl refl room.base room.marks room.grows
 
 pub invariant_of-self-in-Closed : goal.invariant_of-self-in-Closed
 invariant_of-self-in-Closed g c =
@@ -61,7 +69,7 @@ invariant_of-self-in-Closed g c =
     let room = c.take_room.ensures in
     kept_still g.P.ServiceSide.side g.P.ServiceSide.table g.P.ServiceSide.mark g.P.ServiceSide.takes g.P.ServiceSide.written g.N.Naming.plans g.N.Naming.base g.N.Naming.words g.N.Naming.books c.self.inside.hooks c.take_room.new.hooks
     record { core = c.self.inside.core; slots = slots; results = results } record { core = c.step.new.self; slots = slots; results = results } c.self.invariant
-    (of_closed _ _ _ _ c.in_ok-step.field-0 c.in-Closed.is c.in_ok-step.ensures.event) refl refl room.base room.marks room.grows
+    (of_closed _ _ _ _ _ c.in_ok-step.field-0 c.in_ok-step.ensures.steps c.in-Closed.is).stays refl refl room.base room.marks room.grows
 
 pub follow-requires : goal.follow-requires
 follow-requires g c =
@@ -69,19 +77,19 @@ follow-requires g c =
     let core = c.self.inside.core in
     let s = c.run.inside.carried.stream in
     let was = c.self.invariant in
-    let grows = of_invalid _ _ _ _ c.in_ok-step.field-0 c.in-Invalid.error c.in-Invalid.is c.in_ok-step.ensures.event in
+    let grows = (of_invalid _ _ _ _ _ c.in_ok-step.field-0 c.in_ok-step.ensures.steps c.in-Invalid.error c.in-Invalid.is).event in
     let waiting : c.waiting.result ≡ length (pending_in p core.past) = c.waiting.ensures ∙ ap (λ (p : PlansData). length (pending_in p core.past)) was.plans in
     let room = c.in_ok-take_room.ensures.room in
     grown_follow p g.N.Naming.base (Lost s (Error c.in-Invalid.error) c.args.fetched.words) core c.step.new.self c.self.inside.hooks c.take_room.new.hooks was.plans grows was.marked
     c.take_room.ensures.base c.take_room.ensures.marks (omega (arith, waiting, room))
 
-pub follow-requires-in-Done : goal.follow-requires-in-Done
-follow-requires-in-Done g c =
+pub follow-requires-2 : goal.follow-requires-2
+follow-requires-2 g c =
     let p = g.N.Naming.plans in
     let core = c.self.inside.core in
     let s = c.run.inside.carried.stream in
     let was = c.self.invariant in
-    let grows = of_done _ _ _ _ c.in_ok-step.field-0 c.in-Done.acted c.in-Done.is c.in_ok-step.ensures.event in
+    let grows = (of_done _ _ _ _ _ c.in_ok-step.field-0 c.in_ok-step.ensures.steps c.in-Done.acted c.in-Done.is).stepped.event in
     let waiting : c.waiting.result ≡ length (pending_in p core.past) = c.waiting.ensures ∙ ap (λ (p : PlansData). length (pending_in p core.past)) was.plans in
     let room = c.in_ok-take_room.ensures.room in
     let few = step_makes p core.past s c.args.fetched.words in
@@ -92,7 +100,7 @@ pub tell-requires-clause-results : goal.tell-requires-clause-results
 tell-requires-clause-results g c =
     let t = c.stream-stream.result in
     let run = c.run.inside.carried in
-    let moved = (of_done _ _ _ _ c.in_ok-step.field-0 c.in-Done.acted c.in-Done.is c.in_ok-step.ensures.run).0 in
+    let moved = (of_done _ _ _ _ _ c.in_ok-step.field-0 c.in_ok-step.ensures.steps c.in-Done.acted c.in-Done.is).stepped.moved in
     let at : t ≡ run.stream = c.stream-stream.ensures ∙ moved.stream in
     read_belongs g.P.ServiceSide.results_belong c.args.words.now c.args.self.now.results c.self.inside.results.items c.args.run.now.run.stream t c.index_mut.result.now
     (ap (λ h. h.results) c.self.view_is) (at ∙ ap (λ r. r.run.stream) c.run.view_is)
@@ -106,8 +114,8 @@ tell-requires-clause-takes g c =
     let run = c.run.inside.carried in
     let was = c.self.invariant in
     let results = c.self.inside.results.items in
-    let moved = (of_done _ _ _ _ c.in_ok-step.field-0 c.in-Done.acted c.in-Done.is c.in_ok-step.ensures.run).0 in
-    let acted = of_done _ _ _ _ c.in_ok-step.field-0 c.in-Done.acted c.in-Done.is c.in_ok-step.ensures.acted in
+    let moved = (of_done _ _ _ _ _ c.in_ok-step.field-0 c.in_ok-step.ensures.steps c.in-Done.acted c.in-Done.is).stepped.moved in
+    let acted = (of_done _ _ _ _ _ c.in_ok-step.field-0 c.in_ok-step.ensures.steps c.in-Done.acted c.in-Done.is).stepped.acted in
     let at : t ≡ run.stream = c.stream-stream.ensures ∙ moved.stream in
     let known = known_here p results t run.stream was.result_count at c.run.invariant.of_plans.known in
     let fit = at_stream g.P.ServiceSide.takes g.P.ServiceSide.written p core.past results t c.index_mut.result.now known c.index_mut.ensures.value was.results in
@@ -127,8 +135,8 @@ invariant_of-self-in-Invalid g c =
     let slots = c.self.inside.slots.items in
     let results = c.self.inside.results.items in
     let was = c.self.invariant in
-    let grows = of_invalid _ _ _ _ c.in_ok-step.field-0 c.in-Invalid.error c.in-Invalid.is c.in_ok-step.ensures.event in
-    let outs = of_invalid _ _ _ _ c.in_ok-step.field-0 c.in-Invalid.error c.in-Invalid.is c.in_ok-step.ensures.outs in
+    let grows = (of_invalid _ _ _ _ _ c.in_ok-step.field-0 c.in_ok-step.ensures.steps c.in-Invalid.error c.in-Invalid.is).event in
+    let outs = (of_invalid _ _ _ _ _ c.in_ok-step.field-0 c.in_ok-step.ensures.steps c.in-Invalid.error c.in-Invalid.is).outs in
     kept g.P.ServiceSide.side g.P.ServiceSide.table g.P.ServiceSide.mark takes told p g.N.Naming.base g.N.Naming.words g.N.Naming.books c.self.inside.hooks c.follow.new.hooks
     record { core = core; slots = slots; results = results } record { core = now; slots = slots; results = results } was
     c.holds.ensures grows.plans grows.books (subst (λ (b : ℕ). AreMarked now.plans b now.past c.follow.new.hooks) c.take_room.ensures.base c.follow.ensures) refl
@@ -151,17 +159,17 @@ invariant_of-self-2 g c =
     let results = c.self.inside.results.items in
     let results' = slice_set results (t - 1) c.tell.new.results in
     let was = c.self.invariant in
-    let grows = of_done _ _ _ _ c.in_ok-step.field-0 c.in-Done.acted c.in-Done.is c.in_ok-step.ensures.event in
-    let outs = of_done _ _ _ _ c.in_ok-step.field-0 c.in-Done.acted c.in-Done.is c.in_ok-step.ensures.outs in
-    let moved = (of_done _ _ _ _ c.in_ok-step.field-0 c.in-Done.acted c.in-Done.is c.in_ok-step.ensures.run).0 in
-    let acted = of_done _ _ _ _ c.in_ok-step.field-0 c.in-Done.acted c.in-Done.is c.in_ok-step.ensures.acted in
-    let open' = (of_done _ _ _ _ c.in_ok-step.field-0 c.in-Done.acted c.in-Done.is c.in_ok-step.ensures.cause).0 in
+    let grows = (of_done _ _ _ _ _ c.in_ok-step.field-0 c.in_ok-step.ensures.steps c.in-Done.acted c.in-Done.is).stepped.event in
+    let outs = (of_done _ _ _ _ _ c.in_ok-step.field-0 c.in_ok-step.ensures.steps c.in-Done.acted c.in-Done.is).stepped.outs in
+    let moved = (of_done _ _ _ _ _ c.in_ok-step.field-0 c.in_ok-step.ensures.steps c.in-Done.acted c.in-Done.is).stepped.moved in
+    let acted = (of_done _ _ _ _ _ c.in_ok-step.field-0 c.in_ok-step.ensures.steps c.in-Done.acted c.in-Done.is).stepped.acted in
+    let open' = (of_done _ _ _ _ _ c.in_ok-step.field-0 c.in_ok-step.ensures.steps c.in-Done.acted c.in-Done.is).still_open in
     let positive = order_positive core.plans core.past run (c.in_ok-step.ensures.shows open') in
     let at : t ≡ s = c.stream-stream.ensures ∙ moved.stream in
     let wrote : writes_told c.in-Done.acted.effect ≡ writes (plan_of p s).areas words (state_of p core.past s) = subst (λ (q : PlansData). writes_told c.in-Done.acted.effect ≡ writes (plan_of q s).areas words (state_of q core.past s)) was.plans acted.writes in
-    kept g.P.ServiceSide.side g.P.ServiceSide.table g.P.ServiceSide.mark takes told p g.N.Naming.base g.N.Naming.words g.N.Naming.books c.self.inside.hooks c.follow-in-Done.new.hooks
+    kept g.P.ServiceSide.side g.P.ServiceSide.table g.P.ServiceSide.mark takes told p g.N.Naming.base g.N.Naming.words g.N.Naming.books c.self.inside.hooks c.follow-2.new.hooks
     record { core = core; slots = slots; results = results } record { core = now; slots = slots; results = results' } was
-    c.holds-in-Done.ensures grows.plans grows.books (subst (λ (b : ℕ). AreMarked now.plans b now.past c.follow-in-Done.new.hooks) c.take_room.ensures.base c.follow-in-Done.ensures) refl
+    c.holds-2.ensures grows.plans grows.books (subst (λ (b : ℕ). AreMarked now.plans b now.past c.follow-2.new.hooks) c.take_room.ensures.base c.follow-2.ensures) refl
     (stepped_homes g.P.ServiceSide.side g.P.ServiceSide.table g.P.ServiceSide.mark p (table_at g.N.Naming.words) core now slots s words record { order = run.order; paused = c.in-Done.acted.kept } c.run.invariant.of_plans.known.0 grows.past outs
     (ap (λ (q : PlansData). is_open (standing_of q core.past s)) (sym was.plans) ∙ open') (is_out core.outs s record { order = run.order; paused = false } c.in_ok-step.ensures.out positive)
     (ap (λ (row : List Out). is_home row s) outs ∙ stays_out core.outs s run.order false c.in-Done.acted.kept c.in_ok-step.ensures.out positive) was.homes)
@@ -174,7 +182,7 @@ pub returns-clause-results : goal.returns-clause-results
 returns-clause-results g c =
     let t = c.stream-stream.result in
     let run = c.run.inside.carried in
-    let moved = (of_done _ _ _ _ c.in_ok-step.field-0 c.in-Done.acted c.in-Done.is c.in_ok-step.ensures.run).0 in
+    let moved = (of_done _ _ _ _ _ c.in_ok-step.field-0 c.in_ok-step.ensures.steps c.in-Done.acted c.in-Done.is).stepped.moved in
     let at : t ≡ run.stream = c.stream-stream.ensures ∙ moved.stream in
     wrote g.P.ServiceSide.results_belong c.args.words.now c.args.self.now.results c.self.inside.results.items c.args.run.now.run.stream t c.tell.new.results
     (ap (λ h. h.results) c.self.view_is) (at ∙ ap (λ r. r.run.stream) c.run.view_is)
@@ -182,8 +190,8 @@ returns-clause-results g c =
 
 -- ---- the run
 
-pub meet-requires-in-Done-clause-flush : goal.meet-requires-in-Done-clause-flush
-meet-requires-in-Done-clause-flush g c = note_marked g.P.ServiceSide.side g.P.ServiceSide.table g.P.ServiceSide.mark g.N.Naming.plans (table_at g.N.Naming.words) (book_at g.N.Naming.books) c.run.inside.carried c.run.inside.side c.run.inside.note c.run.invariant
+pub meet-requires-2-clause-flush : goal.meet-requires-2-clause-flush
+meet-requires-2-clause-flush g c = note_marked g.P.ServiceSide.side g.P.ServiceSide.table g.P.ServiceSide.mark g.N.Naming.plans (table_at g.N.Naming.words) (book_at g.N.Naming.books) c.run.inside.carried c.run.inside.side c.run.inside.note c.run.invariant
 
 pub invariant_of-run-in-Invalid : goal.invariant_of-run-in-Invalid
 invariant_of-run-in-Invalid g c =
@@ -191,7 +199,7 @@ invariant_of-run-in-Invalid g c =
     let p = g.N.Naming.plans in
     let tables = table_at g.N.Naming.words in
     let books = book_at g.N.Naming.books in
-    let same = of_invalid _ _ _ _ c.in_ok-step.field-0 c.in-Invalid.error c.in-Invalid.is c.in_ok-step.ensures.run in
+    let same = (of_invalid _ _ _ _ _ c.in_ok-step.field-0 c.in_ok-step.ensures.steps c.in-Invalid.error c.in-Invalid.is).run in
     let met = met_fits S.side S.table S.mark p tables books c.run.inside.carried c.run.inside.side c.meet.new.side c.run.inside.note c.run.invariant c.meet.ensures.told c.meet.ensures.bounded c.meet.ensures.table in
     subst (λ (run : RunData). RunFits S.side S.table S.mark p tables books run c.meet.new.side c.meet.new.note) (sym same)
     (subst (RunFits S.side S.table S.mark p tables books c.run.inside.carried c.meet.new.side) (sym c.meet.ensures.met) met)
@@ -207,17 +215,17 @@ invariant_of-run-2 g c =
     let run = c.run.inside.carried in
     let words = c.args.fetched.words in
     let was = c.self.invariant in
-    let grows = of_done _ _ _ _ c.in_ok-step.field-0 c.in-Done.acted c.in-Done.is c.in_ok-step.ensures.event in
-    let moved = of_done _ _ _ _ c.in_ok-step.field-0 c.in-Done.acted c.in-Done.is c.in_ok-step.ensures.run in
-    let acted = of_done _ _ _ _ c.in_ok-step.field-0 c.in-Done.acted c.in-Done.is c.in_ok-step.ensures.acted in
-    let open' = (of_done _ _ _ _ c.in_ok-step.field-0 c.in-Done.acted c.in-Done.is c.in_ok-step.ensures.cause).0 in
+    let grows = (of_done _ _ _ _ _ c.in_ok-step.field-0 c.in_ok-step.ensures.steps c.in-Done.acted c.in-Done.is).stepped.event in
+    let own = (of_done _ _ _ _ _ c.in_ok-step.field-0 c.in_ok-step.ensures.steps c.in-Done.acted c.in-Done.is).stepped in
+    let acted = (of_done _ _ _ _ _ c.in_ok-step.field-0 c.in_ok-step.ensures.steps c.in-Done.acted c.in-Done.is).stepped.acted in
+    let open' = (of_done _ _ _ _ _ c.in_ok-step.field-0 c.in_ok-step.ensures.steps c.in-Done.acted c.in-Done.is).still_open in
     let run_of : IsRunOf p core.past run = subst (λ (q : PlansData). IsRunOf q core.past run) was.plans (c.in_ok-step.ensures.shows open') in
-    let now_of : IsRunOf p now.past c.step.new.run = subst (λ (q : PlansData). IsRunOf q now.past c.step.new.run) (grows.plans ∙ was.plans) moved.1 in
+    let now_of : IsRunOf p now.past c.step.new.run = subst (λ (q : PlansData). IsRunOf q now.past c.step.new.run) (grows.plans ∙ was.plans) own.run in
     let asked : c.in-Done.acted.effect ≡ asked_by p run.stream words (world p core.past) = subst (λ (q : PlansData). c.in-Done.acted.effect ≡ asked_by q run.stream words (world q core.past)) was.plans acted.effect in
-    let met = met_fits S.side S.table S.mark p tables books run c.run.inside.side c.meet-in-Done.new.side c.run.inside.note c.run.invariant c.meet-in-Done.ensures.told c.meet-in-Done.ensures.bounded c.meet-in-Done.ensures.table in
-    let last : drop run.facts.fetched (S.side c.meet-in-Done.new.side).fetched ≡ words = ap (drop run.facts.fetched) c.meet-in-Done.ensures.list ∙ ap (λ o. drop o.run.facts.fetched (S.side o.side).fetched) c.run.view_is ∙ c.requires.list in
-    subst (RunFits S.side S.table S.mark p tables books c.step.new.run c.tell.new.side) (sym c.meet-in-Done.ensures.met)
-    (stepped_fits S.side S.table S.mark p tables books run c.step.new.run c.meet-in-Done.new.side c.tell.new.side words c.in-Done.acted.effect c.in-Done.acted.kept core.past now.past met last c.tell.ensures.side c.tell.ensures.table grows.past asked run_of moved.0 now_of)
+    let met = met_fits S.side S.table S.mark p tables books run c.run.inside.side c.meet-2.new.side c.run.inside.note c.run.invariant c.meet-2.ensures.told c.meet-2.ensures.bounded c.meet-2.ensures.table in
+    let last : drop run.facts.fetched (S.side c.meet-2.new.side).fetched ≡ words = ap (drop run.facts.fetched) c.meet-2.ensures.list ∙ ap (λ o. drop o.run.facts.fetched (S.side o.side).fetched) c.run.view_is ∙ c.requires.list in
+    subst (RunFits S.side S.table S.mark p tables books c.step.new.run c.tell.new.side) (sym c.meet-2.ensures.met)
+    (stepped_fits S.side S.table S.mark p tables books run c.step.new.run c.meet-2.new.side c.tell.new.side words c.in-Done.acted.effect c.in-Done.acted.kept core.past now.past met last c.tell.ensures.side c.tell.ensures.table grows.past asked run_of own.moved now_of)
 
 -- ---- what is answered
 
@@ -226,7 +234,7 @@ returns-in-Invalid-clause-still g c = subst (λ (o : OutData g.row.P.Denot g.row
 
 pub returns-clause-still : goal.returns-clause-still
 returns-clause-still g c =
-    let met = c.meet-in-Done.ensures.still in
+    let met = c.meet-2.ensures.still in
     let told = c.tell.ensures.still in
     subst (λ (o : OutData g.row.P.Denot g.row.P-Note.Denot). StillBelongs g.P.ServiceSide.belongs g.P.ServiceSide.note_belongs c.args.words.now o.side c.tell.new.side) c.run.view_is
     record { beside = told.beside; notes = λ n belongs. told.notes n (met.notes n belongs) }
@@ -234,69 +242,53 @@ returns-clause-still g c =
 pub returns-clause-list : goal.returns-clause-list
 returns-clause-list g c =
     let S = g.P.ServiceSide in
-    ap (λ d. d.fetched) c.tell.ensures.side ∙ told_list c.in-Done.acted.effect (S.side c.meet-in-Done.new.side) ∙ c.meet-in-Done.ensures.list ∙ ap (λ o. (S.side o.side).fetched) c.run.view_is
+    ap (λ d. d.fetched) c.tell.ensures.side ∙ told_list c.in-Done.acted.effect (S.side c.meet-2.new.side) ∙ c.meet-2.ensures.list ∙ ap (λ o. (S.side o.side).fetched) c.run.view_is
 
 pub returns-clause-end : goal.returns-clause-end
 returns-clause-end g c = ends c.next_of.result c.in-Done.acted.kept c.at_end.result c.step.new.run.facts.get c.step.new.run.facts.put c.next_of.ensures c.at_end.ensures.value
 
-pub returns-clause-cause : goal.returns-clause-cause
-returns-clause-cause g c =
+-- the house and the run after a step
+module _ (g : Over) (c : goal.Joined-acted g) where
+  abbrev house : HouseData g.row.P.Denot g.row.P-Note.Denot g.row.P-Results.Denot
+  house = record { core = c.step.new.self; slots = c.self.inside.slots.items; results = slice_set c.self.inside.results.items (c.stream-stream.result - 1) c.tell.new.results }
+
+  abbrev left : OutData g.row.P.Denot g.row.P-Note.Denot
+  left = record { run = c.step.new.run; side = c.tell.new.side; note = c.meet-2.new.note }
+
+  done : IsDone g.P.ServiceSide.side g.P.ServiceSide.mark g.N.Naming.plans c.args.self.now house c.args.run.now left c.args.fetched.words c.in-Done.acted.kept
+  done =
+      let core = c.self.inside.core in
+      let run = c.run.inside.carried in
+      let side = g.P.ServiceSide.side in
+      let mark = g.P.ServiceSide.mark in
+      let note = c.run.inside.note in
+      let words = c.args.fetched.words in
+      let kept = c.in-Done.acted.kept in
+      let is = (of_done _ _ _ _ _ c.in_ok-step.field-0 c.in_ok-step.ensures.steps c.in-Done.acted c.in-Done.is) in
+      let own = is.stepped in
+      let told = c.tell.ensures.side ∙ ap (told_side c.in-Done.acted.effect) c.meet-2.ensures.told
+      ∙ ap (λ (e : Effect). told_side e (met_by (option_map mark note) (side c.run.inside.side))) own.acted.effect in
+      let here : IsDone side mark core.plans record { core = core; slots = c.self.inside.slots.items; results = c.self.inside.results.items } house record { run = run; side = c.run.inside.side; note = note } left words kept =
+      record {
+        still_open = is.still_open;
+        valid = is.valid;
+        kept = own.acted.kept ∙ ap (keeps core.plans core.past run.stream) own.acted.effect;
+        event = own.event.past;
+        moved = own.moved;
+        run = subst (λ (q : PlansData). IsRunOf q c.step.new.self.past c.step.new.run) own.event.plans own.run;
+        outs = own.outs;
+        told = told;
+        met = c.meet-2.ensures.met;
+      } in
+      subst (λ (h : HouseData g.row.P.Denot g.row.P-Note.Denot g.row.P-Results.Denot). IsDone side mark g.N.Naming.plans h house c.args.run.now left words kept) c.self.view_is
+      (subst (λ (o : OutData g.row.P.Denot g.row.P-Note.Denot). IsDone side mark g.N.Naming.plans record { core = core; slots = c.self.inside.slots.items; results = c.self.inside.results.items } house o left words kept) c.run.view_is
+      (subst (λ (q : PlansData). IsDone side mark q record { core = core; slots = c.self.inside.slots.items; results = c.self.inside.results.items } house record { run = run; side = c.run.inside.side; note = note } left words kept) c.self.invariant.plans here))
+
+pub returns-clause-steps : goal.returns-clause-steps
+returns-clause-steps g c =
+    let side = g.P.ServiceSide.side in
+    let mark = g.P.ServiceSide.mark in
     let p = g.N.Naming.plans in
-    let core = c.self.inside.core in
-    let run = c.run.inside.carried in
-    let words = c.args.fetched.words in
-    let kept = c.in-Done.acted.kept in
-    let was = c.self.invariant in
-    let cause = of_done _ _ _ _ c.in_ok-step.field-0 c.in-Done.acted c.in-Done.is c.in_ok-step.ensures.cause in
-    let acted = of_done _ _ _ _ c.in_ok-step.field-0 c.in-Done.acted c.in-Done.is c.in_ok-step.ensures.acted in
-    let Cause : PlansData → List Event → ℕ → Type 0 = λ q h s. (is_open (standing_of q h s) ≡ true) × IsOk (verdict_at q h s words) × (kept ≡ keeps q h s (asked_by q s words (world q h))) in
-    let here : Cause core.plans core.past run.stream = (cause.0, cause.1, acted.kept ∙ ap (keeps core.plans core.past run.stream) acted.effect) in
-    goes_on _ _ _ _ c.next_of.result kept c.at_end.result c.next_of.ensures
-    (subst (λ (h : HouseData g.row.P.Denot g.row.P-Note.Denot g.row.P-Results.Denot). Cause p h.core.past c.args.run.now.run.stream) c.self.view_is
-    (subst (λ (o : OutData g.row.P.Denot g.row.P-Note.Denot). Cause p core.past o.run.stream) c.run.view_is
-    (subst (λ (q : PlansData). Cause q core.past run.stream) was.plans here)))
-
-pub returns-clause-event : goal.returns-clause-event
-returns-clause-event g c =
-    let grows = of_done _ _ _ _ c.in_ok-step.field-0 c.in-Done.acted c.in-Done.is c.in_ok-step.ensures.event in
-    goes_on _ _ _ _ c.next_of.result c.in-Done.acted.kept c.at_end.result c.next_of.ensures
-    (subst (λ (h : HouseData g.row.P.Denot g.row.P-Note.Denot g.row.P-Results.Denot). c.step.new.self.past ≡ Step c.args.run.now.run.stream c.args.fetched.words ∷ h.core.past) c.self.view_is
-    (subst (λ (o : OutData g.row.P.Denot g.row.P-Note.Denot). c.step.new.self.past ≡ Step o.run.stream c.args.fetched.words ∷ c.self.inside.core.past) c.run.view_is grows.past))
-
-pub returns-clause-run : goal.returns-clause-run
-returns-clause-run g c =
-    let now = c.step.new.self in
-    let grows = of_done _ _ _ _ c.in_ok-step.field-0 c.in-Done.acted c.in-Done.is c.in_ok-step.ensures.event in
-    let moved = of_done _ _ _ _ c.in_ok-step.field-0 c.in-Done.acted c.in-Done.is c.in_ok-step.ensures.run in
-    goes_on _ _ _ _ c.next_of.result c.in-Done.acted.kept c.at_end.result c.next_of.ensures (
-      subst (λ (o : OutData g.row.P.Denot g.row.P-Note.Denot). IsMovedBy o.run c.step.new.run c.args.fetched.words c.in-Done.acted.kept) c.run.view_is moved.0,
-      subst (λ (q : PlansData). IsRunOf q now.past c.step.new.run) (grows.plans ∙ c.self.invariant.plans) moved.1,
-    )
-
-pub returns-clause-outs : goal.returns-clause-outs
-returns-clause-outs g c =
-    let outs = of_done _ _ _ _ c.in_ok-step.field-0 c.in-Done.acted c.in-Done.is c.in_ok-step.ensures.outs in
-    let kept = c.in-Done.acted.kept in
-    goes_on _ _ _ _ c.next_of.result kept c.at_end.result c.next_of.ensures
-    (subst (λ (h : HouseData g.row.P.Denot g.row.P-Note.Denot g.row.P-Results.Denot). c.step.new.self.outs ≡ with_out h.core.outs c.args.run.now.run.stream record { order = c.args.run.now.run.order; paused = kept }) c.self.view_is
-    (subst (λ (o : OutData g.row.P.Denot g.row.P-Note.Denot). c.step.new.self.outs ≡ with_out c.self.inside.core.outs o.run.stream record { order = o.run.order; paused = kept }) c.run.view_is outs))
-
-pub returns-clause-told : goal.returns-clause-told
-returns-clause-told g c =
-    let S = g.P.ServiceSide in
-    let p = g.N.Naming.plans in
-    let core = c.self.inside.core in
-    let run = c.run.inside.carried in
-    let words = c.args.fetched.words in
-    let z = c.tell.new.side in
-    let acted = of_done _ _ _ _ c.in_ok-step.field-0 c.in-Done.acted c.in-Done.is c.in_ok-step.ensures.acted in
-    let Told : PlansData → List Event → OutData g.row.P.Denot g.row.P-Note.Denot → Type 0 = λ q h o. S.side z ≡ told_side (asked_by q o.run.stream words (world q h)) (met_by (option_map S.mark o.note) (S.side o.side)) in
-    let here : Told core.plans core.past record { run = run; side = c.run.inside.side; note = c.run.inside.note } =
-    c.tell.ensures.side ∙ ap (told_side c.in-Done.acted.effect) c.meet-in-Done.ensures.told ∙ ap (λ (e : Effect). told_side e (met_by (option_map S.mark c.run.inside.note) (S.side c.run.inside.side))) acted.effect in
-    goes_on _ _ _ _ c.next_of.result c.in-Done.acted.kept c.at_end.result c.next_of.ensures
-    (subst (λ (h : HouseData g.row.P.Denot g.row.P-Note.Denot g.row.P-Results.Denot). Told p h.core.past c.args.run.now) c.self.view_is
-    (subst (Told p core.past) c.run.view_is
-    (subst (λ (q : PlansData). Told q core.past record { run = run; side = c.run.inside.side; note = c.run.inside.note }) c.self.invariant.plans here)))
-
-pub returns-clause-met : goal.returns-clause-met
-returns-clause-met g c = goes_on _ _ _ _ c.next_of.result c.in-Done.acted.kept c.at_end.result c.next_of.ensures c.meet-in-Done.ensures.met
+    let done_by : (b : Bool) → c.in-Done.acted.kept ≡ b → IsDone side mark p c.args.self.now (house g c) c.args.run.now (left g c) c.args.fetched.words b =
+    λ b e. subst (IsDone side mark p c.args.self.now (house g c) c.args.run.now (left g c) c.args.fetched.words) e (done g c) in
+    goes_on (Steps side mark p c.args.self.now (house g c) c.args.run.now (left g c) c.args.fetched.words) c.next_of.result c.in-Done.acted.kept c.at_end.result c.next_of.ensures (done_by true) (done_by false) (done_by false)

@@ -2,6 +2,7 @@ use Rattle.std.proofs.Common.{◌≡◌, ◌-◌, ℕ, List, ◌∷◌, get_or, 
 use Rattle.sync_core.specs.Core.{StandsFor}
 use Rattle.sync_core.specs.Events.{noted}
 use Rattle.stream_state.specs.declared.effect.Effect.{Effect}
+use Rattle.stream_state.specs.State.{State}
 use Rattle.gpu_store.specs.Images.{Pictures}
 use Rattle.gpu_plan.specs.Plans.{plan_of}
 use Rattle.gpu_journal.specs.declared.event.Event.{Event}
@@ -14,15 +15,15 @@ use Rattle.run_laws.proofs.Needs.{need_step}
 use Rattle.run_laws.proofs.Knowns.{step_images}
 use Rattle.step_parts.specs.declared.acted.Acted.{Acted}
 use Rattle.house_core.specs.Desks.{Out, DeskData, RunData, Agree, desk_at, run_of}
-use Rattle.house_core.specs.Answers.{WasExecuted, IsMovedBy}
-use Rattle.house_core.specs.Stepping.{IsReadyFor, IsToldOf, stepped_desk}
+use Rattle.house_core.specs.Answers.{WasExecuted, IsMovedBy, HasStepped}
+use Rattle.house_core.specs.Stepping.{stepped_desk}
 use Rattle.house_core.specs.Core.{CoreData, IsRunOf, books_of, outs_of, with_out}
 use Rattle.house_core.specs.Invariant.{Parts, DeskFits, seen}
 use Rattle.house_core.proofs.Rows.{books_stay, outs_set}
-use Rattle.house_core.proofs.Again.{seats_stay, goes_on}
+use Rattle.house_core.proofs.Again.{Place, seats_stay, goes_on}
 use Rattle.house_core.proofs.Seen.{parts_of, place_seen}
 use Rattle.house_core.proofs.Executing.{ready, executed}
-use Rattle.house_core.proofs.AfterStep.{IsOut, out_seen, agrees, may_step, fits_step, run_after, run_goes_on, run_moves}
+use Rattle.house_core.proofs.AfterStep.{desk_after, IsOut, out_seen, agrees, may_step, fits_step, run_after, run_goes_on, run_moves}
 use Rattle.house_core.proofs.core_of.Core.enter_step.Goals as goal
 
 -- the desk that was found is that of the run's stream
@@ -41,14 +42,17 @@ pub step-requires-clause-ready : goal.step-requires-clause-ready
 step-requires-clause-ready c =
     let now = parts_of c.self.inside in
     let run = c.args.run.now in
-    let words = c.args.words in
-    let command = c.args.command.now in
+    let s = c.stream-stream.result in
     let desk = c.index_mut-desk.result.now in
-    let place = place_seen now _ run.stream c.self.view_is c.self.invariant c.requires.plan.known in
-    let read = at_run now.desks c.stream-stream.result run.stream desk _ c.index_mut-desk.ensures.value c.stream-stream.ensures (place.there _) in
-    let obeys = subst (λ (v : CoreData). Obeys v.plans v.past (Step run.stream words)) (sym c.self.view_is) c.requires.obeys in
-    let verdict = ap (λ (v : CoreData). verdict_at v.plans v.past run.stream words) c.self.view_is ∙ c.requires.command in
-    subst (λ (words : List (ℕ × ℕ)). IsReadyFor now.plans now.sync desk run.stream words command) (sym c.as_slice.ensures) (ready now run.stream words command desk c.self.invariant place read obeys verdict)
+    let at = place_seen now _ run.stream c.self.view_is c.self.invariant c.requires.plan.known in
+    let place = subst (Place now) (sym c.stream-stream.ensures) at in
+    let obeys = subst (λ (v : CoreData). Obeys v.plans v.past (Step run.stream c.args.words)) (sym c.self.view_is) c.requires.obeys in
+    let verdict = ap (λ (v : CoreData). verdict_at v.plans v.past run.stream c.args.words) c.self.view_is ∙ c.requires.command in
+    let same = sym c.stream-stream.ensures in
+    let words = sym c.as_slice.ensures in
+    ready now _ desk c.self.invariant place refl (c.index_mut-desk.ensures.value ∙ place.there _)
+    (subst (λ (words : List (ℕ × ℕ)). Obeys now.plans now.past (Step s words)) words (subst (λ (s : ℕ). Obeys now.plans now.past (Step s c.args.words)) same obeys))
+    ((λ i. verdict_at now.plans now.past (c.stream-stream.ensures i) (c.as_slice.ensures i)) ∙ verdict)
 
 module _ (c : goal.After-push) where
   abbrev now : Parts
@@ -73,11 +77,17 @@ module _ (c : goal.After-push) where
   obeys = subst (λ (v : CoreData). Obeys v.plans v.past event) (sym c.self.view_is) c.requires.obeys
 
   told : WasExecuted now.plans now.past run.stream c.args.words acted
-  told = executed now run.stream c.args.words acted c.index_mut-desk.result.now.state c.self.invariant out.place (ap (λ (desk : DeskData). desk.state) read ∙ out.place.fits.state)
-      (subst (λ (words : List (ℕ × ℕ)). IsToldOf now.plans now.sync c.index_mut-desk.result.now.state now.images run.stream words acted) c.as_slice.ensures c.in_ok-acted.ensures.told)
+  told =
+      let place = subst (Place now) (sym c.stream-stream.ensures) out.place in
+      let state = ap (λ (desk : DeskData). desk.state) (c.index_mut-desk.ensures.value ∙ place.there _) ∙ place.fits.state in
+      let here = executed now _ _ _ _ _ acted c.self.invariant place refl refl state c.in_ok-acted.ensures.executes in
+      subst (λ (s : ℕ). WasExecuted now.plans now.past s c.args.words acted) c.stream-stream.ensures
+      (subst (λ (words : List (ℕ × ℕ)). WasExecuted now.plans now.past c.stream-stream.result words acted) c.as_slice.ensures here)
 
-  came : c.step.new.desk ≡ stepped_desk now.plans run.stream c.args.words acted (desk_at now.desks run.stream)
-  came = c.in_ok-acted.ensures.desk ∙ ap (λ (words : List (ℕ × ℕ)). stepped_desk now.plans run.stream words acted c.index_mut-desk.result.now) c.as_slice.ensures ∙ ap (stepped_desk now.plans run.stream c.args.words acted) read
+  came : c.step.new.desk ≡ desk_after now.plans run.stream c.args.words acted (desk_at now.desks run.stream)
+  came =
+      c.in_ok-acted.ensures.desk ∙ ap (λ (left : State). stepped_desk left acted c.index_mut-desk.result.now) c.in_ok-acted.ensures.executes.state
+      ∙ (λ i. desk_after now.plans (c.stream-stream.ensures i) (c.as_slice.ensures i) acted (read i))
 
   -- at the place of the run's stream
   set_there : set now.desks (c.stream-stream.result - 1) c.step.new.desk ≡ set now.desks (run.stream - 1) c.step.new.desk
@@ -87,7 +97,7 @@ module _ (c : goal.After-push) where
   past = c.push.ensures.events ∙ ap (λ (s : ℕ). Step s c.args.words ∷ c.take_room.new.journal.events) c.stream-stream.ensures ∙ ap (λ (h : List Event). event ∷ h) c.take_room.ensures.past
 
   after : c.step.new.self ≡ run_after now run c.args.words acted
-  after = c.in_ok-acted.ensures.run ∙ ap (run_of run.stream (plan_of now.plans run.stream) run.place run.facts.put) came
+  after = c.in_ok-acted.ensures.run ∙ (λ i. run_of run.stream (plan_of now.plans (c.stream-stream.ensures i)).areas run.place run.facts.put (came i))
 
 pub invariant_of-self-2 : goal.invariant_of-self-2
 invariant_of-self-2 c =
@@ -96,14 +106,16 @@ invariant_of-self-2 c =
     let s = (run c).stream in
     let words = c.args.words in
     let was = c.self.invariant in
+    let does = c.in_ok-acted.ensures.executes in
     goes_on (now c) _ (event c) c.step.new.desk was (out c).place record {
       plans = refl;
       past = past c;
       obeys = obeys c;
-      stands = subst (λ (effect : Effect). StandsFor c.step.new.sync (noted s (deed_asked p effect) (sync_of p h))) (told c).effect (c.in_ok-acted.ensures.waits (sync_of p h) was.sync);
-      count = c.step.ensures.count;
+      stands = subst (λ (effect : Effect). StandsFor c.step.new.scene.sync (noted s (deed_asked p effect) (sync_of p h))) (told c).effect
+          (subst (λ (s : ℕ). StandsFor c.step.new.scene.sync (noted s (deed_asked p (acted c).effect) (sync_of p h))) c.stream-stream.ensures (does.waits (sync_of p h) was.sync));
+      count = does.count;
       endings = c.has_room.ensures;
-      images = c.in_ok-acted.ensures.images ∙ ap (λ (effect : Effect). (drawn_by effect (now c).images).images) (told c).effect ∙ ap (λ (images : Pictures). (drawn_by (asked_by p s words (world p h)) images).images) was.images ∙ sym (step_images p h s words);
+      images = does.images ∙ ap (λ (effect : Effect). (drawn_by effect (now c).images).images) (told c).effect ∙ ap (λ (images : Pictures). (drawn_by (asked_by p s words (world p h)) images).images) was.images ∙ sym (step_images p h s words);
       owed = let same = need_step p h s words in omega (arith, same);
       spare = let room = c.in_ok-take_room.ensures.room in let left = c.push.ensures.spare in omega (arith, room, left);
       desks = set_there c;
@@ -111,25 +123,21 @@ invariant_of-self-2 c =
       fits = subst (DeskFits p (event c ∷ h) s) (sym (came c)) (fits_step p h s words (acted c) (desk_at (now c).desks s) (out c).place.fits (told c) (may_step (now c) (run c) (out c)));
     }
 
-pub returns-clause-event : goal.returns-clause-event
-returns-clause-event c = record {
-  plans = ap (λ (v : CoreData). v.plans) c.self.view_is;
-  past = past c ∙ ap (λ (v : CoreData). event c ∷ v.past) c.self.view_is;
-  books = ap books_of (set_there c) ∙ books_stay (now c).desks (run c).stream c.step.new.desk (out c).place.desk (ap (λ (desk : DeskData). desk.book) (came c)) ∙ ap (λ (v : CoreData). v.books) c.self.view_is;
-}
-
-pub returns-clause-outs : goal.returns-clause-outs
-returns-clause-outs c =
-    ap outs_of (set_there c) ∙ outs_set (now c).desks (run c).stream c.step.new.desk
-    ∙ ap (λ (desk : DeskData). with_out (seen (now c)).outs (run c).stream desk.out) (came c)
-    ∙ ap (λ (out : Out). with_out (seen (now c)).outs (run c).stream (record { order = out.order; paused = (acted c).kept })) (out c).out
-    ∙ ap (λ (v : CoreData). with_out v.outs (run c).stream (record { order = (run c).order; paused = (acted c).kept })) c.self.view_is
-
-pub returns-clause-run : goal.returns-clause-run
-returns-clause-run c =
-    subst (λ (h : List Event). IsRunOf (now c).plans h c.step.new.self) (sym (past c))
-    (subst (IsRunOf (now c).plans (event c ∷ (now c).past)) (sym (after c)) (run_goes_on (now c) (run c) c.args.words (acted c) c.self.invariant (out c) (obeys c) (told c)))
-
-pub returns-clause-moved : goal.returns-clause-moved
-returns-clause-moved c =
-    subst (λ (new : RunData). IsMovedBy (run c) new c.args.words (acted c).kept) (sym (after c)) (run_moves (now c) (run c) c.args.words (acted c) c.self.invariant (out c) (obeys c))
+pub returns-clause-stepped : goal.returns-clause-stepped
+returns-clause-stepped c =
+    let out' = with_out (seen (now c)).outs (run c).stream in
+    let desks = set (now c).desks (c.stream-stream.result - 1) c.step.new.desk in
+    let core : CoreData = record { plans = (now c).plans; past = c.push.new.self.events; spare = c.push.new.self.spare; books = books_of desks; outs = outs_of desks } in
+    subst (λ (v : CoreData). HasStepped v core (run c) c.step.new.self c.args.words (acted c)) c.self.view_is record {
+      event = record {
+        plans = refl;
+        past = past c;
+        books = ap books_of (set_there c) ∙ books_stay (now c).desks (run c).stream c.step.new.desk (out c).place.desk (ap (λ (desk : DeskData). desk.book) (came c));
+      };
+      acted = told c;
+      outs = ap outs_of (set_there c) ∙ outs_set (now c).desks (run c).stream c.step.new.desk ∙ ap (λ (desk : DeskData). out' desk.out) (came c)
+          ∙ ap (λ (out : Out). out' (record { order = out.order; paused = (acted c).kept })) (out c).out;
+      moved = subst (λ (new : RunData). IsMovedBy (run c) new c.args.words (acted c).kept) (sym (after c)) (run_moves (now c) (run c) c.args.words (acted c) c.self.invariant (out c) (obeys c));
+      run = subst (λ (h : List Event). IsRunOf (now c).plans h c.step.new.self) (sym (past c))
+          (subst (IsRunOf (now c).plans (event c ∷ (now c).past)) (sym (after c)) (run_goes_on (now c) (run c) c.args.words (acted c) c.self.invariant (out c) (obeys c) (told c)));
+    }

@@ -13,7 +13,7 @@ invariant_of-result c =
     let past = sym (c.reserve.ensures.events ∙ c.make-journal.ensures) in
     let owed = sym c.count-count.ensures.count in
     let seats = sym (c.in_ok-scheduler.ensures ∙ ap all_home (c.as_slice.ensures.value ∙ c.in_ok-ranks.ensures)) in
-    let images = sym c.make-3.ensures in
+    let images = sym c.make-images.ensures in
     let desks = sym c.in_ok-desks.ensures in
     let room : length p.plans ≤ c.reserve.new.self.spare = let most = c.in_ok-reserve.ensures.spare in let same = c.count-count.ensures.count in omega (arith, most, same) in
     subst CoreInvariant (λ j. record { plans = p; past = past j; spare = c.reserve.new.self.spare; owed = owed j; sync = c.in_ok-sync.sync; seats = seats j; images = images j; desks = desks j })

@@ -44,15 +44,15 @@ enter_step-requires-clause-obeys c =
     let run = c.args.run.now in
     let met = c.meet.new.run in
     let s = c.stream-stream.result in
-    let words = c.args.fetched.now.words in
+    let words = c.args.fetched.words in
     let core = c.meet.ensures.core in
     let same = c.meet.ensures.run in
     let stream = c.stream-stream.ensures in
     let view = c.self.view_is ∙ core in
     let open' = open_there v now run met s core same stream c.is_lost.result c.is_closed.result c.is_lost.ensures c.if-is_lost.false c.is_closed.ensures c.if-is_closed.false in
-    let is = fetched_for v.plans v.past run c.args.fetched.now.facts c.words.result.now words c.requires.plan.known open' c.meet.ensures.shows c.meet.ensures.runs c.requires.going c.requires.facts c.words.ensures.more c.words.ensures.copy.places c.words.ensures.value c.requires.may in
+    let is = fetched_for v.plans v.past run c.args.fetched.facts c.words.result.now words c.requires.plan.known open' c.meet.ensures.shows c.meet.ensures.runs c.requires.going c.requires.facts c.words.ensures.more c.words.ensures.copy.places c.words.ensures.value c.requires.may in
     step_there v now run met s core same stream c.in_ok-words.words words (c.in_ok-words.ensures ∙ c.words.ensures.value)
-    (fetched_step_obeys v.plans v.past run c.args.fetched.now.facts words is c.in-Ok.command (subst (λ (w : CoreData). AreLawfulPlans w.plans) view c.self.invariant.lawful) (subst (λ (w : CoreData). IsLegal w.plans w.past) view c.self.invariant.legal)
+    (fetched_step_obeys v.plans v.past run c.args.fetched.facts words is c.in-Ok.command (subst (λ (w : CoreData). AreLawfulPlans w.plans) view c.self.invariant.lawful) (subst (λ (w : CoreData). IsLegal w.plans w.past) view c.self.invariant.legal)
     (judged v now run met s core same stream words (Ok c.in-Ok.command) c.in-Ok.ensures.verdict))
 
 pub enter_lost-requires-clause-obeys : goal.enter_lost-requires-clause-obeys
@@ -62,13 +62,13 @@ enter_lost-requires-clause-obeys c =
     let run = c.args.run.now in
     let met = c.meet.new.run in
     let s = c.stream-stream.result in
-    let words = c.args.fetched.now.words in
+    let words = c.args.fetched.words in
     let core = c.meet.ensures.core in
     let same = c.meet.ensures.run in
     let stream = c.stream-stream.ensures in
     let view = c.self.view_is ∙ core in
     let open' = open_there v now run met s core same stream c.is_lost.result c.is_closed.result c.is_lost.ensures c.if-is_lost.false c.is_closed.ensures c.if-is_closed.false in
-    let is = fetched_for v.plans v.past run c.args.fetched.now.facts c.words.result.now words c.requires.plan.known open' c.meet.ensures.shows c.meet.ensures.runs c.requires.going c.requires.facts c.words.ensures.more c.words.ensures.copy.places c.words.ensures.value c.requires.may in
+    let is = fetched_for v.plans v.past run c.args.fetched.facts c.words.result.now words c.requires.plan.known open' c.meet.ensures.shows c.meet.ensures.runs c.requires.going c.requires.facts c.words.ensures.more c.words.ensures.copy.places c.words.ensures.value c.requires.may in
     lost_there v now run met s core same stream c.in-Err.error c.in_ok-words.words words (c.in_ok-words.ensures ∙ c.words.ensures.value)
-    (fetched_error_obeys v.plans v.past run c.args.fetched.now.facts words is c.in-Err.error (subst (λ (w : CoreData). AreLawfulPlans w.plans) view c.self.invariant.lawful) (subst (λ (w : CoreData). IsLegal w.plans w.past) view c.self.invariant.legal)
+    (fetched_error_obeys v.plans v.past run c.args.fetched.facts words is c.in-Err.error (subst (λ (w : CoreData). AreLawfulPlans w.plans) view c.self.invariant.lawful) (subst (λ (w : CoreData). IsLegal w.plans w.past) view c.self.invariant.legal)
     (judged v now run met s core same stream words (Err c.in-Err.error) c.in-Err.ensures.verdict))

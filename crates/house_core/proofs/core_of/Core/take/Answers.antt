@@ -81,8 +81,8 @@ module _ (c : goal.After-self-2-1) where
   all : HasLeft now.plans now.past s away c.in-Some-place.place c.put_at-put.result
   all = leaves now s c.in-Some.order c.in-Some-place.place c.put_at-put.result is first found put
 
-  run : c.take-2.result ≡ run_of s (plan_of now.plans s) c.in-Some-place.place c.put_at-put.result away
-  run = c.take-2.ensures.run ∙ ap (λ (plan : PlanData). run_of s plan c.in-Some-place.place c.put_at-put.result c.take-2.new.desk) plan ∙ ap (run_of s (plan_of now.plans s) c.in-Some-place.place c.put_at-put.result) left
+  run : c.take-2.result ≡ run_of s (plan_of now.plans s).areas c.in-Some-place.place c.put_at-put.result away
+  run = c.take-2.ensures.run ∙ ap (λ (plan : PlanData). run_of s plan.areas c.in-Some-place.place c.put_at-put.result c.take-2.new.desk) plan ∙ ap (run_of s (plan_of now.plans s).areas c.in-Some-place.place c.put_at-put.result) left
 
 pub invariant_of-self-2 : goal.invariant_of-self-2
 invariant_of-self-2 c =

@@ -8,7 +8,7 @@ pub returns-clause-fits : goal.returns-clause-fits
 returns-clause-fits c =
     let p = c.args.plans.now in
     let inside = c.self.inside in
-    let old : JudgeData = record { drawn = inside.drawn; core = inside.core; images = inside.images; states = inside.states.items; watches = inside.watches.items } in
+    let old : JudgeData = record { drawn = inside.drawn; core = inside.scene.sync; images = inside.scene.images; states = inside.states.items; watches = inside.watches.items } in
     let fits : FitsPlans p old = subst (FitsPlans p) (sym c.self.view_is) c.requires.fits in
     let was = is_watch_here p old c.args.s c.index_mut.result.now fits c.requires.known c.index_mut.ensures.value in
     let now : WatchData = c.leave.new.self in

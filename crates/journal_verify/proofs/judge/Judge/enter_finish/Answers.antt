@@ -11,7 +11,7 @@ pub finish-requires-2-clause-watch : goal.finish-requires-2-clause-watch
 finish-requires-2-clause-watch c =
     let p = c.args.plans.now in
     let inside = c.self.inside in
-    let old : JudgeData = record { drawn = inside.drawn; core = inside.core; images = inside.images; states = inside.states.items; watches = inside.watches.items } in
+    let old : JudgeData = record { drawn = inside.drawn; core = inside.scene.sync; images = inside.scene.images; states = inside.states.items; watches = inside.watches.items } in
     let fits : FitsPlans p old = subst (FitsPlans p) (sym c.self.view_is) c.requires.fits in
     let known = front_known p c.args.self.now c.args.s c.requires.fits c.requires.front in
     let plan = plan_here p c.args.s c.plan.result.now (omega (arith, known.0)) c.plan.ensures in
@@ -22,10 +22,10 @@ returns-clause-turned c =
     let p = c.args.plans.now in
     let s = c.args.s in
     let inside = c.self.inside in
-    let old : JudgeData = record { drawn = inside.drawn; core = inside.core; images = inside.images; states = inside.states.items; watches = inside.watches.items } in
+    let old : JudgeData = record { drawn = inside.drawn; core = inside.scene.sync; images = inside.scene.images; states = inside.states.items; watches = inside.watches.items } in
     let fits : FitsPlans p old = subst (FitsPlans p) (sym c.self.view_is) c.requires.fits in
     let known = front_known p c.args.self.now s c.requires.fits c.requires.front in
-    let new : JudgeData = record { drawn = inside.drawn; core = c.finish.new.self; images = inside.images; states = inside.states.items; watches = set inside.watches.items (s - 1) c.finish-2.new.self } in
+    let new : JudgeData = record { drawn = inside.drawn; core = c.finish.new.self; images = inside.scene.images; states = inside.states.items; watches = set inside.watches.items (s - 1) c.finish-2.new.self } in
     subst (λ (j : JudgeData). HasTurned s (Some sync.Finished) (λ k. record k { finished = k.finished + 1 }) j.drawn j.images j.states j new) c.self.view_is (record {
       was = c.index_mut.result.now;
       now = c.finish-2.new.self;
@@ -42,7 +42,7 @@ pub returns-clause-fits : goal.returns-clause-fits
 returns-clause-fits c =
     let p = c.args.plans.now in
     let inside = c.self.inside in
-    let old : JudgeData = record { drawn = inside.drawn; core = inside.core; images = inside.images; states = inside.states.items; watches = inside.watches.items } in
+    let old : JudgeData = record { drawn = inside.drawn; core = inside.scene.sync; images = inside.scene.images; states = inside.states.items; watches = inside.watches.items } in
     let fits : FitsPlans p old = subst (FitsPlans p) (sym c.self.view_is) c.requires.fits in
     let known = front_known p c.args.self.now c.args.s c.requires.fits c.requires.front in
     let plan = plan_here p c.args.s c.plan.result.now (omega (arith, known.0)) c.plan.ensures in

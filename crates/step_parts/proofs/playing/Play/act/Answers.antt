@@ -4,7 +4,7 @@ use Rattle.gpu_cmd.specs.declared.areas.Areas.{Areas}
 use Rattle.sync_core.specs.Standing.{IsKnown}
 use Rattle.stream_state.specs.Laws.{IsTaken}
 use Rattle.step_parts.proofs.Plans.{areas_here}
-use Rattle.step_parts.proofs.playing.Scene.act.Goals as goal
+use Rattle.step_parts.proofs.playing.Play.act.Goals as goal
 
 pub act-requires-clause-taken : goal.act-requires-clause-taken
 act-requires-clause-taken o c =
