@@ -21,7 +21,7 @@ use Rattle.gpu_journal.specs.World.{state_of, replay}
 use Rattle.gpu_journal.specs.Waits.{endings_in}
 use Rattle.gpu_journal.specs.Output.{streams_of, end_of, head_lines, stream_lines, mark_lines, output}
 use Rattle.run_output.specs.Runs.{RunData, run_text}
-use Rattle.run_output.specs.Parts.{heads, streams, marks, image_lines, dump_read_text, dump_texts, body_text}
+use Rattle.run_output.specs.Parts.{heads, streams, marks, image_lines, dump_read_text, dump_texts}
 
 -- the text of each item is that of all of them
 pub concat-map : {A : Type 0} (f : A → List ℕ) (xs : List A) → concat (map f xs) ≡ flat_map f xs
@@ -104,16 +104,6 @@ pub length_all_dumps : (p : PlansData) (h : List Event) → length (all_dumps p 
 length_all_dumps p h = length-map (streams_of p) (dumps_read p h) ∙ length-range_with_len 1 (length p.plans)
 
 -- ---- the whole output
-
-output_parts : (p : PlansData) (base : ℕ) (h : List Event) → body_text p base h ≡ output p (mark base) h
-unfolding output
-output_parts p base h =
-    let state = stream_lines p h ++ mark_lines p (mark base) h in
-    let front = head_lines p ++ journal_text (reverse h) in
-    sym (append_assoc (front ++ picture_text (replay p h)) (stream_lines p h) (mark_lines p (mark base) h) ∙ append_assoc front (picture_text (replay p h)) state ∙ append_assoc (head_lines p) (journal_text (reverse h)) (picture_text (replay p h) ++ state))
-
-pub whole_text : (run : RunData) → body_text run.report.plans run.report.base run.report.past ++ concat (dump_texts 1 run.dumps) ≡ run_text run
-whole_text run = ap (λ (r : List ℕ). r ++ concat (dump_texts 1 run.dumps)) (output_parts run.report.plans run.report.base run.report.past)
 
 -- where the dumps are those that the run on one thread reads, the whole output has their lines behind it
 pub serial_text : (run : RunData) → run.dumps ≡ all_dumps run.report.plans run.report.past → run_text run ≡ output run.report.plans (mark run.report.base) run.report.past ++ dump_lines run.report.plans run.report.past

@@ -1,16 +1,16 @@
 -- The parts of the output as lists of lines.
-use Rattle.std.specs.Prelude.{ℕ, ◌+◌, ◌++◌, reverse, ◌<◌, ◌≤◌, List, [], ◌∷◌, length, map, Option, Some, None}
+use Rattle.std.specs.Prelude.{ℕ, ◌+◌, ◌<◌, ◌≤◌, List, [], ◌∷◌, length, map, Option, Some, None}
 use Rattle.std.specs.List.{All, flat_map, range_with_len}
 use Rattle.gpu_store.specs.Picture.{Picture, row_of}
 use Rattle.gpu_plan.specs.Plans.{PlansData, plan_of}
 use Rattle.wait_hooks.specs.Marks.{mark}
 use Rattle.gpu_journal.specs.declared.event.Event.{Event}
-use Rattle.gpu_journal.specs.Text.{words_of, tally_of, stream_text, journal_text}
-use Rattle.gpu_journal.specs.Picture.{head_text, row_text, picture_text}
+use Rattle.gpu_journal.specs.Text.{words_of, tally_of, stream_text}
+use Rattle.gpu_journal.specs.Picture.{head_text, row_text}
 use Rattle.gpu_journal.specs.Lines.{journal_head, name_text, mark_text, dump_text}
-use Rattle.gpu_journal.specs.World.{state_of, replay}
+use Rattle.gpu_journal.specs.World.{state_of}
 use Rattle.gpu_journal.specs.Waits.{endings_in}
-use Rattle.gpu_journal.specs.Output.{streams_of, end_of, head_lines, stream_lines, mark_lines}
+use Rattle.gpu_journal.specs.Output.{streams_of, end_of}
 
 -- the words of an event are so few, and at places so low, that its line has room
 pub record HasRoom (e : Event) : Type 0 where
@@ -42,19 +42,3 @@ dump_read_text s found = dump_text s found.0 found.1 found.2
 abbrev pub dump_texts : ℕ → List (List (ℕ × ℕ × ℕ)) → List (List ℕ)
 dump_texts s [] = []
 dump_texts s (dumps ∷ more) = flat_map (dump_read_text s) dumps ∷ dump_texts (s + 1) more
-
--- how the streams ended, and the marks
-abbrev pub ends_text : PlansData → ℕ → List Event → List ℕ
-ends_text p base h = stream_lines p h ++ mark_lines p (mark base) h
-
--- the images, and what comes behind them
-abbrev pub world_text : PlansData → ℕ → List Event → List ℕ
-world_text p base h = picture_text (replay p h) ++ ends_text p base h
-
--- the events, and what comes behind them
-abbrev pub past_text : PlansData → ℕ → List Event → List ℕ
-past_text p base h = journal_text (reverse h) ++ world_text p base h
-
--- the whole output but for the dumps
-abbrev pub body_text : PlansData → ℕ → List Event → List ℕ
-body_text p base h = head_lines p ++ past_text p base h

@@ -5,6 +5,7 @@ use Rattle.wait_hooks.specs.Marks.{mark}
 use Rattle.gpu_journal.specs.declared.end.End.{End}
 use Rattle.gpu_journal.specs.Output.{streams_of, end_of, output}
 use Rattle.gpu_house.specs.House.{ReportData}
+use Rattle.run_output.specs.Page.{PageData, blank_page}
 use Rattle.run_output.specs.Parts.{HasRoom, dump_texts}
 
 -- a run, with the dumps that the client of each stream has read: action place, result place and value
@@ -16,9 +17,10 @@ pub record RunData : Type 0 where
 abbrev pub run_text : RunData → List ℕ
 run_text run = output run.report.plans (mark run.report.base) run.report.past ++ concat (dump_texts 1 run.dumps)
 
--- the output of a run can be written: each event's line has room, the streams are few, how they ended is told, and nothing is gathered
-pub record IsReady (run : RunData) (ends : List End) (page : List ℕ) : Type 0 where
+-- the output of a run can be written: each event's line has room, the streams are few, how they ended is told, and the
+-- page is blank
+pub record IsReady (run : RunData) (ends : List End) (page : PageData) : Type 0 where
   pub room : All HasRoom (reverse run.report.past)
   pub few : length run.dumps ≤ 16
   pub ended : ends ≡ map (end_of run.report.past) (streams_of run.report.plans)
-  pub blank : page ≡ []
+  pub blank : page ≡ blank_page

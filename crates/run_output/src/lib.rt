@@ -15,8 +15,7 @@ mod run;
 mod stream_lines;
 mod writing;
 
-pub use page::Page;
-pub use pictures::write_pictures;
+pub use pictures::PictureOutput;
 pub use run::RunOutput;
 pub use writing::write_all;
 

@@ -1,8 +1,7 @@
-ghost use Rattle.std.specs.Prelude.{◌≡◌, ◌<◌, ◌≤◌, [], ◌++◌, length, slice_index_or, IfOk, OnOk, OnErr};
+ghost use Rattle.std.specs.Prelude.{◌≡◌, ◌+◌, ◌<◌, ◌≤◌, [], ◌++◌, length, slice_index_or, IfOk, OnOk, vec_capacity};
 ghost use Rattle.std.specs.List.{concat};
-ghost use Rattle.std.specs.Io.KnownBytes.{Appends};
-ghost use Rattle.gpu_io.specs.Faults.{HasRisen};
-ghost use Rattle.run_output.specs.Pieces.{IsPut, IsCut, AppendsFront};
+ghost use Rattle.run_output.specs.Page.{blank_page};
+ghost use Rattle.run_output.specs.Pieces.{Adds, Puts};
 
 use crate::lines::Lines;
 use crate::writing::write_all;
@@ -20,11 +19,9 @@ const MOST_LINE: usize = 1_048_576;
 
 // Gives all that is gathered to the sink.
 fn give<K: Sink>(gathered: &mut Vec<u8>, sink: &mut K) -> Result<(), Failed>
-    ensures given { OnOk result (Appends (K.written sink.old) (K.written sink.new) gathered.old.items) }
+    ensures adds { Adds K.written K.faults sink.old sink.new result gathered.old.items }
     ensures empty { OnOk result (gathered.new.items ≡ []) }
-    ensures front { OnErr result (AppendsFront (K.written sink.old) (K.written sink.new) gathered.old.items) }
-    ensures fault { OnErr result (HasRisen (K.faults sink.old) (K.faults sink.new)) }
-    ensures later { K.faults sink.old ≤ K.faults sink.new }
+    ensures room { vec_capacity gathered.old ≤ vec_capacity gathered.new }
 {
     write_all(sink, gathered)?;
     gathered.clear();
@@ -32,32 +29,32 @@ fn give<K: Sink>(gathered: &mut Vec<u8>, sink: &mut K) -> Result<(), Failed>
 }
 
 // Gives a line to the sink, behind all that is gathered.
-#[tactic(auto, using(crate::proofs::Pieces::put_behind, crate::proofs::Pieces::cut_behind, crate::proofs::Pieces::cut_before))]
+#[tactic(auto, using(crate::proofs::Pieces::puts_behind, crate::proofs::Pieces::failed_before))]
 fn pass<K: Sink>(gathered: &mut Vec<u8>, line: &[u8], sink: &mut K) -> Result<(), Failed>
-    ensures all { OnOk result (IsPut (K.written sink.old) gathered.old.items (K.written sink.new) gathered.new.items line.now) }
-    ensures front { OnErr result (IsCut (K.written sink.old) gathered.old.items (K.written sink.new) line.now) }
-    ensures fault { OnErr result (HasRisen (K.faults sink.old) (K.faults sink.new)) }
-    ensures later { K.faults sink.old ≤ K.faults sink.new }
+    ensures puts { Puts K.written K.faults sink.old gathered.old.items sink.new gathered.new.items result
+        line.now }
+    ensures room { vec_capacity gathered.old ≤ vec_capacity gathered.new }
 {
     give(gathered, sink)?;
-    write_all(sink, line)?;
-    Ok(())
+    write_all(sink, line)
 }
 
-// Puts a line behind those that are gathered, and gives all of them to the sink where they have so many bytes or more.
+// Puts a line behind those that are gathered, and gives all of them to the sink where they have so many bytes or more;
+// below that nothing is written.
 //
 // No line of the output is too long for the room; one that was would go to the sink by itself.
-#[tactic(auto, using(crate::proofs::Pieces::put_gathered, crate::proofs::Pieces::put_given, crate::proofs::Pieces::cut_given))]
+#[tactic(auto, using(crate::proofs::Pieces::puts_gathered, crate::proofs::Pieces::puts_given))]
 fn gather<K: Sink>(
     gathered: &mut Vec<u8>,
     line: &[u8],
     limit: usize,
     sink: &mut K,
 ) -> Result<(), Failed>
-    ensures all { OnOk result (IsPut (K.written sink.old) gathered.old.items (K.written sink.new) gathered.new.items line.now) }
-    ensures front { OnErr result (IsCut (K.written sink.old) gathered.old.items (K.written sink.new) line.now) }
-    ensures fault { OnErr result (HasRisen (K.faults sink.old) (K.faults sink.new)) }
-    ensures later { K.faults sink.old ≤ K.faults sink.new }
+    requires { limit ≤ vec_capacity gathered.old }
+    ensures puts { Puts K.written K.faults sink.old gathered.old.items sink.new gathered.new.items result
+        line.now }
+    ensures below { length gathered.old.items + length line.now < limit → sink.new ≡ sink.old }
+    ensures room { vec_capacity gathered.old ≤ vec_capacity gathered.new }
 {
     if line.len() > gathered.capacity() - gathered.len() {
         return pass(gathered, line, sink);
@@ -69,35 +66,39 @@ fn gather<K: Sink>(
     give(gathered, sink)
 }
 
-/// Lines that are gathered before they go to a sink, seen as the bytes that are gathered.
+/// Lines that are gathered before they go to a sink, seen as the bytes that are gathered, and at how many they go.
 ///
-/// All memory is taken by `make`.
+/// All memory is taken by `make`: there is room for the bytes at which they go, and for one longest line behind them.
 #[derive(Drop)]
-pub struct Page {
+pub(crate) struct Page {
     line: Line,
     gathered: Vec<u8>,
     limit: usize,
 }
 
 impl Model for Page {
-    ghost use Rattle.std.specs.Prelude.{ℕ, List};
+    ghost use Rattle.std.specs.Prelude.{◌+◌, ◌≤◌, vec_capacity};
+    ghost use Rattle.run_output.specs.Page.{PageData};
 
-    ghost Value = { List ℕ };
+    ghost Value = { PageData };
 
-    ghost view = { λ page. page.gathered.items };
+    ghost view = { λ page. record { gathered = page.gathered.items; limit = page.limit } };
+
+    ghost invariant = { λ page. page.limit + 1048576 ≤ vec_capacity page.gathered };
 }
 
 impl Page {
-    /// A page without lines, which is given to a sink whenever it has 64 KiB or more.
-    pub fn make(alloc: Global) -> Result<Page, Memory>
-        ensures { IfOk result (λ page. page ≡ []) }
+    /// A page without lines, which is given to a sink whenever it has 64 KiB or more. It has room for these, and for one
+    /// longest line behind them.
+    pub(crate) fn make(alloc: Global) -> Result<Page, Memory>
+        ensures { IfOk result (λ page. page ≡ blank_page) }
     {
         Page::within(alloc, PIECE_BYTES)
     }
 
-    // A page without lines, which is given to a sink whenever it has `limit` bytes or more.
+    /// A page without lines, which is given to a sink whenever it has `limit` bytes or more.
     pub(crate) fn within(alloc: Global, limit: usize) -> Result<Page, Memory>
-        ensures { IfOk result (λ page. page ≡ []) }
+        ensures { IfOk result (λ page. page ≡ record { gathered = []; limit = limit }) }
     {
         let line = Line::make(alloc)?;
         let room = limit.checked_add(MOST_LINE).ok_or(Memory)?;
@@ -118,10 +119,11 @@ impl Page {
     ) -> Result<(), Failed>
         requires fits { L.fits lines.now }
         requires within { index < length (L.lines lines.now) }
-        ensures all { OnOk result (IsPut (K.written sink.old) self.old (K.written sink.new) self.new (slice_index_or (L.lines lines.now) index [])) }
-        ensures front { OnErr result (IsCut (K.written sink.old) self.old (K.written sink.new) (slice_index_or (L.lines lines.now) index [])) }
-        ensures fault { OnErr result (HasRisen (K.faults sink.old) (K.faults sink.new)) }
-        ensures later { K.faults sink.old ≤ K.faults sink.new }
+        ensures puts { Puts K.written K.faults sink.old self.old.gathered sink.new self.new.gathered result
+            (slice_index_or (L.lines lines.now) index []) }
+        ensures below { length self.old.gathered + length (slice_index_or (L.lines lines.now) index []) < self.old.limit
+            → sink.new ≡ sink.old }
+        ensures limit { self.new.limit ≡ self.old.limit }
     {
         lines.make(index, &mut self.line);
         gather(&mut self.gathered, self.line.bytes(), self.limit, sink)
@@ -129,26 +131,24 @@ impl Page {
 
     /// Puts a text behind the lines that are gathered.
     pub(crate) fn put_text<K: Sink>(&mut self, sink: &mut K, text: &[u8]) -> Result<(), Failed>
-        ensures all { OnOk result (IsPut (K.written sink.old) self.old (K.written sink.new) self.new text.now) }
-        ensures front { OnErr result (IsCut (K.written sink.old) self.old (K.written sink.new) text.now) }
-        ensures fault { OnErr result (HasRisen (K.faults sink.old) (K.faults sink.new)) }
-        ensures later { K.faults sink.old ≤ K.faults sink.new }
+        ensures puts { Puts K.written K.faults sink.old self.old.gathered sink.new self.new.gathered result
+            text.now }
+        ensures below { length self.old.gathered + length text.now < self.old.limit → sink.new ≡ sink.old }
+        ensures limit { self.new.limit ≡ self.old.limit }
     {
         gather(&mut self.gathered, text, self.limit, sink)
     }
 
     /// Puts lines behind those that are gathered. After a fault a front of all of them stands in the sink.
-    #[tactic(auto, using(crate::proofs::Pieces::lines_put, crate::proofs::Pieces::lines_cut, crate::proofs::Pieces::put_nothing))]
     pub(crate) fn put_all<K: Sink, L: Lines>(
         &mut self,
         sink: &mut K,
         lines: &L,
     ) -> Result<(), Failed>
         requires { L.fits lines.now }
-        ensures all { OnOk result (IsPut (K.written sink.old) self.old (K.written sink.new) self.new (concat (L.lines lines.now))) }
-        ensures front { OnErr result (IsCut (K.written sink.old) self.old (K.written sink.new) (concat (L.lines lines.now))) }
-        ensures fault { OnErr result (HasRisen (K.faults sink.old) (K.faults sink.new)) }
-        ensures later { K.faults sink.old ≤ K.faults sink.new }
+        ensures puts { Puts K.written K.faults sink.old self.old.gathered sink.new self.new.gathered result
+            (concat (L.lines lines.now)) }
+        ensures limit { self.new.limit ≡ self.old.limit }
     {
         for index in 0..lines.count() {
             self.put(sink, lines, index)?;
@@ -158,11 +158,9 @@ impl Page {
 
     /// Gives all that is gathered to the sink.
     pub(crate) fn give<K: Sink>(&mut self, sink: &mut K) -> Result<(), Failed>
-        ensures given { OnOk result (Appends (K.written sink.old) (K.written sink.new) self.old) }
-        ensures empty { OnOk result (self.new ≡ []) }
-        ensures front { OnErr result (AppendsFront (K.written sink.old) (K.written sink.new) self.old) }
-        ensures fault { OnErr result (HasRisen (K.faults sink.old) (K.faults sink.new)) }
-        ensures later { K.faults sink.old ≤ K.faults sink.new }
+        ensures adds { Adds K.written K.faults sink.old sink.new result self.old.gathered }
+        ensures empty { OnOk result (self.new.gathered ≡ []) }
+        ensures limit { self.new.limit ≡ self.old.limit }
     {
         give(&mut self.gathered, sink)
     }

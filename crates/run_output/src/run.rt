@@ -1,9 +1,7 @@
-ghost use Rattle.std.specs.Prelude.{◌≡◌, ◌≤◌, length, map, reverse, IfOk, OnOk, OnErr};
+ghost use Rattle.std.specs.Prelude.{◌≡◌, ◌≤◌, length, map, reverse, IfOk};
 ghost use Rattle.std.specs.List.{All};
-ghost use Rattle.std.specs.Io.KnownBytes.{Appends};
-ghost use Rattle.gpu_io.specs.Faults.{HasRisen};
 ghost use Rattle.gpu_journal.specs.Output.{streams_of, end_of};
-ghost use Rattle.run_output.specs.Pieces.{AppendsFront};
+ghost use Rattle.run_output.specs.Pieces.{Adds};
 ghost use Rattle.run_output.specs.Parts.{HasRoom};
 ghost use Rattle.run_output.specs.Runs.{run_text};
 
@@ -83,10 +81,7 @@ impl RunOutput {
 
     /// Writes the output and the lines of the dumps. After a fault a front of both stands.
     pub fn write<K: Sink>(self, sink: &mut K) -> Result<(), Failed>
-        ensures all { OnOk result (Appends (K.written sink.old) (K.written sink.new) (run_text self)) }
-        ensures front { OnErr result (AppendsFront (K.written sink.old) (K.written sink.new) (run_text self)) }
-        ensures fault { OnErr result (HasRisen (K.faults sink.old) (K.faults sink.new)) }
-        ensures later { K.faults sink.old ≤ K.faults sink.new }
+        ensures { Adds K.written K.faults sink.old sink.new result (run_text self) }
     {
         let RunOutput {
             report,

@@ -48,5 +48,17 @@ fn lines_are_gathered_before_they_are_written(rt: HostRuntime) -> Result<(), Fai
     assert_eq!(rt; sink.bytes(), b"close 1\nclose 2\n".as_slice());
     assert!(rt; page.give(&mut sink).is_ok());
     assert_eq!(rt; sink.bytes(), b"close 1\nclose 2\nclose 3\n".as_slice());
+
+    // The sink counts its calls, and its second one fails: the lines are put by one, and what is left is given by the next.
+    let Ok(mut page) = Page::within(rt.alloc(), 16) else {
+        return Err(Fail::from("memory is ample"));
+    };
+    let second = Vec::from_slice(rt.alloc(), &[2])?;
+    let Ok(mut counting) = MemorySink::make(rt.alloc(), 64, 64, second) else {
+        return Err(Fail::from("memory is ample"));
+    };
+    assert!(rt; page.put_all(&mut counting, &lines).is_ok());
+    assert!(rt; page.give(&mut counting).is_err());
+    assert_eq!(rt; counting.bytes(), b"close 1\nclose 2\n".as_slice());
     Ok(())
 }

@@ -1,62 +1,59 @@
--- What a run writes, and how it ends.
-use Rattle.std.specs.Prelude.{ℕ, Bool, true, false, List, ◌++◌, reverse}
-use Rattle.std.specs.List.{list_any}
+-- Runs of scripts: their histories, what is written of them, and how they end.
+use Rattle.std.specs.Prelude.{◌≡◌, ℕ, Bool, true, false, List, ◌++◌, reverse, if◌then◌else◌, Ok}
+use Rattle.std.specs.List.{All, list_any}
+use Rattle.script_generator.specs.Generator.{generated}
 use Rattle.gpu_plan.specs.Plans.{PlansData}
+use Rattle.gpu_plan.specs.Script.{script_of}
 use Rattle.wait_hooks.specs.Marks.{mark}
 use Rattle.gpu_journal.specs.declared.event.Event.{Event}
 use Rattle.gpu_journal.specs.declared.event.Event.TheVariants.{Lost}
-use Rattle.gpu_journal.specs.declared.event.Why.TheVariants.{Error}
+use Rattle.gpu_journal.specs.declared.event.Why.TheVariants.{Error, Memory}
+use Rattle.gpu_journal.specs.Legal.{IsLegal}
+use Rattle.gpu_journal.specs.Complete.{IsComplete}
 use Rattle.gpu_journal.specs.Output.{output}
 use Rattle.gpu_journal.specs.Dumps.{dump_lines}
 use Rattle.gpu_journal.specs.Serial.{serial}
+use Rattle.serial_laws.specs.Going.{wants_memory}
+use Rattle.generated_scripts.specs.Trials.{trial_text}
 use Rattle.script_main.specs.declared.status.Status.{Status}
 use Rattle.script_main.specs.declared.status.Status.TheVariants as status
+
+-- a rule of runs: to which histories these plans may be run, and which lines may tell of their dumps then
+abbrev pub RunRule : Type 1
+RunRule = PlansData → List Event → List ℕ → Type 0
+
+-- the rule of one thread: the history is the serial one, which loses no stream for want of memory, and so are the dumps
+abbrev pub IsSerialRun : PlansData → List Event → List ℕ → Type 0
+IsSerialRun p h dumps = (h ≡ serial p) × All (λ event. wants_memory event ≡ false) h × (dumps ≡ dump_lines p h)
+
+-- these plans were run to this history and these lines of dumps: by the rule, and the history is legal and complete
+pub record IsRun (Ran : RunRule) (p : PlansData) (history : List Event) (dumps : List ℕ) : Type 0 where
+  pub ran : Ran p history dumps
+  pub legal : IsLegal p history
+  pub complete : IsComplete p history
 
 -- the event is a loss by an error
 abbrev pub is_error_loss : Event → Bool
 is_error_loss (Lost s (Error error) words) = true
 is_error_loss _ = false
 
--- the journal that is printed has a loss by an error; it begins with the oldest event
-abbrev pub prints_loss : List Event → Bool
-prints_loss h = list_any is_error_loss (reverse h)
+-- how a run ends that prints these events: whether a stream is lost for want of memory, or else by an error
+abbrev pub run_ending : List Event → Status
+run_ending events =
+    if list_any wants_memory events then status.MemoryLost
+    else (if list_any is_error_loss events then status.SomeLost else status.Ok)
 
--- the whole output of a script on one thread: the output of its serial history, with its marks over a base, and the dumps
-abbrev pub whole_output : PlansData → ℕ → List ℕ
-whole_output p base = output p (mark base) (serial p) ++ dump_lines p (serial p)
+-- the text is the output of a run of these plans, with its marks over a base, and the lines of its dumps
+pub record IsOutput (Ran : RunRule) (p : PlansData) (base : ℕ) (ending : Status) (text : List ℕ) : Type 0 where
+  pub history : List Event
+  pub dumps : List ℕ
+  pub run : IsRun Ran p history dumps
+  pub ends : ending ≡ run_ending (reverse history)
+  pub told : text ≡ output p (mark base) history ++ dumps
 
--- a run of a script may end so
-abbrev pub IsRunEnd : Status → Type 0
-IsRunEnd status.Ok = Unit {0}
-IsRunEnd status.SomeLost = Unit {0}
-IsRunEnd status.WriteFault = Unit {0}
-IsRunEnd status.NoMemory = Unit {0}
-IsRunEnd _ = ⊥
-
--- making a text and writing it may end so
-abbrev pub IsTextEnd : Status → Type 0
-IsTextEnd status.Ok = Unit {0}
-IsTextEnd status.WriteFault = Unit {0}
-IsTextEnd status.NoMemory = Unit {0}
-IsTextEnd _ = ⊥
-
--- `run` may answer so
-abbrev pub IsRunAnswer : Status → Type 0
-IsRunAnswer status.Usage = ⊥
-IsRunAnswer status.MemoryLost = ⊥
-IsRunAnswer (status.No event rule) = ⊥
-IsRunAnswer status.NotComplete = ⊥
-IsRunAnswer (status.NoJournal line) = ⊥
-IsRunAnswer _ = Unit {0}
-
--- `check` may answer so: as `run`, but it tells of no loss
-abbrev pub IsCheckAnswer : Status → Type 0
-IsCheckAnswer status.SomeLost = ⊥
-IsCheckAnswer ending = IsRunAnswer ending
-
--- `verify` may answer so
-abbrev pub IsVerifyAnswer : Status → Type 0
-IsVerifyAnswer status.SomeLost = ⊥
-IsVerifyAnswer status.Usage = ⊥
-IsVerifyAnswer status.MemoryLost = ⊥
-IsVerifyAnswer _ = Unit {0}
+-- the text is the line of a trial: its generated script says these plans, which were run on one thread
+pub record IsTrial (size seed : ℕ) (text : List ℕ) : Type 0 where
+  pub plans : PlansData
+  pub script : script_of (generated size seed) ≡ Ok plans
+  pub run : IsRun IsSerialRun plans (serial plans) (dump_lines plans (serial plans))
+  pub told : text ≡ trial_text size seed plans (serial plans)

@@ -1,7 +1,8 @@
-ghost use Rattle.std.specs.Prelude.{◌≡◌, ◌≤◌, map, string_bytes, option_map, IfSome};
+ghost use Rattle.std.specs.Prelude.{◌≡◌, ◌≤◌, Some, map, string_bytes, option_map, IfSome};
 ghost use Rattle.script_words.specs.Numbers.{decimal_of};
 ghost use Rattle.script_main.specs.declared.command.Command.TheVariants.{Generate, Trial};
 ghost use Rattle.script_main.specs.Commands.{sized, with_both, of_one, of_two, of_workers, of_three, command_of, IsSized};
+ghost use Rattle.script_main.specs.Says.{reads};
 
 use script_words::decimal_u32;
 
@@ -23,6 +24,15 @@ pub enum Command {
     Verify,
 }
 
+impl Command {
+    /// Whether it reads its input.
+    pub(crate) fn reads(self) -> bool
+        ensures { result ≡ reads (Some self) }
+    {
+        matches!(self, Command::Run | Command::Check | Command::Verify)
+    }
+}
+
 // The size that a word says, from 1 to 2000.
 fn size_in(word: &str) -> Option<u32>
     ensures size { result ≡ sized (decimal_of word.now) }
@@ -37,8 +47,10 @@ fn size_in(word: &str) -> Option<u32>
 
 // The size and the seed that two words say.
 fn both_in(size: &str, seed: &str) -> Option<(u32, u32)>
-    ensures generate { with_both Generate (sized (decimal_of size.now)) (decimal_of seed.now) ≡ option_map (λ both. Generate both.0 both.1) result }
-    ensures trial { with_both Trial (sized (decimal_of size.now)) (decimal_of seed.now) ≡ option_map (λ both. Trial both.0 both.1) result }
+    ensures generate { with_both Generate (sized (decimal_of size.now)) (decimal_of seed.now)
+        ≡ option_map (λ both. Generate both.0 both.1) result }
+    ensures trial { with_both Trial (sized (decimal_of size.now)) (decimal_of seed.now)
+        ≡ option_map (λ both. Trial both.0 both.1) result }
     ensures range { IfSome result (λ both. (1 ≤ both.0) × (both.0 ≤ MOST_SIZE)) }
 {
     Some((size_in(size)?, decimal_u32(seed.as_bytes())?))

@@ -1,8 +1,11 @@
+ghost use Rattle.std.specs.Prelude.{◌≡◌};
+ghost use Rattle.script_main.specs.Statuses.{fault_of};
+
 use crate::status::Status;
 use gpu_plan::Kind;
 use thiserror::Error;
 
-/// The text of a status other than `Ok`, as standard error shows it.
+/// The table of texts: what standard error shows of a status other than `Ok`.
 #[derive(Clone, Copy, Debug, Error)]
 pub(crate) enum Fault {
     #[error("some streams were lost")]
@@ -30,7 +33,9 @@ pub(crate) enum Fault {
 }
 
 /// What there is to tell of a status.
-pub(crate) fn fault_of(status: Status) -> Option<Fault> {
+pub(crate) fn fault_of(status: Status) -> Option<Fault>
+    ensures { result ≡ fault_of status }
+{
     match status {
         Status::Ok => None,
         Status::SomeLost => Some(Fault::SomeLost),

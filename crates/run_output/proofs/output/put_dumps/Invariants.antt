@@ -1,11 +1,12 @@
-use Rattle.std.proofs.Common.{◌≤◌, take}
+use Rattle.std.proofs.Common.{take}
 use Rattle.std.specs.List.{concat}
-use Rattle.run_output.specs.Pieces.{IsPut}
+use Rattle.std.specs.Prelude.{Ok}
+use Rattle.gpu_io.specs.declared.failed.Failed.{Failed}
+use Rattle.run_output.specs.Pieces.{Puts}
 use Rattle.run_output.specs.Parts.{dump_texts}
 use Rattle.run_output.proofs.output.put_dumps.Given as goal
 
 abbrev pub invariant-loop-index : goal.invariant-loop-index
-invariant-loop-index g l = record {
-  put : IsPut (g.K.Sink.written l.fn.sink) l.fn.page (g.K.Sink.written l.sink) l.page (concat (take l.index (dump_texts 1 l.dumps)));
-  later : g.K.Sink.faults l.fn.sink ≤ g.K.Sink.faults l.sink;
-}
+invariant-loop-index g l =
+    Puts {T = Unit {0}} {E = Failed} g.K.Sink.written g.K.Sink.faults l.fn.sink l.fn.page.gathered l.sink l.page.gathered (Ok tt)
+        (concat (take l.index (dump_texts 1 l.dumps)))

@@ -8,12 +8,12 @@ use Rattle.gpu_store.specs.Images.{numbers, Pictures}
 use Rattle.gpu_store.proofs.Lookups.{picture_of-number}
 use Rattle.gpu_journal.specs.Picture.{image_text}
 use Rattle.gpu_journal.proofs.Rows.{length-numbers}
-use Rattle.run_output.proofs.Pieces.{lines_put, lines_cut, on_err}
+use Rattle.run_output.proofs.Pieces.{line_put, line_failed}
 use Rattle.run_output.proofs.Texts.{image_shown, images_text}
 use Rattle.run_output.proofs.output.put_images.Goals as goal
 
-pub returns-in_err-put_all-clause-front : goal.returns-in_err-put_all-clause-front
-returns-in_err-put_all-clause-front g c =
+pub returns-in_err-put_all : goal.returns-in_err-put_all
+returns-in_err-put_all g c =
     let images : Pictures = c.args.images.now in
     let image : ℕ = c.in-Some.image in
     let index : ℕ = length c.loop-image.yielded in
@@ -22,7 +22,7 @@ returns-in_err-put_all-clause-front g c =
     let here : slice_get (numbers images) index ≡ Some image = slice_get-get_or (numbers images) index image turn.0 ∙ ap Some (sym turn.1) in
     let lt : index < length images = omega (arith, length-numbers images, turn.0) in
     let text = image_shown images index image lt here (picture_of-number images index image c.numbers-image-items.ensures.sorted here) in
-    rw (sym (images_text images)) (on_err c.from_residual.result _ (lines_cut _ _ _ _ _ (map image_text images) index (omega (arith, length-map images image_text)) c.loop-image.invariant.put (rw (sym text, sym c.of.ensures.images, sym c.of.ensures.image) c.in_err-put_all.ensures.front)))
+    rw (sym (images_text images)) (line_failed _ _ _ _ _ _ _ _ _ (map image_text images) index _ _ _ (omega (arith, length-map images image_text)) c.from_residual.ensures.0 c.loop-image.invariant (rw (c.of.ensures.images, c.of.ensures.image, text) at c.in_err-put_all.ensures.puts))
 
 pub loop-image-preserved : goal.loop-image-preserved
 loop-image-preserved g c =
@@ -34,15 +34,12 @@ loop-image-preserved g c =
     let here : slice_get (numbers images) index ≡ Some image = slice_get-get_or (numbers images) index image turn.0 ∙ ap Some (sym turn.1) in
     let lt : index < length images = omega (arith, length-numbers images, turn.0) in
     let text = image_shown images index image lt here (picture_of-number images index image c.numbers-image-items.ensures.sorted here) in
-    record {
-      put = rw (length_push c.loop-image.yielded image) (lines_put _ _ _ _ _ _ (map image_text images) index (omega (arith, length-map images image_text)) c.loop-image.invariant.put (rw (sym text, sym c.of.ensures.images, sym c.of.ensures.image) c.in_ok-put_all.ensures.all));
-      later = omega (arith, c.loop-image.invariant.later, c.put_all.ensures.later);
-    }
+    rw (length_push c.loop-image.yielded image) (line_put _ _ _ _ _ _ _ _ (map image_text images) index _ _ (omega (arith, length-map images image_text)) c.loop-image.invariant (rw (c.of.ensures.images, c.of.ensures.image, text) at c.in_ok-put_all.ensures.puts))
 
-pub returns-clause-all : goal.returns-clause-all
-returns-clause-all g c =
+pub returns : goal.returns
+returns g c =
     let images : Pictures = c.args.images.now in
     let walk = YieldsList-from_first (λ (n : ℕ). n) (λ s. s) (numbers images) (c.into_iter-image-iterator.ensures.into_iter_gives ∙ c.numbers-image-items.ensures.numbers) in
     let end = YieldsList-end walk c.loop-image.yielded _ c.loop-image.yielded_by _ _ c.in-None.is c.next.ensures.steps in
     let whole : length c.loop-image.yielded ≡ length (map image_text images) = end.1 ∙ length-numbers images ∙ sym (length-map images image_text) in
-    rw (sym (images_text images), sym (take-length (map image_text images)), sym whole) c.loop-image.invariant.put
+    rw (sym (images_text images), sym (take-length (map image_text images)), sym whole) c.loop-image.invariant

@@ -1,5 +1,5 @@
 use Rattle.std.proofs.Common.{sym}
 use Rattle.run_output.proofs.run.RunOutput.write.Goals as goal
 
-pub returns-clause-front : goal.returns-clause-front
-returns-clause-front g c = rw (sym c.self.view_is, sym c.deref.ensures.value) c.write_output.ensures.front
+pub returns : goal.returns
+returns g c = rw (sym c.self.view_is, sym c.deref.ensures.value) c.write_output.ensures

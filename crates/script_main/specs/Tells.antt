@@ -1,0 +1,53 @@
+-- What the program tells of its source, and writes to its sink.
+use Rattle.std.specs.Prelude.{◌≡◌, ℕ, ◌<◌, ◌≤◌, ◌⊎◌, Bool, true, false, List, [], length, Option, Some}
+use Rattle.std.specs.Io.KnownBytes.{Appends}
+use Rattle.gpu_io.specs.Whole.{most_bytes, ReadsAll}
+use Rattle.run_output.specs.Pieces.{AppendsFront}
+use Rattle.script_main.specs.declared.command.Command.{Command}
+use Rattle.script_main.specs.declared.status.Status.{Status}
+use Rattle.script_main.specs.declared.status.Status.TheVariants as status
+use Rattle.script_main.specs.Statuses.{writes}
+use Rattle.script_main.specs.Runs.{RunRule}
+use Rattle.script_main.specs.Says.{reads, Says}
+
+-- the input of a command: all that its source has left, within the limit, and nothing where it does not read
+abbrev pub Takes : Bool → Option (List ℕ) → Option (List ℕ) → List ℕ → Type 0
+Takes true left left_then input = ReadsAll left left_then input × (length input ≤ most_bytes)
+Takes false left left_then input = input ≡ []
+
+-- the words are a command, its input was taken from the source, and it says this of it
+pub record Tells (Ran : RunRule) (words : Option Command) (base : ℕ) (left left_then : Option (List ℕ)) (ending : Status)
+    (text : List ℕ) : Type 0 where
+  pub command : Command
+  pub asked : words ≡ Some command
+  pub input : List ℕ
+  pub taken : Takes (reads words) left left_then input
+  pub said : Says Ran command base input ending text
+
+-- a text that is told was written
+pub record HasTold (Ran : RunRule) (words : Option Command) (base : ℕ) (left left_then : Option (List ℕ)) (ending : Status)
+    (written written_then : Option (List ℕ)) : Type 0 where
+  pub text : List ℕ
+  pub told : Tells Ran words base left left_then ending text
+  pub appended : Appends written written_then text
+
+-- a front was written of a text that is told with a status that writes
+pub record HasBegun (Ran : RunRule) (words : Option Command) (base : ℕ) (left left_then : Option (List ℕ))
+    (written written_then : Option (List ℕ)) : Type 0 where
+  pub ending : Status
+  pub writing : writes ending ≡ true
+  pub text : List ℕ
+  pub told : Tells Ran words base left left_then ending text
+  pub begun : AppendsFront written written_then text
+
+-- the input that a command will take, where that is told
+abbrev pub held : Bool → Option (List ℕ) → Option (List ℕ)
+held true left = left
+held false left = Some []
+
+-- what a command may answer to an input where no fault rises: what it says, that the input is too long, or want of memory
+abbrev pub IsAnswer : RunRule → Command → ℕ → List ℕ → Status → Type 0
+IsAnswer Ran command base input ending =
+    ((length input ≤ most_bytes) × (text : List ℕ) × Says Ran command base input ending text)
+    ⊎ ((ending ≡ status.TooLong) × (most_bytes < length input))
+    ⊎ (ending ≡ status.NoMemory)
