@@ -1,0 +1,92 @@
+"""The command line of the tools: python3 view pictures | timeline | explain, which ./zorvleid calls.
+
+Each tool is told in docs/zorvleid.1. The status is 0 where all was written, 2 for words that are no command, 3 and 4 where
+reading or writing failed, 5 for a text that is no output, and for explain that of `verify`.
+"""
+
+import argparse
+import signal
+import sys
+from pathlib import Path
+
+sys.path[0] = str(Path(__file__).resolve().parent.parent)
+from view import explain, files, pictures, timeline  # noqa: E402
+from view.output import Refused, read_output  # noqa: E402
+
+USAGE, READ_FAULT, WRITE_FAULT, REFUSED, NO_MEMORY = 2, 3, 4, 5, 6
+
+
+class Words(argparse.ArgumentParser):
+    """Words that are no command are told in one line, as the program tells them."""
+
+    def error(self, message):
+        self.exit(USAGE, f"bad command line: {message}\n'./zorvleid --help' names the commands\n")
+
+
+def scale(text):
+    if not (text.isascii() and text.isdigit() and 1 <= int(text) <= pictures.SCALE_AT_MOST):
+        raise argparse.ArgumentTypeError(f"{text!r} is no number from 1 to {pictures.SCALE_AT_MOST}")
+    return int(text)
+
+
+def words():
+    parser = Words(prog="zorvleid", allow_abbrev=False)
+    tools = parser.add_subparsers(dest="tool", required=True, parser_class=Words)
+    tool = tools.add_parser("pictures", allow_abbrev=False, help="write the images of an output as PNG files, and a sheet of them")
+    tool.add_argument("--into", metavar="FOLDER", type=Path, default=Path("pictures"), help="where to (left out: pictures)")
+    tool.add_argument("--scale", metavar="N", type=scale, default=1, help="repeat each texel N times (left out: 1)")
+    tool = tools.add_parser("timeline", allow_abbrev=False, help="write the history of an output as a trace or as a page")
+    tool.add_argument("--trace", metavar="FILE", type=Path, help="for Perfetto and chrome://tracing")
+    tool.add_argument("--page", metavar="FILE", type=Path, help="one HTML file that needs nothing else")
+    tool = tools.add_parser("explain", allow_abbrev=False, help="run verify, and say what its answer means")
+    tool.add_argument("--program", metavar="FILE", type=Path, help="the program that verifies (left out: that of ./zorvleid)")
+    asked = parser.parse_args()
+    if asked.tool == "timeline" and not (asked.trace or asked.page):
+        tools.choices["timeline"].error("timeline needs --trace FILE or --page FILE")
+    return asked
+
+
+def read():
+    try:
+        return sys.stdin.buffer.read()
+    except (OSError, AttributeError):
+        raise SystemExit(complain("read fault", READ_FAULT)) from None
+
+
+def complain(line, status):
+    print(line, file=sys.stderr)
+    return status
+
+
+def show(asked, data):
+    """Writes what was asked for, of an output."""
+    if not data:
+        print("note: the output is empty, as that of a run without streams, or of one that failed", file=sys.stderr)
+    output = read_output(data)
+    if asked.tool == "pictures":
+        pictures.write(output, asked.into, asked.scale)
+    else:
+        timeline.write(output, asked.trace, asked.page)
+    return 0
+
+
+def main():
+    signal.signal(signal.SIGPIPE, signal.SIG_DFL)
+    asked = words()
+    try:
+        data = read()
+        return explain.explain(data, asked.program) if asked.tool == "explain" else show(asked, data)
+    except Refused as refused:
+        return complain(refused, REFUSED)
+    except pictures.TooLarge as large:
+        return complain(f"bad command line: {large}", USAGE)
+    except files.WriteFault as fault:
+        return complain(fault, WRITE_FAULT)
+    except MemoryError:
+        return complain("no memory", NO_MEMORY)
+    except KeyboardInterrupt:
+        return 128 + signal.SIGINT
+
+
+if __name__ == "__main__":
+    sys.exit(main())

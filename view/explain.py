@@ -1,0 +1,3 @@
+"""x"""
+def explain(data, program):
+    return 0

@@ -1,0 +1,251 @@
+"""The reading of an output, line by line: the one place that knows how the parts of an output are written.
+
+`read_output` takes the bytes that `run` or `verify` wrote, of either version, and answers an `Output`, or raises `Refused`
+with the number of the first line that cannot stand where it stands. What the lines say of each other, such as which
+order number a step belongs to, is looked at in `history`.
+"""
+
+import re
+from typing import NamedTuple
+
+SIDE_AT_MOST = 4096
+
+
+def up_to(greatest):
+    """A pattern of the decimal numbers from 0 to this one, which has no leading zeros."""
+    digits = str(greatest)
+    shapes = [digits, f"[1-9][0-9]{{0,{len(digits) - 2}}}", "0"]
+    for at, digit in enumerate(digits):
+        least = 1 if at == 0 else 0
+        if int(digit) > least:
+            shapes.append(f"{digits[:at]}[{least}-{int(digit) - 1}][0-9]{{{len(digits) - at - 1}}}")
+    return f"(?:{'|'.join(shapes)})"
+
+
+NUMBER = f"({up_to(2**32 - 1)})"
+LONG_NUMBER = f"({up_to(2**64 - 1)})"
+VALUE = "([0-9a-f]{8})"
+WORDS = f"((?: {up_to(2**32 - 1)}:[0-9a-f]{{8}})*)"
+
+EVENTS = {
+    "order": re.compile(f"order {NUMBER} {NUMBER} {NUMBER}"),
+    "step": re.compile(f"step {NUMBER}{WORDS}"),
+    "finish": re.compile(f"finish {NUMBER} {NUMBER}"),
+    "lost": re.compile(f"lost {NUMBER} (memory|[12346]{WORDS})"),
+    "close": re.compile(f"close {NUMBER}"),
+}
+HEAD = "gpu-journal 2"
+NAME = re.compile(f"name {NUMBER} {NUMBER} {LONG_NUMBER}")
+VERDICT = re.compile(f"yes events {NUMBER}")
+IMAGE = re.compile(f"image {NUMBER} {NUMBER} {NUMBER}")
+ROW = re.compile(r"[0-9a-f]{8}(?: [0-9a-f]{8})*")
+STREAM = re.compile(f"stream {NUMBER} (done|closed|lost memory|lost [12346]) entries {NUMBER} release {LONG_NUMBER} "
+                    f"token {NUMBER} words {NUMBER} errors {NUMBER} {NUMBER} {NUMBER}")
+MARK = re.compile(f"mark {NUMBER} {NUMBER} {NUMBER} {LONG_NUMBER} (release|guard|closed) {NUMBER}")
+DUMP = re.compile(f"dump {NUMBER} {NUMBER} {NUMBER} {VALUE}")
+VIEW = re.compile(f"view {NUMBER} {NUMBER} {VALUE}")
+
+NO_LINE_FEED = "\0"
+
+
+class Refused(Exception):
+    """The first line of a text that cannot stand there, and why."""
+
+    def __init__(self, line, why):
+        super().__init__(f"refused: line {line}: {why}")
+        self.line = line
+
+
+class Event(NamedTuple):
+    """One line of a journal. What its kind does not say is 0 or empty."""
+
+    kind: str
+    stream: int
+    number: int  # the order number of an order or a finish
+    actions: int  # of an order: how many actions stand before the flush
+    code: str  # of a loss: its error, or `memory`
+    words: str  # of a step or a loss: its words as they are printed
+    line: int
+    text: str
+
+
+class Image(NamedTuple):
+    number: int
+    width: int
+    height: int
+    texels: bytes  # red, green, blue and alpha of each texel, row after row
+
+
+class Stream(NamedTuple):
+    number: int
+    end: str
+    line: int
+
+
+class Mark(NamedTuple):
+    """A wait that ended: who waited for what, and how it ended."""
+
+    stream: int
+    number: int
+    target: int
+    release: int
+    how: str
+    value: int
+    line: int
+    text: str
+
+
+class Output:
+    """What was read of an output, part by part."""
+
+    def __init__(self):
+        self.version = 1
+        self.is_verdict = False
+        self.names = []  # of version 2: namespace and id
+        self.events, self.images, self.streams, self.marks, self.dumps, self.views = [], [], [], [], [], []
+        self.event_count = 0
+        self.picture = (0, 0)  # where the lines of the images begin and end, counted in lines from 0
+
+
+class Lines:
+    """A text as lines with a place in them. A last line without its line feed is like no line that is looked for."""
+
+    def __init__(self, data, first=1):
+        self.lines = data.decode("latin-1").split("\n")
+        last = self.lines.pop()
+        if last:
+            self.lines.append(last + NO_LINE_FEED)
+        self.at, self.first = 0, first
+
+    @property
+    def number(self):
+        return self.first + self.at
+
+    def here(self):
+        return self.lines[self.at] if self.at < len(self.lines) else ""
+
+    def starts(self, word):
+        return self.here().startswith(word)
+
+    def take(self, shape):
+        """What the shape finds in this line, which is then behind us; or None, and nothing happens."""
+        found = shape.fullmatch(self.here())
+        self.at += found is not None
+        return found
+
+    def refuse(self, why="no line of an output that can stand here"):
+        raise Refused(self.number, why if self.at < len(self.lines) else "the output ends too early")
+
+
+def words_of(text):
+    """The places and values of words as they are printed."""
+    return [(int(place), int(value, 16)) for place, _, value in (word.partition(":") for word in text.split())]
+
+
+def read_event(text, line):
+    """The event of a line, or None where it is no event's."""
+    kind = text.partition(" ")[0]
+    found = EVENTS[kind].fullmatch(text) if kind in EVENTS else None
+    if found is None:
+        return None
+    parts = found.groups()
+    stream, number, actions, code, words = int(parts[0]), 0, 0, "", ""
+    if kind == "order":
+        number, actions = int(parts[1]), int(parts[2])
+    elif kind == "finish":
+        number = int(parts[1])
+    elif kind == "step":
+        words = parts[1]
+    elif kind == "lost":
+        code, words = parts[1].partition(" ")[0], parts[2] or ""
+    return Event(kind, stream, number, actions, code, words, line, text)
+
+
+def read_head(lines, output):
+    if lines.here() == HEAD:
+        output.version = 2
+        lines.at += 1
+    while output.version == 2 and lines.starts("name "):
+        found = lines.take(NAME)
+        if found is None or int(found[1]) != len(output.names) + 1:
+            lines.at -= found is not None
+            lines.refuse("no name of the next stream")
+        output.names.append((int(found[2]), int(found[3])))
+
+
+def read_events(lines, output):
+    while (event := read_event(lines.here(), lines.number)) is not None:
+        output.events.append(event)
+        lines.at += 1
+    output.event_count = len(output.events)
+
+
+def read_row(lines, width):
+    row = lines.here()
+    if len(row) != 9 * width - 1 or not ROW.fullmatch(row):
+        lines.refuse(f"no row of {width} texels")
+    lines.at += 1
+    return bytes.fromhex(row)
+
+
+def read_images(lines, output):
+    begin = lines.at
+    while lines.starts("image "):
+        found = lines.take(IMAGE)
+        number, width, height = map(int, found.groups()) if found else (0, 0, 0)
+        follows = not output.images or number > output.images[-1].number
+        if not (1 <= width <= SIDE_AT_MOST and 1 <= height <= SIDE_AT_MOST and follows):
+            lines.at -= found is not None
+            lines.refuse("no head of a next image")
+        rows = [read_row(lines, width) for _ in range(height)]
+        output.images.append(Image(number, width, height, b"".join(rows)))
+    output.picture = (begin, lines.at)
+
+
+def read_streams(lines, output):
+    while lines.starts("stream "):
+        line = lines.number
+        found = lines.take(STREAM)
+        if found is None or int(found[1]) != len(output.streams) + 1:
+            lines.at -= found is not None
+            lines.refuse("no line of the next stream")
+        output.streams.append(Stream(int(found[1]), found[2], line))
+    if output.version == 2 and len(output.names) != len(output.streams):
+        lines.refuse("there are not as many streams as names")
+
+
+def read_endings(lines, output):
+    """The marks, the dumps and the lines of live views."""
+    while (found := lines.take(MARK)) is not None:
+        numbers = map(int, found.groups()[:4])
+        output.marks.append(Mark(*numbers, found[5], int(found[6]), lines.number - 1, found[0]))
+    while (found := lines.take(DUMP)) is not None:
+        if not 1 <= int(found[1]) <= len(output.streams):
+            lines.at -= 1
+            lines.refuse("there is no such stream")
+        output.dumps.append(found[0])
+    while (found := lines.take(VIEW)) is not None:
+        output.views.append(found[0])
+
+
+def read_output(data):
+    """What an output says; the output of `verify` has images alone."""
+    lines, output = Lines(data), Output()
+    if (found := lines.take(VERDICT)) is not None:
+        output.is_verdict, output.event_count = True, int(found[1])
+        read_images(lines, output)
+    else:
+        read_head(lines, output)
+        read_events(lines, output)
+        read_images(lines, output)
+        read_streams(lines, output)
+        read_endings(lines, output)
+    if lines.at < len(lines.lines):
+        lines.refuse()
+    return output
+
+
+def picture_text(data, output):
+    """The lines of the images, as bytes."""
+    begin, end = output.picture
+    return b"".join(line + b"\n" for line in data.split(b"\n")[begin:end])
