@@ -5,6 +5,8 @@ Nothing is judged here. Words that are no command are told as what they are.
 
 from typing import NamedTuple
 
+from .plain import counted
+
 # Each command's id, name, least size, and arguments; `release` and `id` take two entries. A `+` stands for more entries.
 TABLE = {
     0: ("Noop", 1, "+"),
@@ -82,9 +84,9 @@ def sentence(command):
     if command.name == "no command":
         return f"no command has the id {command.id} (size {command.size})"
     if command.id == NOOP:
-        parts.append(f"{command.size} entries")
+        parts.append(counted(command.size, "entry", "entries"))
     if command.data:
-        parts.append(f"{command.data} entries of data")
+        parts.append(counted(command.data, "entry of data", "entries of data"))
     if command.transfer:
-        parts.append(f"{command.transfer} words of the memory")
+        parts.append(counted(command.transfer, "word of the memory", "words of the memory"))
     return f"{command.name}: " + ", ".join(parts) if parts else command.name

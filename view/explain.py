@@ -1,3 +1,125 @@
-"""x"""
-def explain(data, program):
-    return 0
+"""What an answer of `verify` means: the event that breaks a rule, what is left to do, or the line that is no journal's.
+
+The answer is the program's. What is said beside it is worked out here anew from the script and the journal, and proves
+nothing.
+"""
+
+import re
+import subprocess
+import sys
+from pathlib import Path
+
+from . import commands, due, rules
+from .output import HEAD, NO_LINE_FEED, Lines, read_event, words_of
+from .script import BLANKS, Script
+from .standing import Standing
+
+WRAPPER = Path(__file__).resolve().parent.parent / "zorvleid"
+NO, NOT_COMPLETE, NO_JOURNAL = 9, 10, 11
+EVENT_FORMS = "order S N C, step S I:V .., finish S N, lost S CODE I:V .., lost S memory, close S"
+
+
+class Input:
+    """The parts of an input of `verify`: a script, the line `journal`, and the events of a journal."""
+
+    def __init__(self, data):
+        self.lines = Lines(data).lines
+        words = (BLANKS.split(line.removesuffix(NO_LINE_FEED).strip(" \t\r")) for line in self.lines)
+        self.journal = next((number for number, found in enumerate(words, 1) if found == ["journal"]), None)
+        self.script = Script(line.removesuffix(NO_LINE_FEED) for line in self.lines[:(self.journal or 1) - 1])
+        self.heads = []
+        if self.script.version == 2:
+            names = enumerate((plan.name for plan in self.script.plans), 1)
+            self.heads = [HEAD, *(f"name {number} {space} {name}" for number, (space, name) in names)]
+        first = (self.journal or 0) + len(self.heads)
+        self.events = self.read_events(first) if self.journal else []
+
+    def read_events(self, first):
+        events = []
+        for number, line in enumerate(self.lines[first:], first + 1):
+            event = read_event(line, number)
+            if event is None:
+                break
+            events.append(event)
+        return events
+
+    def text(self, line):
+        return self.lines[line - 1].removesuffix(NO_LINE_FEED) if line <= len(self.lines) else None
+
+
+def on_no(given, number, rule):
+    """What the rule is, which event breaks it, and what it would have wanted."""
+    event = given.events[number - 1]
+    of_events, sentence = rules.table().get(rule, ("", "see docs/FORMATS.md"))
+    yield f"event {number} of the journal, line {event.line} of the input, breaks rule {rule}:"
+    yield f"    {event.text}"
+    yield f"stream: {event.stream}"
+    if event.words:
+        yield f"words: {commands.sentence(commands.decode(words_of(event.words)))}"
+    yield f"rule {rule}{f' (of {of_events})' if of_events else ''}: {sentence}"
+    standing = Standing(given.script, given.events[:number - 1])
+    for line in due.wanted(rule, event, standing):
+        yield f"wanted: {line}"
+
+
+def on_not_complete(given):
+    """What is left to do, stream by stream."""
+    standing = Standing(given.script, given.events)
+    count = len(given.events)
+    yield f"the journal is legal up to its end, event {count}, and something is left to do:"
+    for number, stand in enumerate(standing.streams, 1):
+        left = list(due.left_of(number, stand, standing))
+        yield f"stream {number}: " + ("; ".join(left) if left else "nothing")
+
+
+def on_no_journal(given, line):
+    """The line that is no journal's, and what could stand there."""
+    if given.journal is None:
+        yield "the input has no line whose only word is `journal`: behind the script has to come such a line, and the journal"
+        return
+    text = given.text(line)
+    ended = text is None or not given.lines[line - 1].endswith(NO_LINE_FEED)
+    fault = " is missing" if text is None else " is no line of a journal:" if ended else " has no line feed at its end:"
+    yield f"line {line} of the input{fault}"
+    if text is not None:
+        yield f"    {text}"
+    place = line - given.journal - 1
+    if place < len(given.heads):
+        yield f"wanted: {given.heads[place]}"
+    else:
+        yield f"wanted: a line of an event: {EVENT_FORMS}"
+        yield "    with one space between words, no leading zeros, eight small digits in a value, and a line feed at the end"
+
+
+def meaning(status, said, data):
+    """The lines that say what an answer means; none where it needs no words."""
+    given = Input(data)
+    if status == NO and (found := re.fullmatch(r"no: event (\d+) rule (\d+)", said)):
+        return on_no(given, int(found[1]), int(found[2]))
+    if status == NOT_COMPLETE:
+        return on_not_complete(given)
+    if status == NO_JOURNAL and (found := re.fullmatch(r"refused: journal line (\d+)", said)):
+        return on_no_journal(given, int(found[1]))
+    return ()
+
+
+def printable(text):
+    return "".join(char if char.isprintable() else f"\\x{ord(char):02x}" for char in text)
+
+
+def explain(data, program=None):
+    """Runs `verify`, passes on what it writes, adds what it means, and answers its status."""
+    try:
+        ran = subprocess.run([program or WRAPPER, "verify"], input=data, capture_output=True, check=False)
+    except OSError as error:
+        print(f"the program does not start: {error.strerror}", file=sys.stderr)
+        return 126
+    sys.stderr.buffer.write(ran.stderr)
+    sys.stderr.flush()
+    sys.stdout.buffer.write(ran.stdout)
+    if ran.returncode in (NO, NOT_COMPLETE, NO_JOURNAL):
+        last = ran.stderr.decode("latin-1").rstrip("\n").rpartition("\n")[2]
+        for line in meaning(ran.returncode, last, data):
+            sys.stdout.buffer.write(printable(line).encode() + b"\n")
+    sys.stdout.flush()
+    return ran.returncode

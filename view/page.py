@@ -7,6 +7,7 @@ import json
 
 from . import commands, files
 from .output import words_of
+from .plain import counted
 from .trace import ending_of, name_of_stream
 
 
@@ -18,10 +19,6 @@ def note(event):
     if event.code:
         return f"{commands.ERRORS[event.code]}, at {meaning}" if meaning else commands.ERRORS[event.code]
     return meaning
-
-
-def counted(number, one, more=None):
-    return f"1 {one}" if number == 1 else f"{number:,} {more or one + 's'}"
 
 
 def summary(history):

@@ -4,7 +4,7 @@
 const data = JSON.parse(document.getElementById("data").textContent);
 const total = data.texts.length;
 const ROW = 42, BAR = 20, LANE_HEAD = 22, LANE_GAP = 10, AXIS = 20;
-const ROWS_DRAWN = 12, TABLE_ROWS = 200, WIDEST = 2000, LEAST_COLUMN = 12, MARK_COLUMN = 5;
+const ROWS_DRAWN = 12, TABLE_ROWS = 200, WIDEST = 2000, LEAST_COLUMN = 12, MARK_COLUMN = 5, HIT = 36;
 const view = { from: 0, count: 0, chosen: 0, column: 0, width: 0 };
 
 const element = id => document.getElementById(id);
@@ -130,7 +130,7 @@ function drawEvent(svg, layout, place) {
     class: chosen ? "event chosen" : "event", "data-place": place, tabindex: chosen ? 0 : -1, role: "button",
     "aria-label": `event ${place + 1} of ${total}: ${data.texts[place]}. ${data.notes[place]}`,
   });
-  const wide = Math.max(view.column, 6);
+  const wide = Math.max(6, Math.min(view.column, HIT));
   node(group, "rect", { class: "hit", x: cx - wide / 2, y: cy - 14, width: wide, height: 28, rx: 3 });
   drawMark(group, kind, cx, cy);
 }
@@ -255,6 +255,7 @@ function draw() {
   element("later").disabled = view.from + view.count >= total;
   element("closer").disabled = view.count <= 8;
   element("wider").disabled = view.count >= Math.min(total, WIDEST);
+  element("buttons").hidden = [...element("buttons").children].every(button => button.disabled);
   tellFolded(marked);
   tellEvent();
   fillTable();

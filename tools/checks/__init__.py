@@ -1,0 +1,1 @@
+"""Checks of the tools beside the program, which tools/check calls."""

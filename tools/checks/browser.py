@@ -1,0 +1,135 @@
+"""A Chromium without a window, driven through its debugging pipe with nothing but the standard library."""
+
+import base64
+import json
+import os
+import select
+import shutil
+import subprocess
+import tempfile
+import time
+
+NAMES = ("chromium", "chromium-browser", "google-chrome")
+SECONDS = 60
+
+
+class BrowserFault(Exception):
+    """The browser did not start, did not answer, or refused."""
+
+
+def program():
+    """The path of the browser, or None where there is none."""
+    return next(filter(None, map(shutil.which, NAMES)), None)
+
+
+class Browser:
+    """One browser with one page. What went wrong on its console is kept in `errors`."""
+
+    def __init__(self):
+        self.errors, self.events, self.left, self.last = [], [], b"", 0
+        self.folder = tempfile.TemporaryDirectory(ignore_cleanup_errors=True)
+        commands, self.answers, self.session = None, None, None
+        theirs, self.commands = os.pipe()
+        self.answers, commands = os.pipe()
+        words = [program(), "--headless=new", "--no-sandbox", "--disable-gpu", "--disable-dev-shm-usage", "--no-first-run",
+                 "--disable-background-networking", "--disable-component-update", "--disable-extensions", "--hide-scrollbars",
+                 f"--user-data-dir={self.folder.name}", "--remote-debugging-pipe", "about:blank"]
+        starter = ["sh", "-c", f'exec "$@" 3<&{theirs} 4>&{commands}', "sh", *words]
+        self.process = subprocess.Popen(starter, pass_fds=(theirs, commands), stdin=subprocess.DEVNULL,
+                                        stdout=subprocess.DEVNULL, stderr=subprocess.DEVNULL)
+        os.close(theirs)
+        os.close(commands)
+        self.begin()
+
+    def begin(self):
+        pages = self.call("Target.getTargets")["targetInfos"]
+        page = next(page for page in pages if page["type"] == "page")
+        self.session = self.call("Target.attachToTarget", targetId=page["targetId"], flatten=True)["sessionId"]
+        for domain in ("Page", "Runtime", "Log"):
+            self.call(domain + ".enable")
+
+    def __enter__(self):
+        return self
+
+    def __exit__(self, *_):
+        self.process.kill()
+        self.process.wait()
+        os.close(self.commands)
+        os.close(self.answers)
+        self.folder.cleanup()
+
+    def message(self, until):
+        """The next message of the browser."""
+        while b"\0" not in self.left:
+            ready, _, _ = select.select([self.answers], [], [], max(0, until - time.monotonic()))
+            part = os.read(self.answers, 1 << 20) if ready else b""
+            if not part:
+                raise BrowserFault("the browser does not answer")
+            self.left += part
+        text, _, self.left = self.left.partition(b"\0")
+        message = json.loads(text)
+        self.note(message)
+        return message
+
+    def note(self, message):
+        """Keeps what a message says of the console and of the page."""
+        method, told = message.get("method"), message.get("params", {})
+        if method == "Runtime.exceptionThrown":
+            self.errors.append(told["exceptionDetails"].get("exception", {}).get("description", "an exception"))
+        elif method == "Runtime.consoleAPICalled" and told["type"] in ("error", "warning", "assert"):
+            self.errors.append(" ".join(str(value.get("value")) for value in told["args"]))
+        elif method == "Log.entryAdded" and told["entry"]["level"] in ("error", "warning"):
+            self.errors.append(told["entry"]["text"])
+        elif method:
+            self.events.append(method)
+
+    def call(self, method, **parameters):
+        self.last += 1
+        asked = {"id": self.last, "method": method, "params": parameters}
+        if self.session:
+            asked["sessionId"] = self.session
+        try:
+            os.write(self.commands, json.dumps(asked).encode() + b"\0")
+        except OSError as error:
+            raise BrowserFault(f"the browser does not listen: {error.strerror}") from None
+        until = time.monotonic() + SECONDS
+        while (message := self.message(until)).get("id") != self.last:
+            pass
+        if "error" in message:
+            raise BrowserFault(f"{method}: {message['error']['message']}")
+        return message["result"]
+
+    def size(self, width, height=900, sharp=1):
+        self.call("Emulation.setDeviceMetricsOverride", width=width, height=height, deviceScaleFactor=sharp, mobile=width < 600)
+
+    def open(self, path):
+        """Opens a file, waits until it is loaded and drawn, and answers how many seconds that took."""
+        self.errors, self.events = [], []
+        begun = time.monotonic()
+        self.call("Page.navigate", url=path.resolve().as_uri())
+        while "Page.loadEventFired" not in self.events:
+            self.message(begun + SECONDS)
+        self.value("new Promise(done => requestAnimationFrame(() => setTimeout(done)))")
+        return time.monotonic() - begun
+
+    def value(self, script):
+        told = self.call("Runtime.evaluate", expression=script, returnByValue=True, awaitPromise=True)
+        if "exceptionDetails" in told:
+            raise BrowserFault(f"{script}: {told['exceptionDetails']['text']}")
+        return told["result"].get("value")
+
+    def click(self, selector):
+        """Clicks the middle of an element with the mouse."""
+        self.value(f"document.querySelector({json.dumps(selector)}).scrollIntoView({{block: 'center'}})")
+        x, y = self.value(f"(box => [box.x + box.width / 2, box.y + box.height / 2])"
+                          f"(document.querySelector({json.dumps(selector)}).getBoundingClientRect())")
+        for kind in ("mousePressed", "mouseReleased"):
+            self.call("Input.dispatchMouseEvent", type=kind, x=x, y=y, button="left", clickCount=1)
+
+    def key(self, name):
+        for kind in ("keyDown", "keyUp"):
+            self.call("Input.dispatchKeyEvent", type=kind, key=name, code=name)
+
+    def picture(self, path, whole=True):
+        """Writes what the page looks like as a PNG file."""
+        path.write_bytes(base64.b64decode(self.call("Page.captureScreenshot", captureBeyondViewport=whole)["data"]))

@@ -1,0 +1,193 @@
+"""What a rule would have wanted, where that is plain, and what is left to do of a journal that is not complete."""
+
+from . import commands
+from .output import words_of
+from .plain import counted, joined
+
+WORDS_AT_MOST = 1_048_576
+VALUES_SHOWN = 8
+
+
+# --- Streams and numbers ---
+
+
+def open_stream(event, standing):
+    """Why no event of this stream can come; nothing where one can."""
+    stand, count = standing.stream(event.stream), len(standing.streams)
+    if stand is None:
+        yield f"a stream of the script, which has {counted(count, 'stream')}, counted from 1"
+    elif stand.gone is not None:
+        how = "closed" if stand.gone.kind == "close" else "lost"
+        yield f"no event of stream {event.stream}, which is {how} by line {stand.gone.line} (`{stand.gone.text}`)"
+
+
+def next_number(event, standing):
+    yield f"the order number {standing.drawn + 1}, which is due"
+
+
+def next_flush(event, standing):
+    stand = standing.stream(event.stream)
+    if stand.ordered < len(stand.plan.flushes):
+        yield f"the flush that stands behind {counted(stand.plan.flushes[stand.ordered], 'action')}, so order {event.stream} " \
+              f"{event.number} {stand.plan.flushes[stand.ordered]}"
+    else:
+        yield f"no order, as each flush of stream {event.stream} has one"
+
+
+def first_number(event, standing):
+    yield from open_stream(event, standing)
+    stand = standing.stream(event.stream)
+    if stand is None or stand.gone is not None:
+        return
+    if stand.open:
+        yield f"finish {event.stream} {stand.open[0][0]}, as that is the first unprocessed number of stream {event.stream}"
+    else:
+        yield f"an order first: stream {event.stream} has no unprocessed number"
+
+
+def ended_waits(event, standing):
+    number = standing.stream(event.stream).open[0][0]
+    for wait in standing.waits_of(event.stream, number):
+        has = standing.stream(wait.target).release
+        yield f"the end of a wait first: number {number} waits for stream {wait.target} to come to release {wait.release}; " \
+              f"it has come to {has}"
+
+
+# --- Words ---
+
+
+def header_fault(header, room):
+    """What is wrong with a header, as an error, or None."""
+    size, number = header % 2**21, header // 2**21
+    if size == 0:
+        return "InvalidSize: the size is 0"
+    if size > room:
+        return f"OutOfBounds: the size is {size}, and there is room for {room}"
+    if number not in commands.TABLE:
+        return f"UnknownCommand: no command has the id {number}"
+    name, least, fields = commands.TABLE[number]
+    if size < least or (size > least and "+" not in fields):
+        return f"InvalidArguments: {name} has {least} entries{' or more' if '+' in fields else ''}, and the size is {size}"
+    return None
+
+
+def room_of(stand):
+    return (stand.put if stand.put > stand.get else stand.plan.ring) - stand.get
+
+
+def transfer_places(command, plan):
+    """The places of the words that a command reads from a memory, where its arguments let it."""
+    told = command.values
+    if command.name == "UploadRect":
+        size = told["w"] * told["h"] * commands.BYTES_OF_FORMAT.get(told["format"], 0)
+        lawful = told["format"] in commands.BYTES_OF_FORMAT
+    elif command.name in ("SetBucketData", "BufferData"):
+        size, lawful = told["size"], told.get("bucket", told.get("buffer", 0)) <= 15
+    else:
+        return []
+    first, words = plan.memories.get(told["memory"], (0, 0))
+    offset = told["memory_offset"]
+    if not lawful or told["memory"] not in plan.memories or offset + size > 4 * words or size == 0:
+        return []
+    return list(range(first + offset // 4, first + (offset + size - 1) // 4 + 1))
+
+
+def places_due(words, stand):
+    """The places that were to be fetched, going by the words that an event has; or None where the quota may be passed."""
+    values, get = dict(reversed(words)), stand.get
+    header = values.get(get, 0)
+    if header_fault(header, room_of(stand)):
+        return [get]
+    size = commands.entries_wanted(header // 2**21, header % 2**21)
+    ring = list(range(get, get + size))
+    command = commands.decode([(place, values.get(place, 0)) for place in ring])
+    places = ring + transfer_places(command, stand.plan)
+    return places if stand.fetched + len(places) <= WORDS_AT_MOST else None
+
+
+def fetched_places(event, standing):
+    stand = standing.stream(event.stream)
+    number = stand.open[0][0]
+    if stand.get == stand.put:
+        yield f"finish {event.stream} {number}: get has come to PUT, {stand.put}"
+    elif stand.put >= stand.plan.ring:
+        yield f"lost {event.stream} 2 without words: PUT is {stand.put}, and the ring has {stand.plan.ring} entries"
+    elif (places := places_due(words_of(event.words), stand)) is None:
+        yield f"a command whose first word is that of place {stand.get}"
+    else:
+        yield f"the words of {'place' if len(places) == 1 else 'places'} {joined(places)}, each once, going by this header"
+
+
+def put_values(event, standing):
+    """The first word that the client cannot have put, and what it could have."""
+    stand, words = standing.stream(event.stream), words_of(event.words)
+    could = stand.plan.values_between({place for place, _ in words}, stand.flush, stand.reach)
+    place, value = next(((place, value) for place, value in words if value not in could[place]), (None, 0))
+    if place is not None:
+        known = list(could[place])
+        shown = " or ".join(f"{one:08x}" for one in known[:VALUES_SHOWN])
+        more = f", or one of {len(known) - VALUES_SHOWN} more" if len(known) > VALUES_SHOWN else ""
+        yield f"{shown}{more} at place {place}, where the event has {value:08x}"
+
+
+def judged_words(event, standing):
+    stand, words = standing.stream(event.stream), words_of(event.words)
+    fault = header_fault(words[0][1], room_of(stand)) if words else None
+    if fault:
+        yield f"the loss of stream {event.stream} by {fault}"
+    elif event.kind == "step":
+        yield f"the loss of stream {event.stream}: these words fail a check of docs/FORMATS.md"
+    else:
+        yield f"a step, or another error than {event.code} ({commands.ERRORS[event.code]}): going by the checks of docs/FORMATS.md"
+
+
+# --- Ends ---
+
+
+def whole_flush(event, standing):
+    stand = standing.stream(event.stream)
+    yield f"a step first: get stands at {stand.get}, and the flush goes up to PUT, {stand.put}"
+
+
+def due_close(event, standing):
+    yield from open_stream(event, standing)
+    stand = standing.stream(event.stream)
+    if stand is None or stand.gone is not None:
+        return
+    without = len(stand.plan.flushes) - stand.ordered
+    if not stand.plan.closes():
+        yield f"no close: the script has none for stream {event.stream}"
+    elif without:
+        yield f"orders first: {counted(without, 'flush', 'flushes')} of stream {event.stream} without one"
+    else:
+        yield f"finishes first: an action before the close of stream {event.stream} still waits"
+
+
+WANTED = {1: open_stream, 2: next_number, 3: next_flush, 4: first_number, 5: ended_waits, 7: fetched_places, 8: put_values,
+          9: judged_words, 10: whole_flush, 11: open_stream, 12: due_close}
+
+
+def wanted(rule, event, standing):
+    """What a rule would have wanted in the place of an event that breaks it."""
+    return WANTED[rule](event, standing) if rule in WANTED else ()
+
+
+# --- What is left ---
+
+
+def left_of(number, stand, standing):
+    """What is left to do for a stream, part by part."""
+    if stand.gone is not None:
+        return
+    if stand.open:
+        first = stand.open[0][0]
+        yield f"to finish {'number' if len(stand.open) == 1 else 'numbers'} {', '.join(str(order) for order, _ in stand.open)}"
+        for wait in standing.waits_of(number, first):
+            yield f"number {first} waits for stream {wait.target} to come to release {wait.release}"
+        if not standing.waits_of(number, first):
+            yield f"get stands at {stand.get}, and PUT of number {first} is {stand.put}"
+    without = stand.plan.flushes[stand.ordered:]
+    if without:
+        yield f"to order {len(without)} more, the next behind {counted(without[0], 'action')}"
+    if stand.plan.closes():
+        yield "to close it"

@@ -1,0 +1,17 @@
+"""Numbers and lists in plain words."""
+
+
+def counted(number, one, more=None):
+    """So many of a thing."""
+    return f"1 {one}" if number == 1 else f"{number:,} {more or one + 's'}"
+
+
+def joined(numbers):
+    """Rising numbers, with what follows one after another as a range."""
+    runs = []
+    for number in numbers:
+        if runs and number == runs[-1][1] + 1:
+            runs[-1][1] = number
+        else:
+            runs.append([number, number])
+    return ", ".join(str(first) if first == last else f"{first} to {last}" for first, last in runs)
