@@ -24,6 +24,7 @@ class Bar:
     def __init__(self, stream, number, begin, row):
         self.stream, self.number, self.begin, self.row = stream, number, begin, row
         self.steps = []
+        self.pauses = []  # from a step whose wait was kept to the event that could come when it had ended
         self.end, self.how = None, None
 
     @property
@@ -123,7 +124,10 @@ class History:
         if self.waits and self.waits[-1].ended_by > ended_by:
             raise Refused(mark.line, "the wait ended before the one above it")
         later = bisect_right(bar.steps, ended_by)
-        return Wait(mark, ended_by, bar.steps[later] if later < len(bar.steps) else bar.end)
+        lets = bar.steps[later] if later < len(bar.steps) else bar.end
+        if later:
+            bar.pauses.append((bar.steps[later - 1], lets))
+        return Wait(mark, ended_by, lets)
 
 
 def finish(lane, place, how):

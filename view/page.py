@@ -21,13 +21,19 @@ def note(event):
     return meaning
 
 
+def end_of(stream):
+    """How a stream ended, with the name of its error."""
+    code = stream.end.removeprefix("lost ")
+    return f"{stream.end} ({commands.ERRORS[code]})" if code in commands.ERRORS else stream.end
+
+
 def summary(history):
     lost = sum(lane.gone not in (None, "close") for lane in history.lanes)
     closed = sum(lane.gone == "close" for lane in history.lanes)
     parts = [counted(len(history.lanes), "stream"), counted(len(history.bars), "order number"),
              counted(len(history.output.events), "event"), counted(len(history.waits), "wait") + " that ended"]
-    parts += [f"{lost} lost"] if lost else []
-    parts += [f"{closed} closed"] if closed else []
+    parts += [counted(lost, "stream") + " lost"] if lost else []
+    parts += [counted(closed, "stream") + " closed"] if closed else []
     return ", ".join(parts)
 
 
@@ -35,12 +41,13 @@ def data(history):
     """What the page shows. Places in the journal count from 0 here."""
     output = history.output
     return {
-        "streams": [{"name": name_of_stream(output, stream.number), "end": stream.end} for stream in output.streams],
+        "streams": [{"name": name_of_stream(output, stream.number), "end": end_of(stream)} for stream in output.streams],
         "line": output.events[0].line if output.events else 0,
         "texts": [event.text for event in output.events],
         "notes": [note(event) for event in output.events],
         "barOf": [bar.number - 1 if bar else -1 for bar in history.bar_of],
-        "bars": [[bar.stream - 1, bar.begin, -1 if bar.first is None else bar.first, bar.end, ending_of(bar)]
+        "bars": [[bar.stream - 1, bar.begin, -1 if bar.first is None else bar.first, bar.end, ending_of(bar),
+                  bar.pauses]
                  for bar in history.bars],
         "waits": [[wait.mark.how, wait.ended_by, wait.lets, wait.mark.text] for wait in history.waits],
     }

@@ -36,14 +36,14 @@ function tag(parent, name, text, className) {
 function layOut() {
   const lanes = data.streams.map(() => ({ bars: [], ends: [], folded: 0 }));
   const until = view.from + view.count;
-  data.bars.forEach(([stream, begin, first, end, how], index) => {
+  data.bars.forEach(([stream, begin, first, end, how, pauses], index) => {
     if (end < view.from || begin >= until) return;
     const lane = lanes[stream];
     let row = lane.ends.findIndex(last => last < begin);
     if (row < 0) row = lane.ends.length;
     if (row >= ROWS_DRAWN) { lane.folded += 1; return; }
     lane.ends[row] = end;
-    lane.bars.push({ index, begin, first, end, how, row });
+    lane.bars.push({ index, begin, first, end, how, pauses, row });
   });
   let top = AXIS;
   for (const lane of lanes) {
@@ -85,13 +85,14 @@ function drawAxis(svg, layout) {
   }
 }
 
-function drawLane(svg, lane, number) {
+function drawGround(svg, lane, number) {
   node(svg, "rect", { class: "lane", x: 0, y: lane.top, width: view.width, height: lane.height, rx: 6 });
-  const gone = goneAt[number];
-  if (gone < view.from + view.count) {
-    const left = Math.max(0, x(gone));
-    node(svg, "rect", { class: "gone", x: left, y: lane.top, width: Math.max(0, view.width - left), height: lane.height });
-  }
+  const left = Math.max(0, x(goneAt[number]));
+  if (left >= view.width) return;
+  node(svg, "rect", { class: "gone", x: left, y: lane.top, width: view.width - left, height: lane.height });
+}
+
+function drawName(svg, lane, number) {
   const { name, end } = data.streams[number];
   const label = node(svg, "text", { class: "name", x: 8, y: lane.top + 16 }, name);
   const folded = lane.folded ? `, ${shown(lane.folded)} bars folded: there is no row for them` : "";
@@ -109,10 +110,14 @@ function drawBar(svg, lane, bar) {
     const start = Math.max(-6, x(bar.first) - Math.min(6, view.column / 2));
     node(group, "rect", { class: "part", x: start, y: top + 1, width: Math.max(1, right - start), height: BAR - 2, rx: 4 });
   }
+  for (const [from, to] of bar.pauses) {
+    const [start, stop] = [Math.max(-6, x(from) + 5), Math.min(view.width + 6, x(to) - 5)];
+    if (stop > start) node(group, "rect", { class: "bar-pause", x: start, y: top + 1, width: stop - start, height: BAR - 2 });
+  }
   if (right - left > 16 || view.column > LEAST_COLUMN) {
     const text = right - left > 60 ? `order ${number}` : `${number}`;
     const ends = left + 60 > view.width;
-    node(group, "text", { class: "number", x: ends ? view.width - 2 : Math.max(2, left - 4), y: top - 4,
+    node(group, "text", { class: "number", x: ends ? view.width - 2 : Math.max(2, left - 4), y: top - 5,
       "text-anchor": ends ? "end" : "start" }, text);
   }
 }
@@ -131,7 +136,7 @@ function drawEvent(svg, layout, place) {
     "aria-label": `event ${place + 1} of ${total}: ${data.texts[place]}. ${data.notes[place]}`,
   });
   const wide = Math.max(6, Math.min(view.column, HIT));
-  node(group, "rect", { class: "hit", x: cx - wide / 2, y: cy - 14, width: wide, height: 28, rx: 3 });
+  node(group, "rect", { class: "hit", x: cx - wide / 2, y: cy - 13, width: wide, height: 26, rx: 3 });
   drawMark(group, kind, cx, cy);
 }
 
@@ -141,8 +146,9 @@ function drawWait(svg, layout, [how, from, to, text]) {
   const down = y(layout, to) > y(layout, from) ? 1 : -1;
   const y1 = y(layout, from) + 8 * down, y2 = y(layout, to) - 10 * down;
   const bend = Math.max(24, Math.abs(y2 - y1) / 2);
-  const path = node(svg, "path", { class: "wait " + how, "marker-end": `url(#tip-${how})`,
-    d: `M${x1} ${y1}C${x1} ${y1 + bend * down} ${x2} ${y2 - bend * down} ${x2} ${y2}` });
+  const d = `M${x1} ${y1}C${x1} ${y1 + bend * down} ${x2} ${y2 - bend * down} ${x2} ${y2}`;
+  node(svg, "path", { class: "halo", d });
+  const path = node(svg, "path", { class: "wait " + how, "marker-end": `url(#tip-${how})`, d });
   node(path, "title", {}, text);
 }
 
@@ -152,8 +158,9 @@ function drawChart() {
   svg.replaceChildren();
   svg.setAttribute("height", layout.height);
   svg.setAttribute("viewBox", `0 0 ${view.width} ${layout.height}`);
-  layout.lanes.forEach((lane, number) => drawLane(svg, lane, number));
+  layout.lanes.forEach((lane, number) => drawGround(svg, lane, number));
   drawAxis(svg, layout);
+  layout.lanes.forEach((lane, number) => drawName(svg, lane, number));
   for (const lane of layout.lanes) for (const bar of lane.bars) drawBar(svg, lane, bar);
   const marked = view.column >= MARK_COLUMN;
   for (let place = view.from; place < view.from + view.count; place += 1) {
