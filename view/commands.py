@@ -3,8 +3,10 @@
 Nothing is judged here. Words that are no command are told as what they are.
 """
 
+from functools import lru_cache
 from typing import NamedTuple
 
+from .output import words_of
 from .plain import counted
 
 # Each command's id, name, least size, and arguments; `release` and `id` take two entries. A `+` stands for more entries.
@@ -90,3 +92,10 @@ def sentence(command):
     if command.transfer:
         parts.append(counted(command.transfer, "word of the memory", "words of the memory"))
     return f"{command.name}: " + ", ".join(parts) if parts else command.name
+
+
+@lru_cache(maxsize=8192)
+def told(words):
+    """The name of a command, and its sentence, by its words as they are printed."""
+    command = decode(words_of(words))
+    return command.name, sentence(command)

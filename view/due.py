@@ -116,6 +116,7 @@ def fetched_places(event, standing):
         yield f"a command whose first word is that of place {stand.get}"
     else:
         yield f"the words of {'place' if len(places) == 1 else 'places'} {joined(places)}, each once, going by this header"
+        yield from put_values(event, standing)
 
 
 def put_values(event, standing):

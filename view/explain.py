@@ -10,7 +10,7 @@ import sys
 from pathlib import Path
 
 from . import commands, due, rules
-from .output import HEAD, NO_LINE_FEED, Lines, read_event, words_of
+from .output import HEAD, NO_LINE_FEED, Lines, read_event
 from .script import BLANKS, Script
 from .standing import Standing
 
@@ -55,7 +55,7 @@ def on_no(given, number, rule):
     yield f"    {event.text}"
     yield f"stream: {event.stream}"
     if event.words:
-        yield f"words: {commands.sentence(commands.decode(words_of(event.words)))}"
+        yield f"words: {commands.told(event.words)[1]}"
     yield f"rule {rule}{f' (of {of_events})' if of_events else ''}: {sentence}"
     standing = Standing(given.script, given.events[:number - 1])
     for line in due.wanted(rule, event, standing):

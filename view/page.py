@@ -6,14 +6,13 @@ The page draws a part of the journal at a time, so a long run opens as fast as a
 import json
 
 from . import commands, files
-from .output import words_of
 from .plain import counted
 from .trace import ending_of, name_of_stream
 
 
 def note(event):
     """What the words of a step or of a loss say."""
-    meaning = commands.sentence(commands.decode(words_of(event.words))) if event.words else ""
+    meaning = commands.told(event.words)[1] if event.words else ""
     if event.code == "memory":
         return "for want of memory"
     if event.code:

@@ -7,7 +7,6 @@ nest. The place of an event in the journal, from 1 on, is its time in microsecon
 import json
 
 from . import commands
-from .output import words_of
 
 ROWS_APART = 100  # the track of row R of stream S has the number S + 100 R, so that no two tracks have the same
 HOW = {"finish": "finished", "close": "ended by the close of its stream", "memory": "lost for want of memory"}
@@ -51,11 +50,12 @@ def slices(bar, output):
 def instant(place, event, bar):
     """The instant of an event that is no order: a step is called by its command."""
     where = track(bar) if bar else {"pid": event.stream, "tid": event.stream}
-    args, name = {"line": event.line, "text": event.text}, event.kind
+    args, name = {"line": event.line}, event.kind
     if event.words:
-        command = commands.decode(words_of(event.words))
-        args |= {"command": commands.sentence(command), "words": event.words.strip()}
-        name = command.name if event.kind == "step" else f"lost at {command.name}"
+        name, args["command"] = commands.told(event.words)
+        args["words"] = event.words[1:]
+        if event.kind == "lost":
+            name = f"lost at {name}"
     if event.code:
         args["error"] = commands.ERRORS.get(event.code, event.code)
     return {"ph": "i", "s": "t", "cat": event.kind, "name": name, **where, "ts": place + 1, "args": args}

@@ -1,0 +1,57 @@
+"""The outputs that the checks of the tools go through: those of all cases, and what a plain second reading says of them."""
+
+import re
+import subprocess
+from pathlib import Path
+
+import large
+
+SUM = ".stdout.sum"
+PYTHONS = ("python3", "/usr/bin/python3")
+
+
+def outputs_of_cases(top):
+    """The name and the output of each case of `run` or `verify` that has one, as text; large ones are made."""
+    for folder in ("examples", "tests/cases"):
+        for path in sorted((top / folder).rglob("*.stdout*")):
+            name = path.relative_to(top)
+            if path.name.endswith(SUM):
+                yield name, large.MAKERS[path.name.removesuffix(SUM)]()[1]
+            elif path.suffix == ".stdout" and is_output(path):
+                yield name, path.read_text(encoding="ascii")
+
+
+def is_output(path):
+    """Whether it is the words of a case that write an output; `check`, `generate` and `trial` do not."""
+    words = path.with_suffix(".words")
+    return not words.exists() or words.read_text().split()[0] in ("run", "verify")
+
+
+def is_verdict(text):
+    return text.startswith("yes ")
+
+
+def images_of(text):
+    """The images of an output, read a second time and without care: width, height and texels by their numbers."""
+    images, lines = {}, text.split("\n")
+    for at, line in enumerate(lines):
+        if found := re.fullmatch(r"image (\d+) (\d+) (\d+)", line):
+            number, width, height = map(int, found.groups())
+            rows = " ".join(lines[at + 1:at + 1 + height])
+            images[number] = (width, height, b"".join(int(texel, 16).to_bytes(4, "big") for texel in rows.split(" ")))
+    return images
+
+
+def python_with(module):
+    """The first Python that has a module, or None."""
+    for python in PYTHONS:
+        try:
+            if subprocess.run([python, "-c", f"import {module}"], capture_output=True, check=False).returncode == 0:
+                return python
+        except OSError:
+            continue
+    return None
+
+
+def case_folder_of(path):
+    return Path(path).parent.name
