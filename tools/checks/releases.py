@@ -1,0 +1,126 @@
+"""A release of a copy of the repository: it is made, it is refused where it has to be, and it runs with no toolchain."""
+
+import shutil
+import subprocess
+import tarfile
+import tempfile
+from pathlib import Path
+
+PROGRAM = Path("crates/script_main/out/script_main")
+COMMANDS = ("sh", "cat", "dirname", "readlink", "python3")
+LEFT_OUT = (".git", "out", "__pycache__", "cases", "crates", "bench")
+TIME = "2020-01-01T00:00:00Z"
+
+
+def check(top, program, tally):
+    """Tells a fault for each way in which a release is not as it has to be."""
+    if shutil.which("git") is None:
+        tally.skip("the release", "git is missing (apt install git)")
+        return
+    with tempfile.TemporaryDirectory() as folder:
+        copy, log = Path(folder) / "copy", Path(folder) / "gate.log"
+        commit = make_copy(top, program, copy)
+        passed = f"1 passed, 0 failed\nthe gate passed on {commit}\n"
+        check_refusals(copy, log, passed, folder, tally)
+        log.write_text(passed)
+        archives = []
+        for into in ("one", "two"):
+            (Path(folder) / into).mkdir()
+            ran = make(copy, log, Path(folder) / into)
+            archives.append(ran.stdout.strip())
+            if ran.returncode != 0:
+                tally.tell("the release", f"it is refused: {ran.stderr}")
+                return
+        tally.tell("the release, made twice", None if read(archives[0]) == read(archives[1]) else "its bytes differ")
+        check_unpacked(top, Path(archives[0]), Path(folder) / "empty", commit, tally)
+
+
+def read(path):
+    return Path(path).read_bytes()
+
+
+def git(copy, *words):
+    who = ["-c", "user.name=check", "-c", "user.email=check@example.org"]
+    ran = subprocess.run(["git", *who, *words], cwd=copy, capture_output=True, text=True, check=True,
+                         env={"PATH": "/usr/local/bin:/usr/bin:/bin", "HOME": str(copy), "GIT_AUTHOR_DATE": TIME,
+                              "GIT_COMMITTER_DATE": TIME})
+    return ran.stdout.strip()
+
+
+def make_copy(top, program, copy):
+    """A repository of its own with what a release is made of, and the program as if it were built there."""
+    shutil.copytree(top, copy, ignore=shutil.ignore_patterns(*LEFT_OUT), symlinks=True)
+    for part in ("src", "specs", "proofs"):
+        (copy / "crates/script_main" / part).mkdir(parents=True)
+        (copy / "crates/script_main" / part / "kept").write_text("")
+    git(copy, "init", "-q")
+    git(copy, "add", "-A")
+    git(copy, "commit", "-q", "-m", "all")
+    (copy / PROGRAM).parent.mkdir()
+    shutil.copyfile(program, copy / PROGRAM)
+    (copy / PROGRAM).chmod(0o755)
+    return git(copy, "rev-parse", "HEAD")
+
+
+def make(copy, log, into):
+    words = [copy / "tools/release", "--gate", log, "--into", into, "--toolchain", "a toolchain"]
+    return subprocess.run(words, capture_output=True, text=True, check=False)
+
+
+def check_refusals(copy, log, passed, folder, tally):
+    """A release is refused by one line, and leaves nothing."""
+    stray = copy / "stray"
+
+    def refused(name, word):
+        ran = make(copy, log, folder)
+        left = list(Path(folder).glob("*.tar.gz*"))
+        is_so = ran.returncode == 1 and word in ran.stderr and ran.stderr.count("\n") == 1 and not left
+        tally.tell(f"a release {name}", None if is_so else f"it is not refused so: {ran}")
+
+    refused("with no log", "No such file")
+    for name, text in (("with a log that breaks off", "rt ci\n"), ("with another commit's log", passed.replace(" on ", " on 0")),
+                       ("with a log of changes", passed.rstrip() + ",  M README.md\n"), ("with an empty log", "")):
+        log.write_text(text)
+        refused(name, "gate")
+    log.write_text(passed)
+    stray.write_text("")
+    refused("of a tree with changes", "changes")
+    stray.unlink()
+    program = copy / PROGRAM
+    program.rename(program.with_name("kept"))
+    refused("with no program", "program")
+    program.with_name("kept").rename(program)
+
+
+def check_unpacked(top, archive, folder, commit, tally):
+    """The unpacked release runs in an empty folder, with nothing on the path but what it says that it needs."""
+    folder.mkdir()
+    with tarfile.open(archive) as tar:
+        tar.extractall(folder, filter="fully_trusted") if hasattr(tarfile, "data_filter") else tar.extractall(folder)
+    (there,) = folder.iterdir()
+    tally.tell("the name of the release", None if archive.name == f"{there.name}.tar.gz" else f"{archive.name} has {there.name}")
+    path = folder / "path"
+    path.mkdir()
+    for name in COMMANDS:
+        if shutil.which(name):
+            (path / name).symlink_to(shutil.which(name))
+
+    def run(words, stdin, wanted, name):
+        ran = subprocess.run(["./zorvleid", *words], input=stdin, cwd=there, capture_output=True, check=False, env={"PATH": str(path)})
+        fault = None if (ran.returncode, ran.stderr) == (0, b"") and wanted in (None, ran.stdout) else str(ran)
+        tally.tell(f"the release, {name}", fault)
+
+    for name in ("two_texels", "compositor"):
+        script, output = (read(there / f"examples/{name}{ending}") for ending in (".script", ".stdout"))
+        run(["run"], script, output, f"run of {name}")
+    run(["timeline", "--page", "page.html", "--trace", "trace.json"], output, b"", "timeline")
+    run(["explain"], script + b"journal\n" + output, None, "explain")
+    sums = subprocess.run(["sha256sum", "--check", "--quiet", "SHA256SUMS"], cwd=there, capture_output=True, text=True, check=False)
+    tally.tell("the release, its sums", sums.stderr.strip() or sums.stdout.strip() or None)
+    facts = (there / "RELEASE").read_text()
+    named = all(word in facts for word in (commit, "a toolchain", f"the gate passed on {commit}"))
+    tally.tell("the release, RELEASE", None if named else f"it says {facts!r}")
+    listed = {line.split("  ")[1] for line in (there / "SHA256SUMS").read_text().splitlines()}
+    wanted = {"bin/script_main", "zorvleid", "README.md", "RELEASE", "docs/zorvleid.1", "docs/FORMATS.md", "examples/README.md",
+              "view/output.py", "view/pages/timeline.js"}
+    tally.tell("the release, its files", None if wanted <= listed else f"it lacks {sorted(wanted - listed)}")
