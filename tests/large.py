@@ -11,9 +11,10 @@ import hashlib
 import sys
 from pathlib import Path
 
-sys.path.insert(0, str(Path(__file__).resolve().parent))
+sys.path[:0] = [str(Path(__file__).resolve().parent.parent), str(Path(__file__).resolve().parent)]
 import limits  # noqa: E402
 import model  # noqa: E402
+from view import output as outputs  # noqa: E402
 
 HEAD, lines = limits.HEAD, limits.lines
 
@@ -60,9 +61,9 @@ def generated_200_1():
 
 def verify_generated_200_1():
     script, output = generated_200_1()
-    picture = output[output.index("image "):output.index("stream 1 ")]
-    events = output[:output.index("image ")].count("\n")
-    return script + "journal\n" + output, f"yes events {events}\n" + picture
+    data = output.encode()
+    read = outputs.read_output(data)
+    return script + "journal\n" + output, f"yes events {read.event_count}\n" + outputs.picture_text(data, read).decode()
 
 
 MAKERS = {maker.__name__: maker for maker in (largest_images, quota, longest_script, script_too_long, generated_200_1,

@@ -4,6 +4,7 @@ A check whose own tool is missing is skipped, with a line that says so.
 """
 
 import importlib
+import subprocess
 import sys
 
 PARTS = ("pictures", "traces", "mutations", "explaining", "manual", "releases", "pages")
@@ -25,3 +26,22 @@ def check(top, program, tally, parts=PARTS):
     sys.path.insert(0, str(top))
     for part in parts:
         importlib.import_module(f"checks.{part}").check(top, program, tally)
+
+
+def failures(copy, part):
+    """What a part tells of a copy of the repository, by the copy's own check; nothing where all is well."""
+    ran = subprocess.run([copy / "tools/check", "--only", part], capture_output=True, text=True, check=False)
+    return None if ran.returncode == 0 else ran.stdout + ran.stderr
+
+
+def selftest(copy, tally):
+    """Shows on an unchanged copy, which has a program, that the parts find the faults that are planted into it."""
+    for part in sorted({planted[0] for planted in PLANTED}):
+        tally.tell(f"the unchanged copy, {part}", failures(copy, part))
+    for part, name, old, new in PLANTED:
+        path = copy / name
+        kept = path.read_text(encoding="utf-8")
+        assert old in kept, f"{name} has no {old!r}"
+        path.write_text(kept.replace(old, new, 1), encoding="utf-8")
+        tally.tell(f"{old!r} as {new!r} in {name}", None if failures(copy, part) else "it was not found")
+        path.write_text(kept, encoding="utf-8")
