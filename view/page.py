@@ -16,7 +16,8 @@ def note(event):
     if event.code == "memory":
         return "for want of memory"
     if event.code:
-        return f"{commands.ERRORS[event.code]}, at {meaning}" if meaning else commands.ERRORS[event.code]
+        between = ": " if meaning.startswith("no command") else ", in " if meaning else ""
+        return commands.ERRORS[event.code] + between + meaning
     return meaning
 
 

@@ -130,6 +130,13 @@ class Browser:
         for kind in ("keyDown", "keyUp"):
             self.call("Input.dispatchKeyEvent", type=kind, key=name, code=name)
 
-    def picture(self, path, whole=True):
-        """Writes what the page looks like as a PNG file."""
-        path.write_bytes(base64.b64decode(self.call("Page.captureScreenshot", captureBeyondViewport=whole)["data"]))
+    def picture(self, path, selector=None, border=0):
+        """Writes what the page looks like as a PNG file: the window, or an element with a border of so many pixels round it."""
+        asked = {}
+        if selector:
+            box = self.value(f"(box => [box.x + scrollX, box.y + scrollY, box.width, box.height])"
+                             f"(document.querySelector({json.dumps(selector)}).getBoundingClientRect())")
+            x, y, width, height = box
+            clip = {"x": x - border, "y": y - border, "width": width + 2 * border, "height": height + 2 * border, "scale": 1}
+            asked = {"clip": clip, "captureBeyondViewport": True}
+        path.write_bytes(base64.b64decode(self.call("Page.captureScreenshot", **asked)["data"]))
