@@ -22,6 +22,7 @@ def check(top, program, tally):
         fault, was_refused = fault_of(mutated)
         refused += was_refused
         tally.tell(f"{name} with a line {kind} ({number})", fault)
+    check_by_hand(tally)
     tally.tell("mutated outputs", None if COUNT // 4 < refused < COUNT else f"{refused} of {COUNT} were refused")
 
 
@@ -40,6 +41,35 @@ def double(text, draw):
 def change(text, draw):
     at = draw.randrange(len(text))
     return text[:at] + draw.choice(CHARACTERS.replace(text[at], "")) + text[at + 1:]
+
+
+# What no case has: a loss for want of memory, long numbers, and the lines of live views.
+BESIDE = """gpu-journal 2
+name 1 255 18446744073709551615
+name 2 0 0
+order 1 1 0
+order 2 2 4294967295
+lost 1 memory
+finish 2 2
+stream 1 lost memory entries 0 release 0 token 4294967295 words 0 errors 0 0 0
+stream 2 done entries 0 release 18446744073709551615 token 0 words 0 errors 0 0 0
+mark 2 2 1 18446744073709551615 guard 1009
+dump 2 4 65535 00000000
+view 1 0 00000000
+view 1 4 fedcba98
+"""
+NONE = ("x", "\n", " ", "ok streams 1 actions 2 flushes 1\n", "trial 3 77 events 100 lost 0 images 4 endings 3 sum 4af8fca4\n",
+        "yes events 1 \n", "image 1 1 1\n", "image 1 0 0\n", "gpu-journal 2\nname 1 0 1\n", "gpu-script 1\n",
+        BESIDE.replace("65535", "4294967296"), BESIDE.replace("615 guard", "616 guard"), BESIDE.replace("view 1 0", "view 1 00"),
+        BESIDE.replace("guard 1009", "release 1008"), BESIDE + "order 1 3 0\n")
+
+
+def check_by_hand(tally):
+    """Some texts that are outputs, and some that are none."""
+    for name, text, wanted in (("an output with all parts", BESIDE, False), ("the empty output", "", False),
+                               *((repr(text), text, True) for text in NONE)):
+        fault, was_refused = fault_of(text)
+        tally.tell(name, fault if was_refused == wanted else f"it is {'refused' if was_refused else 'read'}")
 
 
 MUTATIONS = {"cut": cut, "doubled": double, "changed": change}

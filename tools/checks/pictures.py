@@ -67,6 +67,18 @@ def check_wrapper(top, tally):
         tally.tell("pictures of an output without its end", None if is_told and not Path(folder, "none").exists() else str(ran))
         ran = subprocess.run([*tool, "--into", "/dev/null/none"], input=output, capture_output=True, cwd=folder, check=False)
         tally.tell("pictures into no folder", None if ran.returncode == 4 and ran.stderr.startswith(b"write fault") else str(ran))
+        check_without_pillow(top, Path(folder), tally)
+
+
+def check_without_pillow(top, folder, tally):
+    """Where no Python has Pillow, one line says what to install."""
+    (folder / "python3").write_text("#!/bin/sh\nexit 1\n")
+    (folder / "python3").chmod(0o755)
+    starter = (top / "view/run").read_text().replace("/usr/bin/python3", "/nowhere/python3")
+    path = {"PATH": f"{folder}:/usr/bin:/bin"}
+    ran = subprocess.run(["sh", "-c", starter, "run", "pictures"], capture_output=True, text=True, env=path, check=False)
+    is_told = ran.returncode == 127 and "apt install python3-pil" in ran.stderr and ran.stderr.count("\n") == 1
+    tally.tell("pictures without Pillow", None if is_told else str(ran))
 
 
 # --- The part that needs Pillow ---

@@ -4,7 +4,7 @@
 const data = JSON.parse(document.getElementById("data").textContent);
 const total = data.texts.length;
 const ROW = 42, BAR = 20, LANE_HEAD = 22, LANE_GAP = 10, AXIS = 20;
-const ROWS_DRAWN = 12, TABLE_ROWS = 200, WIDEST = 2000, LEAST_COLUMN = 12, MARK_COLUMN = 5, HIT = 36;
+const ROWS_DRAWN = 24, TABLE_ROWS = 200, WIDEST = 2000, LEAST_COLUMN = 12, MARK_COLUMN = 5, HIT = 36;
 const view = { from: 0, count: 0, chosen: 0, column: 0, width: 0 };
 
 const element = id => document.getElementById(id);
@@ -34,7 +34,7 @@ function tag(parent, name, text, className) {
 
 // The bars of the part that is drawn, by stream, each with the first row that is free there.
 function layOut() {
-  const lanes = data.streams.map(() => ({ bars: [], ends: [], folded: 0 }));
+  const lanes = data.streams.map(() => ({ bars: [], ends: [], labelled: [], folded: 0 }));
   const until = view.from + view.count;
   data.bars.forEach(([stream, begin, first, end, how, pauses], index) => {
     if (end < view.from || begin >= until) return;
@@ -48,7 +48,7 @@ function layOut() {
   let top = AXIS;
   for (const lane of lanes) {
     lane.top = top;
-    lane.height = LANE_HEAD + Math.max(1, lane.ends.length) * ROW;
+    lane.height = LANE_HEAD + Math.max(1, lane.ends.length + (lane.folded ? 1 : 0)) * ROW;
     lane.rowOf = new Map(lane.bars.map(bar => [bar.index, bar.row]));
     top += lane.height + LANE_GAP;
   }
@@ -56,8 +56,8 @@ function layOut() {
 }
 
 function y(layout, place) {
-  const lane = layout.lanes[streamOf(place)];
-  const row = lane.rowOf.get(data.barOf[place]) ?? 0;
+  const lane = layout.lanes[streamOf(place)], bar = data.barOf[place];
+  const row = bar < 0 ? 0 : lane.rowOf.get(bar) ?? lane.ends.length;
   return lane.top + LANE_HEAD + row * ROW + 14 + BAR / 2;
 }
 
@@ -95,16 +95,15 @@ function drawGround(svg, lane, number) {
 function drawName(svg, lane, number) {
   const { name, end } = data.streams[number];
   const label = node(svg, "text", { class: "name", x: 8, y: lane.top + 16 }, name);
-  const folded = lane.folded ? `, ${shown(lane.folded)} bars folded: there is no row for them` : "";
+  const folded = lane.folded ? `; ${shown(lane.folded)} more bars are folded into the last row` : "";
   node(label, "tspan", { class: "end", dx: 8, "font-weight": 400 }, end + folded);
 }
 
 function drawBar(svg, lane, bar) {
   const top = lane.top + LANE_HEAD + bar.row * ROW + 14;
   const left = Math.max(-6, x(bar.begin)), right = Math.min(view.width + 6, x(bar.end));
-  const number = bar.index + 1;
   const group = node(svg, "g", { class: "number-group" });
-  node(group, "title", {}, `order number ${number}: events ${bar.begin + 1} to ${bar.end + 1}, ${bar.how}`);
+  node(group, "title", {}, `order number ${bar.index + 1}: events ${bar.begin + 1} to ${bar.end + 1}, ${bar.how}`);
   node(group, "rect", { class: "bar", x: left, y: top, width: Math.max(1, right - left), height: BAR, rx: 5 });
   if (bar.first >= 0 && bar.first < view.from + view.count) {
     const start = Math.max(-6, x(bar.first) - Math.min(6, view.column / 2));
@@ -114,12 +113,16 @@ function drawBar(svg, lane, bar) {
     const [start, stop] = [Math.max(-6, x(from) + 5), Math.min(view.width + 6, x(to) - 5)];
     if (stop > start) node(group, "rect", { class: "bar-pause", x: start, y: top + 1, width: stop - start, height: BAR - 2 });
   }
-  if (right - left > 16 || view.column > LEAST_COLUMN) {
-    const text = right - left > 60 ? `order ${number}` : `${number}`;
-    const ends = left + 60 > view.width;
-    node(group, "text", { class: "number", x: ends ? view.width - 2 : Math.max(2, left - 4), y: top - 5,
-      "text-anchor": ends ? "end" : "start" }, text);
-  }
+  if (right - left > 16 || view.column > LEAST_COLUMN) drawLabel(group, lane, bar, left, right, top - 5);
+}
+
+// The number of a bar over its beginning, where no other label of its row stands there.
+function drawLabel(group, lane, bar, left, right, base) {
+  const text = right - left > 60 ? `order ${bar.index + 1}` : `${bar.index + 1}`, wide = 7 * text.length;
+  const at = Math.max(2, Math.min(left - 4, view.width - wide));
+  if (at < (lane.labelled[bar.row] ?? 0)) return;
+  lane.labelled[bar.row] = at + wide;
+  node(group, "text", { class: "number", x: at, y: base }, text);
 }
 
 function drawMark(group, kind, cx, cy) {
@@ -188,7 +191,7 @@ function tellEvent() {
   if (!total) return;
   const bar = data.barOf[place] < 0 ? "" : `, order number ${data.barOf[place] + 1}`;
   const { name } = data.streams[streamOf(place)];
-  tag(detail, "p", `Event ${shown(place + 1)} of ${shown(total)}: ${name}${bar}, line ${data.line + place} of the output`, "where");
+  tag(detail, "p", `Event ${shown(place + 1)} of ${shown(total)}: ${name}${bar}, line ${shown(data.line + place)} of the output`, "where");
   tag(detail, "code", data.texts[place]);
   if (data.notes[place]) tag(detail, "p", data.notes[place]);
   for (const [how, from, to, text] of data.waits) {
