@@ -32,7 +32,7 @@ def scale(text):
 def words():
     parser = Words(prog="zorvleid", allow_abbrev=False)
     tools = parser.add_subparsers(dest="tool", required=True, parser_class=Words)
-    tool = tools.add_parser("pictures", allow_abbrev=False, help="write the images of an output as PNG files, and a sheet of them")
+    tool = tools.add_parser("pictures", allow_abbrev=False, help="write the images of an output as PNG files, and a sheet")
     tool.add_argument("--into", metavar="FOLDER", type=Path, default=Path("pictures"), help="where to (left out: pictures)")
     tool.add_argument("--scale", metavar="N", type=scale, default=1, help="repeat each texel N times (left out: 1)")
     tool = tools.add_parser("timeline", allow_abbrev=False, help="write the history of an output as a trace or as a page")

@@ -139,7 +139,7 @@ def judged_words(event, standing):
     elif event.kind == "step":
         yield f"the loss of stream {event.stream}: these words fail a check of docs/FORMATS.md"
     else:
-        yield f"a step, or another error than {event.code} ({commands.ERRORS[event.code]}): going by the checks of docs/FORMATS.md"
+        yield f"a step, or another error than {event.code} ({commands.ERRORS[event.code]}), by the checks of docs/FORMATS.md"
 
 
 # --- Ends ---

@@ -9,7 +9,7 @@ import sys
 
 PARTS = ("pictures", "traces", "mutations", "explaining", "manual", "releases", "pages")
 
-# Faults that the parts have to find, for the test of the check itself: a part, a file, what stands there, and what is put there.
+# Faults that the parts have to find, for the test of the check itself: a part, a file, what stands there, what is put there.
 PLANTED = (
     ("mutations", "view/output.py", "return bytes.fromhex(row)", "return bytes.fromhex(row)[::-1]"),
     ("traces", "view/trace.py", 'if event.kind != "order":', 'if event.kind == "finish":'),

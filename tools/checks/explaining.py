@@ -81,7 +81,8 @@ def fault_of_case(path, found, ruling, program):
     if status == 9:
         line = re.search(r"line (\d+) of the input", text)
         event = data.split(b"\n")[int(line[1]) - 1].decode() if line else ""
-        parts = (f"event {found[1]} of the journal", f"    {event}\n", "stream: " + event.split(" ")[1], row_of(ruling, found[2]), "wanted: ")
+        sentence, stream = row_of(ruling, found[2]), event.split(" ")[1]
+        parts = (f"event {found[1]} of the journal", f"    {event}\n", f"stream: {stream}", sentence, "wanted: ")
     elif status == 10:
         parts = ("the journal is legal up to its end", "stream 1: ")
     else:
@@ -127,6 +128,6 @@ def fault_of_wish(data, program):
     elif found := WORD_WANTED.fullmatch(lines[-1]):
         wishes = [words.replace(f" {found[2]}:{found[3]}", f" {found[2]}:{value}") for value in found[1].split(" or ")]
     for text[line - 1] in wishes:
-        if subprocess.run([program, "verify"], input="\n".join(text).encode(), capture_output=True, check=False).returncode == 0:
+        if meaning("\n".join(text).encode(), program)[0] == 0:
             return None
     return f"{lines[-1]!r} is not enough"

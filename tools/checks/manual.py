@@ -1,4 +1,4 @@
-"""The manual page and the help: both name all commands, statuses and options, and the page has no fault that mandoc warns of."""
+"""The manual page and the help: both name all commands, statuses and options, and mandoc warns of nothing in the page."""
 
 import re
 import shutil
@@ -54,7 +54,8 @@ def check_examples(top, tally):
     text = (top / "examples/README.md").read_text(encoding="utf-8")
     parts = dict(re.findall(r"^## (\w+)\n(.*?)(?=^## |\Z)", text, re.MULTILINE | re.DOTALL))
     names = {path.stem for path in (top / "examples").glob("*.script")}
-    tally.tell("examples/README.md", None if names == parts.keys() else f"it tells {sorted(names ^ parts.keys())} too much or not")
+    fault = None if names == parts.keys() else f"it tells too much or not of {sorted(names ^ parts.keys())}"
+    tally.tell("examples/README.md", fault)
     for name, story in sorted(parts.items()):
         count = len(re.findall(r"[.?!:](?=\s)", story.split("```")[0]))
         tally.tell(f"examples/README.md: {name}", None if count in SENTENCES else f"it has {count} sentences")

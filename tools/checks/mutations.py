@@ -58,7 +58,8 @@ dump 2 4 65535 00000000
 view 1 0 00000000
 view 1 4 fedcba98
 """
-NONE = ("x", "\n", " ", "ok streams 1 actions 2 flushes 1\n", "trial 3 77 events 100 lost 0 images 4 endings 3 sum 4af8fca4\n",
+NONE = ("x", "\n", " ", "ok streams 1 actions 2 flushes 1\n",
+        "trial 3 77 events 100 lost 0 images 4 endings 3 sum 4af8fca4\n",
         "yes events 1 \n", "image 1 1 1\n", "image 1 0 0\n", "gpu-journal 2\nname 1 0 1\n", "gpu-script 1\n",
         BESIDE.replace("65535", "4294967296"), BESIDE.replace("615 guard", "616 guard"), BESIDE.replace("view 1 0", "view 1 00"),
         BESIDE.replace("guard 1009", "release 1008"), BESIDE + "order 1 3 0\n")

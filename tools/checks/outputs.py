@@ -2,10 +2,10 @@
 
 import re
 import subprocess
-from pathlib import Path
 
 import large
 
+EVENTS = ("order ", "step ", "finish ", "lost ", "close ")
 SUM = ".stdout.sum"
 PYTHONS = ("python3", "/usr/bin/python3")
 
@@ -51,7 +51,3 @@ def python_with(module):
         except OSError:
             continue
     return None
-
-
-def case_folder_of(path):
-    return Path(path).parent.name

@@ -4,7 +4,7 @@ import subprocess
 import tempfile
 from pathlib import Path
 
-from checks import browser
+from checks import browser, outputs
 
 EXAMPLES = ("compositor", "crossed_waits", "lost_stream")
 WIDTHS = (1280, 400)
@@ -44,7 +44,7 @@ def large_output(program):
 
 
 def check_example(page, name, text, path, tally):
-    journal = [line for line in text.split("\n") if line.startswith(("order ", "step ", "finish ", "lost ", "close "))]
+    journal = [line for line in text.split("\n") if line.startswith(outputs.EVENTS)]
     orders = sum(line.startswith("order ") for line in journal)
     waits = sum(line.startswith("mark ") for line in text.split("\n"))
     for width in WIDTHS:
@@ -86,7 +86,8 @@ def check_large(page, text, path, tally):
     slow = None if min(seconds) <= SECONDS else f"it took {min(seconds):.1f} seconds at best"
     tally.tell(f"a page of {len(events):,} events opens", slow)
     folded = page.value("document.querySelector('#folded').textContent")
-    tally.tell("a large page says what is folded", None if f"of {len(events):,} are drawn" in folded and "folded" in folded else folded)
+    is_told = f"of {len(events):,} are drawn" in folded and "folded away" in folded
+    tally.tell("a large page says what is folded", None if is_told else folded)
     clicked(page, 3)
     page.key("End")
     tally.tell("the last event of a large page", None if page.value(LINE) == events[-1] else page.value(LINE))
@@ -99,4 +100,5 @@ def check_empty(page, path, tally):
     """A run without streams has a page too."""
     page.open(write_page("", path))
     said = page.value("document.querySelector('#folded').textContent")
-    tally.tell("the page of an empty output", None if (said, page.errors) == ("There is no event.", []) else f"{said} {page.errors}")
+    is_told = (said, page.errors) == ("There is no event.", [])
+    tally.tell("the page of an empty output", None if is_told else f"{said} {page.errors}")

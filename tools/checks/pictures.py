@@ -64,7 +64,8 @@ def check_wrapper(top, tally):
         ran = subprocess.run([*tool, "--into", "none"], input=output[:-1], capture_output=True, cwd=folder, check=False)
         last = output.count(b"\n")
         is_told = ran.returncode == 5 and ran.stderr.startswith(b"refused: line %d: " % last) and ran.stderr.count(b"\n") == 1
-        tally.tell("pictures of an output without its end", None if is_told and not Path(folder, "none").exists() else str(ran))
+        is_told = is_told and not Path(folder, "none").exists()
+        tally.tell("pictures of an output without its end", None if is_told else str(ran))
         ran = subprocess.run([*tool, "--into", "/dev/null/none"], input=output, capture_output=True, cwd=folder, check=False)
         tally.tell("pictures into no folder", None if ran.returncode == 4 and ran.stderr.startswith(b"write fault") else str(ran))
         check_without_pillow(top, Path(folder), tally)

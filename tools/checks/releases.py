@@ -78,8 +78,9 @@ def check_refusals(copy, log, passed, folder, tally):
         tally.tell(f"a release {name}", None if is_so else f"it is not refused so: {ran}")
 
     refused("with no log", "No such file")
-    for name, text in (("with a log that breaks off", "rt ci\n"), ("with another commit's log", passed.replace(" on ", " on 0")),
-                       ("with a log of changes", passed.rstrip() + ",  M README.md\n"), ("with an empty log", "")):
+    for name, text in (("with a log that breaks off", "rt ci\n"), ("with an empty log", ""),
+                       ("with another commit's log", passed.replace(" on ", " on 0")),
+                       ("with a log of changes", passed.rstrip() + ",  M README.md\n")):
         log.write_text(text)
         refused(name, "gate")
     log.write_text(passed)
@@ -98,7 +99,8 @@ def check_unpacked(top, archive, folder, commit, tally):
     with tarfile.open(archive) as tar:
         tar.extractall(folder, filter="fully_trusted") if hasattr(tarfile, "data_filter") else tar.extractall(folder)
     (there,) = folder.iterdir()
-    tally.tell("the name of the release", None if archive.name == f"{there.name}.tar.gz" else f"{archive.name} has {there.name}")
+    is_so = archive.name == f"{there.name}.tar.gz"
+    tally.tell("the name of the release", None if is_so else f"{archive.name} has {there.name}")
     path = folder / "path"
     path.mkdir()
     for name in COMMANDS:
@@ -106,7 +108,8 @@ def check_unpacked(top, archive, folder, commit, tally):
             (path / name).symlink_to(shutil.which(name))
 
     def run(words, stdin, wanted, name):
-        ran = subprocess.run(["./zorvleid", *words], input=stdin, cwd=there, capture_output=True, check=False, env={"PATH": str(path)})
+        ran = subprocess.run(["./zorvleid", *words], input=stdin, cwd=there, capture_output=True, check=False,
+                             env={"PATH": str(path)})
         fault = None if (ran.returncode, ran.stderr) == (0, b"") and wanted in (None, ran.stdout) else str(ran)
         tally.tell(f"the release, {name}", fault)
 
@@ -115,7 +118,8 @@ def check_unpacked(top, archive, folder, commit, tally):
         run(["run"], script, output, f"run of {name}")
     run(["timeline", "--page", "page.html", "--trace", "trace.json"], output, b"", "timeline")
     run(["explain"], script + b"journal\n" + output, None, "explain")
-    sums = subprocess.run(["sha256sum", "--check", "--quiet", "SHA256SUMS"], cwd=there, capture_output=True, text=True, check=False)
+    checker = ["sha256sum", "--check", "--quiet", "SHA256SUMS"]
+    sums = subprocess.run(checker, cwd=there, capture_output=True, text=True, check=False)
     tally.tell("the release, its sums", sums.stderr.strip() or sums.stdout.strip() or None)
     facts = (there / "RELEASE").read_text()
     named = all(word in facts for word in (commit, "a toolchain", f"the gate passed on {commit}"))

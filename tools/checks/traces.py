@@ -36,7 +36,7 @@ def fault_of_text(text):
 def fault_of(trace, text):
     """What is wrong with the trace of an output, or None."""
     events = json.loads(trace)["traceEvents"]
-    journal = [line.split(" ") for line in text.split("\n") if line.startswith(("order ", "step ", "finish ", "lost ", "close "))]
+    journal = [line.split(" ") for line in text.split("\n") if line.startswith(outputs.EVENTS)]
     got = {}
     for event in events:
         got.setdefault(event.get("cat"), []).append(event.get("ts"))
