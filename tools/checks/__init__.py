@@ -28,20 +28,27 @@ def check(top, program, tally, parts=PARTS):
         importlib.import_module(f"checks.{part}").check(top, program, tally)
 
 
-def failures(copy, part):
-    """What a part tells of a copy of the repository, by the copy's own check; nothing where all is well."""
+def told(copy, part):
+    """The status and the text of a part on a copy of the repository, by the copy's own check."""
     ran = subprocess.run([copy / "tools/check", "--only", part], capture_output=True, text=True, check=False)
-    return None if ran.returncode == 0 else ran.stdout + ran.stderr
+    return ran.returncode, ran.stdout + ran.stderr
 
 
 def selftest(copy, tally):
     """Shows on an unchanged copy, which has a program, that the parts find the faults that are planted into it."""
+    skipped = set()
     for part in sorted({planted[0] for planted in PLANTED}):
-        tally.tell(f"the unchanged copy, {part}", failures(copy, part))
+        status, text = told(copy, part)
+        tally.tell(f"the unchanged copy, {part}", text if status else None)
+        if text.endswith("\n0 passed, 0 failed\n"):
+            skipped.add(part)
     for part, name, old, new in PLANTED:
+        if part in skipped:
+            tally.skip(f"a fault for {part}", "this part is skipped")
+            continue
         path = copy / name
         kept = path.read_text(encoding="utf-8")
         assert old in kept, f"{name} has no {old!r}"
         path.write_text(kept.replace(old, new, 1), encoding="utf-8")
-        tally.tell(f"{old!r} as {new!r} in {name}", None if failures(copy, part) else "it was not found")
+        tally.tell(f"{old!r} as {new!r} in {name}", None if told(copy, part)[0] else "it was not found")
         path.write_text(kept, encoding="utf-8")

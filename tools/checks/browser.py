@@ -1,6 +1,7 @@
 """A Chromium without a window, driven through its debugging pipe with nothing but the standard library."""
 
 import base64
+import fcntl
 import json
 import os
 import select
@@ -11,6 +12,7 @@ import time
 
 NAMES = ("chromium", "chromium-browser", "google-chrome")
 SECONDS = 60
+HIGH = 10  # the least number of a pipe that is out of the way
 
 
 class BrowserFault(Exception):
@@ -22,23 +24,28 @@ def program():
     return next(filter(None, map(shutil.which, NAMES)), None)
 
 
+def put_pipes(asked, told):
+    """Puts the pipes where the browser looks for them: it reads 3, and writes 4."""
+    os.dup2(asked, 3)
+    os.dup2(told, 4)
+
+
 class Browser:
     """One browser with one page. What went wrong on its console is kept in `errors`."""
 
     def __init__(self):
-        self.errors, self.events, self.left, self.last = [], [], b"", 0
+        self.errors, self.events, self.left, self.last, self.session = [], [], b"", 0, None
         self.folder = tempfile.TemporaryDirectory(ignore_cleanup_errors=True)
-        commands, self.answers, self.session = None, None, None
-        theirs, self.commands = os.pipe()
-        self.answers, commands = os.pipe()
+        asked, self.commands = os.pipe()
+        self.answers, told = os.pipe()
+        ends = [fcntl.fcntl(end, fcntl.F_DUPFD_CLOEXEC, HIGH) for end in (asked, told)]
         words = [program(), "--headless=new", "--no-sandbox", "--disable-gpu", "--disable-dev-shm-usage", "--no-first-run",
                  "--disable-background-networking", "--disable-component-update", "--disable-extensions", "--hide-scrollbars",
                  f"--user-data-dir={self.folder.name}", "--remote-debugging-pipe", "about:blank"]
-        starter = ["sh", "-c", f'exec "$@" 3<&{theirs} 4>&{commands}', "sh", *words]
-        self.process = subprocess.Popen(starter, pass_fds=(theirs, commands), stdin=subprocess.DEVNULL,
-                                        stdout=subprocess.DEVNULL, stderr=subprocess.DEVNULL)
-        os.close(theirs)
-        os.close(commands)
+        self.process = subprocess.Popen(words, close_fds=False, stdin=subprocess.DEVNULL, stdout=subprocess.DEVNULL,
+                                        stderr=subprocess.DEVNULL, preexec_fn=lambda: put_pipes(*ends))
+        for end in (asked, told, *ends):
+            os.close(end)
         self.begin()
 
     def begin(self):

@@ -1,5 +1,6 @@
 """The outputs that the checks of the tools go through: those of all cases, and what a plain second reading says of them."""
 
+import functools
 import re
 import subprocess
 
@@ -10,13 +11,19 @@ SUM = ".stdout.sum"
 PYTHONS = ("python3", "/usr/bin/python3")
 
 
-def outputs_of_cases(top):
+@functools.cache
+def large_output(name):
+    return large.MAKERS[name]()[1]
+
+
+def outputs_of_cases(top, with_large=True):
     """The name and the output of each case of `run` or `verify` that has one, as text; large ones are made."""
     for folder in ("examples", "tests/cases"):
         for path in sorted((top / folder).rglob("*.stdout*")):
             name = path.relative_to(top)
             if path.name.endswith(SUM):
-                yield name, large.MAKERS[path.name.removesuffix(SUM)]()[1]
+                if with_large:
+                    yield name, large_output(path.name.removesuffix(SUM))
             elif path.suffix == ".stdout" and is_output(path):
                 yield name, path.read_text(encoding="ascii")
 
