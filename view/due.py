@@ -182,7 +182,8 @@ def left_of(number, stand, standing):
         return
     if stand.open:
         first = stand.open[0][0]
-        yield f"to finish {'number' if len(stand.open) == 1 else 'numbers'} {', '.join(str(order) for order, _ in stand.open)}"
+        numbers = [order for order, _ in stand.open]
+        yield f"to finish {'number' if len(numbers) == 1 else 'numbers'} {joined(numbers)}"
         for wait in standing.waits_of(number, first):
             yield f"number {first} waits for stream {wait.target} to come to release {wait.release}"
         if not standing.waits_of(number, first):
