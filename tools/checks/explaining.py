@@ -71,9 +71,16 @@ def meaning(data, program):
     return ran.returncode, said, list(explain.meaning(ran.returncode, said, data))
 
 
+def input_of(path):
+    """The input of a case, which is made where it is too large to be stored."""
+    import large
+
+    return path.read_bytes() if path.exists() else large.MAKERS[path.stem]()[0].encode()
+
+
 def fault_of_case(path, found, ruling, program):
     """What is wrong with what is said of a case of `verify`, or None."""
-    data = path.read_bytes()
+    data = input_of(path)
     status, said, lines = meaning(data, program)
     if said != found[0]:
         return f"verify says {said!r}"
@@ -93,7 +100,7 @@ def fault_of_case(path, found, ruling, program):
 
 def fault_of_call(top, program, script):
     """The command has the status of `verify`, its line on standard error, and its own lines on standard output."""
-    data = script.read_bytes()
+    data = input_of(script)
     ran = subprocess.run([top / "zorvleid", "explain", "--program", program], input=data, capture_output=True, check=False)
     status, said, lines = meaning(data, program)
     wanted = (status, said + "\n", "".join(line + "\n" for line in lines))
