@@ -21,16 +21,18 @@ def outputs_of_cases(top, with_large=True):
     for folder in ("examples", "tests/cases"):
         for path in sorted((top / folder).rglob("*.stdout*")):
             name = path.relative_to(top)
+            case = path.name.removesuffix(SUM).removesuffix(".stdout")
+            if not is_output(path.with_name(case + ".words")):
+                continue
             if path.name.endswith(SUM):
                 if with_large:
-                    yield name, large_output(path.name.removesuffix(SUM))
-            elif path.suffix == ".stdout" and is_output(path):
+                    yield name, large_output(case)
+            elif path.suffix == ".stdout":
                 yield name, path.read_text(encoding="ascii")
 
 
-def is_output(path):
-    """Whether it is the words of a case that write an output; `check`, `generate` and `trial` do not."""
-    words = path.with_suffix(".words")
+def is_output(words):
+    """Whether the words of a case write an output; those of `check`, `generate` and `trial` do not."""
     return not words.exists() or words.read_text().split()[0] in ("run", "verify")
 
 
