@@ -24,7 +24,8 @@ heads p = journal_head ∷ map (λ s. name_text s (plan_of p s).name) (streams_o
 -- an image that is there: its own line, and the line of each of its rows
 abbrev pub image_lines : ℕ → Option Picture → List (List ℕ)
 image_lines image None = []
-image_lines image (Some picture) = head_text image picture.width picture.height ∷ map (λ y. row_text (row_of picture y)) (range_with_len 0 picture.height)
+image_lines image (Some picture) =
+    head_text image picture.width picture.height ∷ map (λ y. row_text (row_of picture y)) (range_with_len 0 picture.height)
 
 -- the line of each stream
 abbrev pub streams : PlansData → List Event → List (List ℕ)

@@ -23,8 +23,8 @@ pub record IsPut (written : Option (List ℕ)) (gathered : List ℕ) (written_th
   pub appended : Appends written written_then given
 
 -- a text was put behind what was gathered; after a fault a front of what was gathered and of the text was written
-pub record Puts {K T E : Type 0} (written : K → Option (List ℕ)) (faults : K → ℕ) (old : K) (gathered : List ℕ) (new : K)
-    (gathered_then : List ℕ) (result : Result T E) (text : List ℕ) : Type 0 where
+pub record Puts {K T E : Type 0} (written : K → Option (List ℕ)) (faults : K → ℕ) (old : K) (gathered : List ℕ)
+    (new : K) (gathered_then : List ℕ) (result : Result T E) (text : List ℕ) : Type 0 where
   pub all : OnOk result (IsPut (written old) gathered (written new) gathered_then text)
   pub front : OnErr result (AppendsFront (written old) (written new) (gathered ++ text))
   pub fault : OnErr result (HasRisen (faults old) (faults new))

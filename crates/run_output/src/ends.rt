@@ -12,7 +12,8 @@ use std::alloc::Global;
 #[tactic(auto)]
 fn set_end(ends: &mut [End], stream: u32, end: End)
     ensures len { length ends.new ≡ length ends.old }
-    ensures each { (k : ℕ) → k < length ends.old → slice_index_or ends.new k Done ≡ (if stream == k + 1 then end else slice_index_or ends.old k Done) }
+    ensures each { (k : ℕ) → k < length ends.old
+        → slice_index_or ends.new k Done ≡ (if stream == k + 1 then end else slice_index_or ends.old k Done) }
 {
     let place = stream as usize;
     if place == 0 || place > ends.len() {
@@ -24,7 +25,8 @@ fn set_end(ends: &mut [End], stream: u32, end: End)
 // Writes down how an event ends its stream, where it does.
 fn note(ends: &mut [End], event: &Event)
     ensures len { length ends.new ≡ length ends.old }
-    ensures each { (k : ℕ) → k < length ends.old → slice_index_or ends.new k Done ≡ end_after event.now (k + 1) (slice_index_or ends.old k Done) }
+    ensures each { (k : ℕ) → k < length ends.old
+        → slice_index_or ends.new k Done ≡ end_after event.now (k + 1) (slice_index_or ends.old k Done) }
 {
     match event {
         Event::Lost { stream, why, .. } => set_end(ends, *stream, End::Lost(*why)),

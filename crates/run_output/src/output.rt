@@ -140,7 +140,7 @@ fn put_world<K: Sink>(page: &mut Page, sink: &mut K, report: &Report) -> Result<
     requires { All HasRoom (reverse report.now.past) }
     ensures { Puts K.written K.faults sink.old page.old.gathered sink.new page.new.gathered result
         (head_lines report.now.plans ++ journal_text (reverse report.now.past)
-            ++ picture_text (replay report.now.plans report.now.past)) }
+        ++ picture_text (replay report.now.plans report.now.past)) }
 {
     put_past(page, sink, report)?;
     put_picture(page, sink, report)
@@ -157,7 +157,8 @@ fn put_state<K: Sink>(
     requires ends { ends.now ≡ map (end_of report.now.past) (streams_of report.now.plans) }
     ensures { Puts K.written K.faults sink.old page.old.gathered sink.new page.new.gathered result
         (head_lines report.now.plans ++ journal_text (reverse report.now.past)
-            ++ picture_text (replay report.now.plans report.now.past) ++ stream_lines report.now.plans report.now.past) }
+        ++ picture_text (replay report.now.plans report.now.past)
+        ++ stream_lines report.now.plans report.now.past) }
 {
     put_world(page, sink, report)?;
     put_streams(page, sink, report, ends)

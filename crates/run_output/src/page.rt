@@ -88,8 +88,8 @@ impl Model for Page {
 }
 
 impl Page {
-    /// A page without lines, which is given to a sink whenever it has 64 KiB or more. It has room for these, and for one
-    /// longest line behind them.
+    /// A page without lines, which is given to a sink whenever it has 64 KiB or more. It has room for these, and for
+    /// one longest line behind them.
     pub(crate) fn make(alloc: Global) -> Result<Page, Memory>
         ensures { IfOk result (λ page. page ≡ blank_page) }
     {

@@ -18,7 +18,8 @@ with_both command _ _ = None
 abbrev pub of_one : List ℕ → Option Command
 of_one name =
     if bytes_eq name (codes "run") then Some Run
-    else (if bytes_eq name (codes "check") then Some Check else (if bytes_eq name (codes "verify") then Some Verify else None))
+    else (if bytes_eq name (codes "check") then Some Check
+    else (if bytes_eq name (codes "verify") then Some Verify else None))
 
 -- two words: `run --workers=0`
 abbrev pub of_two : List ℕ → List ℕ → Option Command
@@ -33,7 +34,8 @@ abbrev pub of_three : List ℕ → List ℕ → List ℕ → Option Command
 of_three name first second =
     if bytes_eq name (codes "run") then of_workers first second
     else (if bytes_eq name (codes "generate") then with_both Generate (sized (decimal_of first)) (decimal_of second)
-    else (if bytes_eq name (codes "trial") then with_both Trial (sized (decimal_of first)) (decimal_of second) else None))
+    else (if bytes_eq name (codes "trial") then with_both Trial (sized (decimal_of first)) (decimal_of second)
+    else None))
 
 -- the command that some words are, where they are one
 abbrev pub command_of : List (List ℕ) → Option Command

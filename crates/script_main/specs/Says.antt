@@ -38,7 +38,8 @@ IsYesText input text =
 -- a command that ends so writes this text of an input, where a script is run by a rule, with its marks over a base
 abbrev pub Writes : RunRule → Command → ℕ → List ℕ → Status → List ℕ → Type 0
 Writes Ran Run base input ending text = (p : PlansData) × (script_of input ≡ Ok p) × IsOutput Ran p base ending text
-Writes Ran Check base input ending text = (p : PlansData) × (script_of input ≡ Ok p) × (ending ≡ status.Ok) × (text ≡ check_text p)
+Writes Ran Check base input ending text =
+    (p : PlansData) × (script_of input ≡ Ok p) × (ending ≡ status.Ok) × (text ≡ check_text p)
 Writes Ran (Generate size seed) base input ending text = (ending ≡ status.Ok) × (text ≡ generated size seed)
 Writes Ran (Trial size seed) base input ending text = (ending ≡ status.Ok) × IsTrial size seed text
 Writes Ran Verify base input ending text = (ending ≡ status.Ok) × IsYesText input text

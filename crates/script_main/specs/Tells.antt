@@ -16,8 +16,8 @@ Takes true left left_then input = ReadsAll left left_then input × (length input
 Takes false left left_then input = input ≡ []
 
 -- the words are a command, its input was taken from the source, and it says this of it
-pub record Tells (Ran : RunRule) (words : Option Command) (base : ℕ) (left left_then : Option (List ℕ)) (ending : Status)
-    (text : List ℕ) : Type 0 where
+pub record Tells (Ran : RunRule) (words : Option Command) (base : ℕ) (left left_then : Option (List ℕ))
+    (ending : Status) (text : List ℕ) : Type 0 where
   pub command : Command
   pub asked : words ≡ Some command
   pub input : List ℕ
@@ -25,8 +25,8 @@ pub record Tells (Ran : RunRule) (words : Option Command) (base : ℕ) (left lef
   pub said : Says Ran command base input ending text
 
 -- a text that is told was written
-pub record HasTold (Ran : RunRule) (words : Option Command) (base : ℕ) (left left_then : Option (List ℕ)) (ending : Status)
-    (written written_then : Option (List ℕ)) : Type 0 where
+pub record HasTold (Ran : RunRule) (words : Option Command) (base : ℕ) (left left_then : Option (List ℕ))
+    (ending : Status) (written written_then : Option (List ℕ)) : Type 0 where
   pub text : List ℕ
   pub told : Tells Ran words base left left_then ending text
   pub appended : Appends written written_then text
@@ -45,7 +45,8 @@ abbrev pub held : Bool → Option (List ℕ) → Option (List ℕ)
 held true left = left
 held false left = Some []
 
--- what a command may answer to an input where no fault rises: what it says, that the input is too long, or want of memory
+-- what a command may answer to an input where no fault rises: what it says, that the input is too long, or want of
+-- memory
 abbrev pub IsAnswer : RunRule → Command → ℕ → List ℕ → Status → Type 0
 IsAnswer Ran command base input ending =
     ((length input ≤ most_bytes) × (text : List ℕ) × Says Ran command base input ending text)

@@ -18,9 +18,9 @@ use wait_hooks::Hook;
 
 /// The program on one thread: it does what its words ask for.
 ///
-/// `run` reads a script, runs it by the rule for one thread, and writes the output; `check` writes how much a script has;
-/// `generate` writes a script, and `trial` one line of what comes of such a script; `verify` judges a journal; every other
-/// list of words is refused. It takes no Wait, and always returns.
+/// `run` reads a script, runs it by the rule for one thread, and writes the output; `check` writes how much a script
+/// has; `generate` writes a script, and `trial` one line of what comes of such a script; `verify` judges a journal;
+/// every other list of words is refused. It takes no Wait, and always returns.
 #[tactic(auto, using(crate::proofs::Endings::said_speaks))]
 pub fn plain_top<S: Source, K: Sink, H: Hook>(
     alloc: Global,
@@ -30,7 +30,8 @@ pub fn plain_top<S: Source, K: Sink, H: Hook>(
     hook: H,
 ) -> Status
     ensures usage { (result ≡ Status.Usage) ↔ (command_of (map string_bytes words.now) ≡ None) }
-    ensures unread { reads (command_of (map string_bytes words.now)) ≡ false → source.new ≡ source.old }
+    ensures unread { reads (command_of (map string_bytes words.now)) ≡ false
+        → source.new ≡ source.old }
 
     // What is answered of the input, and all that was written.
     ensures said { speaks result ≡ true
@@ -46,18 +47,23 @@ pub fn plain_top<S: Source, K: Sink, H: Hook>(
     // Every other answer leaves the sink alone.
     ensures nothing { writes result ≡ false → result ≢ Status.WriteFault → sink.new ≡ sink.old }
 
-    // Only a command that reads may find that its input is too long, or that a read fails; the fault came before a byte past
-    // the limit.
-    ensures too_long { result ≡ Status.TooLong → ReadsMoreThan most_bytes (S.left source.old) (S.left source.new) }
-    ensures read_fault { result ≡ Status.ReadFault → HasRisen (S.faults source.old) (S.faults source.new) }
-    ensures early { result ≡ Status.ReadFault → ReadsAtMost most_bytes (S.left source.old) (S.left source.new) }
+    // Only a command that reads may find that its input is too long, or that a read fails; the fault came before a byte
+    // past the limit.
+    ensures too_long { result ≡ Status.TooLong
+        → ReadsMoreThan most_bytes (S.left source.old) (S.left source.new) }
+    ensures read_fault { result ≡ Status.ReadFault
+        → HasRisen (S.faults source.old) (S.faults source.new) }
+    ensures early { result ≡ Status.ReadFault
+        → ReadsAtMost most_bytes (S.left source.old) (S.left source.new) }
     ensures only { (result ≡ Status.TooLong) ⊎ (result ≡ Status.ReadFault)
         → reads (command_of (map string_bytes words.now)) ≡ true }
 
     // Where the input is told and no fault rises, the answer is the one that the input has, but for want of memory.
-    ensures complete { (command : Command) → (input : List ℕ) → command_of (map string_bytes words.now) ≡ Some command
+    ensures complete { (command : Command) → (input : List ℕ)
+        → command_of (map string_bytes words.now) ≡ Some command
         → held (reads (Some command)) (S.left source.old) ≡ Some input
-        → ¬ HasRisen (S.faults source.old) (S.faults source.new) → ¬ HasRisen (K.faults sink.old) (K.faults sink.new)
+        → ¬ HasRisen (S.faults source.old) (S.faults source.new)
+        → ¬ HasRisen (K.faults sink.old) (K.faults sink.new)
         → IsAnswer IsSerialRun command (H.base hook) input result }
 {
     let Some(command) = command_of(words) else {

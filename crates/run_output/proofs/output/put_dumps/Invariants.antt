@@ -9,4 +9,4 @@ use Rattle.run_output.proofs.output.put_dumps.Given as goal
 abbrev pub invariant-loop-index : goal.invariant-loop-index
 invariant-loop-index g l =
     Puts {T = Unit {0}} {E = Failed} g.K.Sink.written g.K.Sink.faults l.fn.sink l.fn.page.gathered l.sink l.page.gathered (Ok tt)
-        (concat (take l.index (dump_texts 1 l.dumps)))
+    (concat (take l.index (dump_texts 1 l.dumps)))

@@ -9,4 +9,4 @@ use Rattle.run_output.proofs.output.put_images.Given as goal
 abbrev pub invariant-loop-image : goal.invariant-loop-image
 invariant-loop-image g l =
     Puts {T = Unit {0}} {E = Failed} g.K.Sink.written g.K.Sink.faults l.fn.sink l.fn.page.gathered l.sink l.page.gathered (Ok tt)
-        (concat (take (length l.yielded) (map image_text l.images)))
+    (concat (take (length l.yielded) (map image_text l.images)))
