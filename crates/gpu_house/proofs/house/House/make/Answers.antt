@@ -1,4 +1,4 @@
-use Rattle.std.proofs.Common.{◌≡◌, ℕ, [], ◌∙◌, ap, subst, length, replicate}
+use Rattle.std.proofs.Common.{◌≡◌, [], ◌∙◌, ap, subst, length, replicate}
 use Rattle.gpu_plan.specs.Plans.{PlansData}
 use Rattle.wait_hooks.specs.Marks.{Marks}
 use Rattle.house_core.specs.Desks.{at_home}
