@@ -11,3 +11,4 @@ pub mod Lengths
 pub mod Sums
 pub mod Texts
 pub mod Losses
+mod Applied

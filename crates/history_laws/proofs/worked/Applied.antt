@@ -13,7 +13,8 @@ use Rattle.gpu_plan.specs.declared.plan.Action.TheVariants as actions
 use Rattle.gpu_plan.specs.Plans.{PlansData, plan_of}
 use Rattle.gpu_plan.specs.Passes.{flushes, passes, bound}
 use Rattle.gpu_plan.specs.MayHold.{MayHold}
-use Rattle.gpu_plan.specs.Laws.{PassesOn, BoundIsFirst, MayHoldBehindFlush}
+use Rattle.gpu_plan.specs.Laws.{NamesAreLawful, PassesOn, BoundIsFirst, MayHoldBehindFlush}
+use Rattle.gpu_plan.specs.Named.{names_in, AreNumbered, AreLawfulNames}
 use Rattle.gpu_plan.specs.Script.{script_of}
 use Rattle.stream_state.specs.State.{State, IsBounded, result_of}
 use Rattle.stream_state.specs.Steps.{Step, writes, stepped, stream_of}
@@ -174,6 +175,10 @@ no_memory law p s h lawful ends =
 -- what holds of each text that is a script
 of_script : (P : PlansData → Type 0) (r : Result PlansData (ℕ × Kind)) (p : PlansData) → IfOk r P → r ≡ Ok p → P p
 of_script P r p holds is = subst (λ (r : Result PlansData (ℕ × Kind)). IfOk r P) is holds
+
+-- in version 1 its streams are numbered
+numbered_streams : NamesAreLawful → (text : List ℕ) (p : PlansData) → script_of text ≡ Ok p → p.version ≡ 1 → AreNumbered (names_in p.plans)
+numbered_streams law text p is one = (of_script (λ p. AreLawfulNames p.version (names_in p.plans)) (script_of text) p (law text) is).numbered one
 
 -- a script has at most 16 streams
 few_streams : ScriptsAreLawful → (text : List ℕ) (p : PlansData) → script_of text ≡ Ok p → length p.plans ≤ 16
