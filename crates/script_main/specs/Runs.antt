@@ -11,7 +11,7 @@ use Rattle.gpu_journal.specs.declared.event.Why.TheVariants.{Error, Memory}
 use Rattle.gpu_journal.specs.Legal.{IsLegal}
 use Rattle.gpu_journal.specs.Complete.{IsComplete}
 use Rattle.gpu_journal.specs.Output.{output}
-use Rattle.gpu_journal.specs.Dumps.{dump_lines}
+use Rattle.gpu_journal.specs.Dumps.{dump_lines, AreDumpLines}
 use Rattle.gpu_journal.specs.Serial.{serial}
 use Rattle.serial_laws.specs.Going.{wants_memory}
 use Rattle.generated_scripts.specs.Trials.{trial_text}
@@ -26,11 +26,13 @@ RunRule = PlansData → List Event → List ℕ → Type 0
 abbrev pub IsSerialRun : PlansData → List Event → List ℕ → Type 0
 IsSerialRun p h dumps = (h ≡ serial p) × All (λ event. wants_memory event ≡ false) h × (dumps ≡ dump_lines p h)
 
--- these plans were run to this history and these lines of dumps: by the rule, and the history is legal and complete
+-- these plans were run to this history and these lines of dumps: by the rule, the history is legal and complete, and each
+-- dump may be told: it is of a prefix that has as many finishes of its stream as flushes stand before it, or more
 pub record IsRun (Ran : RunRule) (p : PlansData) (history : List Event) (dumps : List ℕ) : Type 0 where
   pub ran : Ran p history dumps
   pub legal : IsLegal p history
   pub complete : IsComplete p history
+  pub dumped : AreDumpLines p history dumps
 
 -- the event is a loss by an error
 abbrev pub is_error_loss : Event → Bool

@@ -15,6 +15,7 @@ use generated_scripts::{generated_plans, trial_text};
 use gpu_plan::{Plans, ScriptFault, parse};
 use gpu_run::run_one;
 use gpu_word::Memory;
+use history_laws::dumps_may_be_told;
 use itoa::Buffer;
 use run_output::{PictureOutput, RunOutput};
 use script_generator::generate;
@@ -31,6 +32,7 @@ fn run_plans<H: Hook>(alloc: Global, plans: Plans, hook: H) -> Result<RunOutput,
 {
     plans_are_lawful(&plans);
     serial_history_is_legal_and_complete();
+    dumps_may_be_told();
     let (report, dumps) = run_one(alloc, plans, hook)?;
     RunOutput::make(alloc, report, dumps)
 }
@@ -76,6 +78,7 @@ fn trial_line<H: Hook>(alloc: Global, size: u32, seed: u32, hook: H) -> Result<V
     let plans = generated_plans(alloc, size, seed)?;
     plans_are_lawful(&plans);
     serial_history_is_legal_and_complete();
+    dumps_may_be_told();
     let (report, _) = run_one(alloc, plans, hook)?;
     trial_text(
         alloc,
