@@ -54,6 +54,14 @@ def script_too_long():
     return longest_script()[0] + "#", ""
 
 
+THOUSAND_PUTS = "put 3096" + " 1" * 1000 + "\n"
+
+
+def line_past_the_actions():
+    """A line of a thousand actions, the last of which is one too many."""
+    return HEAD + "stream 1 low 4096\n" + THOUSAND_PUTS * 999 + "token 1\n" + THOUSAND_PUTS, ""
+
+
 def generated_200_1():
     script = model.generate(200, 1)
     return script, model.answer(["run"], script.encode())[1]
@@ -66,7 +74,8 @@ def verify_generated_200_1():
     return script + "journal\n" + output, f"yes events {read.event_count}\n" + outputs.picture_text(data, read).decode()
 
 
-MAKERS = {maker.__name__: maker for maker in (largest_images, quota, longest_script, script_too_long, generated_200_1,
+MAKERS = {maker.__name__: maker for maker in (largest_images, quota, longest_script, script_too_long,
+                                              line_past_the_actions, generated_200_1,
                                               verify_generated_200_1)} | limits.MAKERS
 
 
