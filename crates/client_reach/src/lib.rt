@@ -6,6 +6,3 @@ mod held;
 mod reach;
 
 pub use client::Client;
-
-#[cfg(test)]
-mod tests;

@@ -10,6 +10,3 @@ mod table;
 
 pub use halves::{Half, agree, make, set};
 pub use table::Book;
-
-#[cfg(test)]
-mod tests;

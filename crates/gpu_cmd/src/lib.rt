@@ -26,6 +26,3 @@ pub use name::Name;
 pub use priority::Priority;
 pub use shape::{Shape, head};
 pub use table::command_of;
-
-#[cfg(test)]
-mod tests;

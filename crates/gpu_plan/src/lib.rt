@@ -19,10 +19,3 @@ pub use places::flush_places;
 pub use plan::{Action, Fences, Plan, Plans};
 pub use script::parse;
 pub use script_lines::{Kind, ScriptFault};
-
-#[cfg(test)]
-mod limit_tests;
-#[cfg(test)]
-mod naming_tests;
-#[cfg(test)]
-mod tests;

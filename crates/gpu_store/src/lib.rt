@@ -16,6 +16,3 @@ pub use numbers::Numbers;
 pub use op::{Answer, Op};
 pub use rect::Rect;
 pub use texels::Texels;
-
-#[cfg(test)]
-mod tests;

@@ -14,6 +14,3 @@ pub use header::{Header, join, split};
 pub use laws::header_round_trip;
 pub use memory::Memory;
 pub use values::{copy_values, values_of};
-
-#[cfg(test)]
-mod tests;

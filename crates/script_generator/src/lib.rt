@@ -6,6 +6,3 @@ mod draws;
 mod script;
 
 pub use script::generate;
-
-#[cfg(test)]
-mod tests;

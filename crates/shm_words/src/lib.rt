@@ -17,6 +17,3 @@ pub use maker::make;
 pub use note::Note;
 pub use service::ServicePass;
 pub use words::SharedWords;
-
-#[cfg(test)]
-mod tests;

@@ -25,6 +25,3 @@ pub use laws::{
 };
 pub use state::StreamState;
 pub use writes::Writes;
-
-#[cfg(test)]
-mod tests;

@@ -2,8 +2,8 @@ ghost use Rattle.std.specs.Prelude.{◌≡◌, ◌<◌, IfOk, IfSome};
 ghost use Rattle.gpu_cmd.specs.Lawful.{places_of};
 ghost use Rattle.shm_words.specs.Seen.{client_at, service_at};
 
-use crate::{Acted, ClientPass, Note, ServicePass, SharedWords, make};
-use gpu_plan::{Plans, parse};
+use gpu_plan::parse;
+use shm_words::{Acted, ClientPass, Note, ServicePass, SharedWords, make};
 use std::alloc::Global;
 use std::process::Abort;
 use std::test::Fail;

@@ -1,0 +1,4 @@
+mod books;
+mod commands;
+mod scripts;
+mod words;
