@@ -28,6 +28,3 @@ pub use line::Line;
 pub use replaying::replay;
 pub use tally::Tally;
 pub use text::{journal_text, mark_text, picture_text, stream_text, tally_text};
-
-#[cfg(test)]
-mod tests;

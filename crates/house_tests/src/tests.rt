@@ -5,3 +5,4 @@ mod output;
 mod plain_client;
 mod racing_words;
 mod stirred_words;
+mod texts;

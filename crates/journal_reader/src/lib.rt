@@ -12,6 +12,3 @@ mod word;
 pub use fault::JournalFault;
 pub use laws::journal_texts_are_told_apart;
 pub use reading::read_journal;
-
-#[cfg(test)]
-mod tests;

@@ -11,8 +11,3 @@ mod laws;
 pub use examining::examine;
 pub use finding::Finding;
 pub use laws::findings_exclude_one_another;
-
-#[cfg(test)]
-mod tests;
-#[cfg(test)]
-mod verdict_tests;
