@@ -13,6 +13,3 @@ pub use fetched::Fetched;
 pub use plain::{PlainNote, PlainPass, PlainWords};
 pub use side::ServiceSide;
 pub use stirred::{StirNote, StirredPass};
-
-#[cfg(test)]
-mod tests;
