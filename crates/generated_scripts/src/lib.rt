@@ -10,6 +10,3 @@ mod plans;
 pub use laws::{generated_is_script, generated_is_short, losses_are_lost_streams};
 pub use line::trial_text;
 pub use plans::generated_plans;
-
-#[cfg(test)]
-mod tests;

@@ -14,6 +14,3 @@ pub use line::{
     Putting, fill_said, none_said, one_said, put_said, stream_said, two_said, value_of,
 };
 pub use names::Names;
-
-#[cfg(test)]
-mod tests;
