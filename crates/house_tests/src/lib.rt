@@ -1,4 +1,4 @@
-//! Tests of the house over words that change while they are fetched, and on commands that are refused.
+//! Tests of the house over words that change while they are fetched, and of texts that no output shows.
 #![tactic(auto)]
 
 #[cfg(test)]

@@ -1,6 +1,0 @@
-use Rattle.std.specs.Prelude.{[], ◌∷◌}
-use Rattle.gpu_fetch.specs.Side.{no_table}
-use Rattle.house_tests.proofs.tests.hostile_commands.driven.Given as goal
-
-abbrev pub ghosts-drive : goal.ghosts-drive
-ghosts-drive a = record { plans = a.plans; base = 0; words = no_table ∷ []; books = a.book.0 ∷ [] }
