@@ -1,5 +1,5 @@
-use gpu_cmd::Name;
-use gpu_plan::{Action, Plans, Priority, parse};
+use gpu_cmd::{Name, Priority};
+use gpu_plan::{Action, Plans, parse};
 use std::alloc::Global;
 use std::test::Fail;
 
