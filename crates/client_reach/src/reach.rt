@@ -1,6 +1,6 @@
 ghost use Rattle.std.specs.Prelude.{◌≡◌, ◌+◌, ◌≤◌, ◌<◌, ℕ, List, [], ◌∷◌, length, Some, slice_get, OnOk, true};
 ghost use Rattle.gpu_plan.specs.declared.plan.Action.{Action};
-ghost use Rattle.gpu_plan.specs.Passes.{passes_behind, bound};
+ghost use Rattle.gpu_plan.specs.Passes.{bound};
 ghost use Rattle.client_reach.specs.Client.{is_since};
 ghost use Rattle.client_reach.specs.Reached.{last_of, IsTakenUp, IsReached};
 
@@ -25,18 +25,6 @@ impl Model for Reach {
     ghost Value = { Reached };
 
     ghost view = { λ reach. record { upto = reach.upto; behind = reach.behind; puts = reach.puts.entries } };
-}
-
-// Whether an action passes behind so many flushes, where so many are finished and this is the greatest token.
-fn passes(action: &Action, behind: u32, finished: u32, token: u32) -> bool
-    ensures { result ≡ passes_behind behind finished (token ∷ []) action.now }
-{
-    match action {
-        Action::Put { .. } | Action::Flush { .. } => true,
-        Action::Finish => behind <= finished,
-        Action::Token { token: wanted } => behind <= finished || *wanted <= token,
-        Action::Close => false,
-    }
 }
 
 impl Reach {
@@ -104,7 +92,7 @@ impl Reach {
     {
         while (self.upto as usize) < actions.len() {
             let action = &actions[self.upto as usize];
-            if !passes(action, self.behind, finished, token) {
+            if !action.passes(self.behind, finished, token) {
                 return Ok(());
             }
             self.take_up(action)?;

@@ -58,6 +58,16 @@ impl Fetched {
         &self.words
     }
 
+    /// The words fetched, which take no memory anew.
+    pub fn into_words(self) -> Vec<(u32, u32)>
+        ensures value { result.items ≡ self.words }
+        ensures copy { IsCopy result.items self.facts self.verdict }
+        ensures more { self.facts.get ≢ self.facts.put }
+    {
+        let Fetched { words, .. } = self;
+        words
+    }
+
     /// The command, or the first check that fails on these words.
     pub fn verdict(&self) -> Result<Command, CmdError>
         ensures value { result ≡ self.now.verdict }

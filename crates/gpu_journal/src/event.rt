@@ -38,6 +38,13 @@ impl Words {
         })
     }
 
+    /// These words, without a copy.
+    pub fn taken(items: Vec<(u32, u32)>) -> Words
+        ensures { result ≡ items.items }
+    {
+        Words { items }
+    }
+
     /// No word.
     pub fn none(alloc: Global) -> Words
         ensures { result ≡ [] }

@@ -5,6 +5,7 @@ mod digits;
 mod end;
 mod event;
 mod event_line;
+mod flush;
 mod journal;
 mod laws;
 mod line;
@@ -19,6 +20,7 @@ mod text;
 pub use digits::spaced_hex;
 pub use end::End;
 pub use event::{Event, Why, Words};
+pub use flush::{fences_at, put_at};
 pub use journal::Journal;
 pub use laws::{
     histories_that_differ_have_different_texts, numbers_that_differ_have_different_digits,

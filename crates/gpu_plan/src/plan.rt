@@ -1,8 +1,9 @@
-ghost use Rattle.std.specs.Prelude.{◌≡◌, ◌-◌, ◌<◌, ◌≤◌, length, slice_get, position, Some, IfSome};
+ghost use Rattle.std.specs.Prelude.{◌≡◌, ◌-◌, ◌<◌, ◌≤◌, [], ◌∷◌, length, slice_get, position, Some, IfSome};
 ghost use Rattle.std.specs.List.{All};
 ghost use Rattle.gpu_cmd.specs.Lawful.{IsLawfulAreas};
 ghost use Rattle.std.specs.Option.{option_map};
 ghost use Rattle.gpu_plan.specs.Plans.{IsLawfulPlan, IsLawfulScript, IsDump, RiseFrom, is_of, number_of};
+ghost use Rattle.gpu_plan.specs.Passes.{passes_behind};
 ghost use Rattle.gpu_plan.specs.Named.{names_in, IsVersion, AreLawfulNames};
 
 use gpu_cmd::{Areas, Name, Priority};
@@ -52,6 +53,20 @@ pub enum Action {
     Token { token: u32 },
     /// Closes the stream.
     Close,
+}
+
+impl Action {
+    /// Whether the action passes behind so many flushes, where so many are finished and this is the greatest token.
+    pub fn passes(&self, behind: u32, finished: u32, greatest: u32) -> bool
+        ensures { result ≡ passes_behind behind finished (greatest ∷ []) self.now }
+    {
+        match self {
+            Action::Put { .. } | Action::Flush { .. } => true,
+            Action::Finish => behind <= finished,
+            Action::Token { token } => behind <= finished || *token <= greatest,
+            Action::Close => false,
+        }
+    }
 }
 
 /// What one stream is called, has and does.
