@@ -7,3 +7,4 @@ pub mod Ending
 pub mod Changes
 pub mod Steps
 pub mod Laws
+pub mod Waiting

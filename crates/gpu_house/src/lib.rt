@@ -11,6 +11,7 @@ mod marking;
 mod meeting;
 mod naming;
 mod orders;
+mod reading;
 mod report;
 mod run;
 mod runs;

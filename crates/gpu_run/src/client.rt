@@ -74,12 +74,8 @@ impl Client {
         ensures { result ≡ passes plan.now.actions self.now.words.done finishes (token ∷ []) }
     {
         match plan.actions().get(self.position as usize) {
+            Some(action) => action.passes(self.flushed, finishes, token),
             None => false,
-            Some(Action::Put { .. }) => true,
-            Some(Action::Flush { .. }) => true,
-            Some(Action::Finish) => self.flushed <= finishes,
-            Some(Action::Token { token: wanted }) => self.flushed <= finishes || *wanted <= token,
-            Some(Action::Close) => false,
         }
     }
 

@@ -40,6 +40,7 @@ use Rattle.house_core.proofs.Meeting.{run_shows}
 use Rattle.house_core.proofs.Taking.{first_positive}
 use Rattle.house_core.proofs.Moving.{moves_further}
 use Rattle.house_core.proofs.Executing.{laid_out}
+use Rattle.house_core.proofs.Walking.{walked_on, greatest_grows}
 
 -- what a step asks neither loses nor closes its stream
 asked_stays : (p : PlansData) (effect : Effect) (n : ℕ) (x : Standing) → ((moved_by (deed_asked p effect) n x).lost ≡ x.lost) × ((moved_by (deed_asked p effect) n x).closed ≡ x.closed)
@@ -72,6 +73,7 @@ fits_step p h s words acted desk was told may =
       greatest = ap (λ (effect : Effect). greatest_after effect desk.greatest) told.effect ∙ ap (greatest_after asked) was.greatest ∙ sym (step_greatest p h s words);
       lost = was.lost ∙ sym (ap (λ (x : Standing). x.lost) own ∙ ends.0);
       closed = was.closed ∙ sym (ap (λ (x : Standing). x.closed) own ∙ ends.1);
+      walked = walked_on (plan_of p s).actions desk.finished desk.finished desk.greatest (greatest_after acted.effect desk.greatest) desk.walk (omega arith) (greatest_grows acted.effect desk.greatest) was.walked;
       runs = λ out. step_goes_on p h s words desk.out.order acted.kept (told.kept ∙ ap (keeps p h s) told.effect) may;
     }
 

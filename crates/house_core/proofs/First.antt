@@ -55,7 +55,7 @@ outs_first (plan ∷ plans) (book ∷ books) same = ap (λ (rest : List Out). at
 fits_first : (p : PlansData) (s : ℕ) (book : TableId) → DeskFits p [] s (fresh_desk book (flush_places (plan_of p s).actions))
 fits_first p s book =
     fits_so p [] s (fresh_desk book (flush_places (plan_of p s).actions)) nothing_known nobody (ap (λ (w : World). w.streams s) (world_none p)) (ap (λ (g : List SyncEvent). standing g s) (sync_none p))
-    (record { state = refl; ordered = refl; finished = refl; greatest = refl; lost = refl; closed = refl }) refl (λ out. absurd (omega arith))
+    (record { state = refl; ordered = refl; finished = refl; greatest = refl; lost = refl; closed = refl }) refl record { below = omega arith; behind = refl } (λ out. absurd (omega arith))
 
 abbrev pub ranks_of : List PlanData → List ℕ
 ranks_of plans = map (λ (plan : PlanData). rank plan.priority) plans

@@ -1,4 +1,5 @@
 mod Rows
+mod Walking
 mod Fits
 mod Again
 mod First

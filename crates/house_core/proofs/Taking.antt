@@ -92,6 +92,7 @@ fits_away p h s n desk was may = record {
   greatest = was.greatest;
   lost = was.lost;
   closed = was.closed;
+  walked = was.walked;
   runs = λ out. may;
 }
 

@@ -5,6 +5,8 @@ use Rattle.gpu_books.specs.Seen.{HalfData, no_book}
 use Rattle.gpu_cmd.specs.declared.areas.Areas.{Areas}
 use Rattle.gpu_cmd.specs.declared.facts.StreamFacts.{StreamFacts}
 use Rattle.stream_state.specs.State.{State, first_state, facts_of}
+use Rattle.house_core.specs.declared.walk.Walk.{Walk}
+use Rattle.house_core.specs.Walks.{start}
 
 -- the order number of a run that is out, or 0 where none is, and whether that run is paused
 pub record Out : Type 0 where
@@ -16,7 +18,7 @@ abbrev pub at_home : Out
 at_home = record { order = 0; paused = false }
 
 -- its book, where its flushes stand, its state, how many of its flushes are ordered and how many are finished, its greatest
--- token, whether it is lost, whether it is closed, and the run that is out
+-- token, whether it is lost, whether it is closed, how far its client was found to come, and the run that is out
 pub record DeskData : Type 0 where
   pub book : TableId
   pub places : List ℕ
@@ -26,11 +28,23 @@ pub record DeskData : Type 0 where
   pub greatest : ℕ
   pub lost : Bool
   pub closed : Bool
+  pub walk : Walk
   pub out : Out
 
 -- of a stream without events
 abbrev pub fresh_desk : TableId → List ℕ → DeskData
-fresh_desk book places = record { book = book; places = places; state = first_state; ordered = 0; finished = 0; greatest = 0; lost = false; closed = false; out = at_home }
+fresh_desk book places = record {
+  book = book;
+  places = places;
+  state = first_state;
+  ordered = 0;
+  finished = 0;
+  greatest = 0;
+  lost = false;
+  closed = false;
+  walk = start;
+  out = at_home;
+}
 
 -- of a stream that no script has
 abbrev pub no_desk : DeskData

@@ -19,6 +19,7 @@ use Rattle.gpu_journal.specs.Serial.{rank}
 use Rattle.serial_laws.specs.Scripts.{AreLawfulPlans}
 use Rattle.run_laws.specs.Going.{MayGoOn}
 use Rattle.run_laws.specs.Needs.{needs}
+use Rattle.house_core.specs.Walks.{HasWalked}
 use Rattle.house_core.specs.Desks.{DeskData, desk_at, book_numbers, kept_half}
 use Rattle.house_core.specs.Core.{CoreData, books_of, outs_of}
 
@@ -42,6 +43,7 @@ pub record DeskFits (p : PlansData) (h : List Event) (s : ℕ) (desk : DeskData)
   pub greatest : desk.greatest ≡ greatest (known p h s).tokens
   pub lost : desk.lost ≡ (standing_of p h s).lost
   pub closed : desk.closed ≡ (standing_of p h s).closed
+  pub walked : HasWalked (plan_of p s).actions desk.finished desk.greatest desk.walk
   pub runs : 0 < desk.out.order → MayGoOn p h s desk.out.order desk.out.paused
 
 -- a half of the book of stream s by the journal: the entries consumed, the words fetched, the flushes finished and the

@@ -1,3 +1,4 @@
+pub mod Walks
 pub mod Desks
 pub mod Core
 pub mod Answers

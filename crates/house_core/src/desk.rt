@@ -1,10 +1,15 @@
-ghost use Rattle.std.specs.Prelude.{◌≡◌, ◌↔◌, ◌==◌, ◌&&◌, ◌+◌, ◌<◌, ◌≤◌, ◌^◌, true, false, length, slice_get, IfSome, IfNone, IsTrue, IfOk, OnOk, OnErr};
+ghost use Rattle.std.specs.Prelude.{◌≡◌, ◌↔◌, ◌==◌, ◌&&◌, ◌+◌, ◌<◌, ◌≤◌, ◌^◌, [], ◌∷◌, true, false, length, slice_get, Some, IfSome, IfNone, IsTrue, IfOk, OnOk, OnErr};
 ghost use Rattle.gpu_books.specs.Seen.{HalfData, blank_half};
+ghost use Rattle.gpu_plan.specs.declared.plan.Action.TheVariants.{Close};
+ghost use Rattle.gpu_plan.specs.Passes.{bound};
+ghost use Rattle.house_core.specs.Walks.{HasWalked};
 ghost use Rattle.house_core.specs.Desks.{DeskData, at_home, fresh_desk, book_numbers, kept_half};
 ghost use Rattle.step_parts.specs.Executing.{IsReady, Executes};
 ghost use Rattle.house_core.specs.Stepping.{stepped_desk};
 
+use crate::walk::Walk;
 use gpu_books::{Book, Half, agree, set};
+use gpu_plan::Action;
 use gpu_word::Memory;
 use std::alloc::Global;
 use std::marker::Model;
@@ -26,6 +31,7 @@ pub struct Desk {
     greatest: u32,
     lost: bool,
     closed: bool,
+    walk: Walk,
     out: u32,
     paused: bool,
 }
@@ -35,9 +41,9 @@ impl Model for Desk {
 
     ghost Value = { DeskData };
 
-    ghost view = { λ d. record { book = d.book; places = d.places.items; state = d.state; ordered = d.ordered; finished = d.finished; greatest = d.greatest; lost = d.lost; closed = d.closed; out = record { order = d.out; paused = d.paused } } };
+    ghost view = { λ d. record { book = d.book; places = d.places.items; state = d.state; ordered = d.ordered; finished = d.finished; greatest = d.greatest; lost = d.lost; closed = d.closed; walk = d.walk; out = record { order = d.out; paused = d.paused } } };
 
-    ghost invariant = { λ d. AreBooked d.kept d.home record { book = d.book; places = d.places.items; state = d.state; ordered = d.ordered; finished = d.finished; greatest = d.greatest; lost = d.lost; closed = d.closed; out = record { order = d.out; paused = d.paused } } };
+    ghost invariant = { λ d. AreBooked d.kept d.home record { book = d.book; places = d.places.items; state = d.state; ordered = d.ordered; finished = d.finished; greatest = d.greatest; lost = d.lost; closed = d.closed; walk = d.walk; out = record { order = d.out; paused = d.paused } } };
 }
 
 // The numbers of a book whose run that is out has this order, or none where it is 0.
@@ -82,6 +88,7 @@ impl Desk {
             greatest: 0,
             lost: false,
             closed: false,
+            walk: Walk::start(),
             out: 0,
             paused: false,
         }
@@ -150,6 +157,20 @@ impl Desk {
     {
         let flushes = self.places.len();
         self.ordered as usize == flushes && self.finished as usize == flushes
+    }
+
+    /// Whether the client comes to its Close, by the finishes and the greatest token. The walk over its actions goes on from where
+    /// it stood.
+    pub(crate) fn comes_to_close(&mut self, actions: &[Action]) -> bool
+        requires few { length actions.now ≤ 1000000 }
+        requires walked { HasWalked actions.now self.old.finished self.old.greatest self.old.walk }
+        ensures desk { self.new ≡ record self.old { walk = self.new.walk } }
+        ensures walked { HasWalked actions.now self.old.finished self.old.greatest self.new.walk }
+        ensures close { IsTrue result
+            ↔ (slice_get actions.now (bound actions.now self.old.finished (self.old.greatest ∷ [])) ≡ Some Close) }
+    {
+        let (finished, greatest) = (self.finished, self.greatest);
+        self.walk.comes_to_close(actions, finished, greatest)
     }
 
     /// The place of the flush of this number among the stream's flushes, counted from 0.

@@ -8,7 +8,6 @@ ghost use Rattle.gpu_journal.specs.Waits.{standing_of, IsOpen};
 ghost use Rattle.gpu_journal.specs.Legal.{Obeys, MayClose};
 ghost use Rattle.house_core.specs.Core.{Stays, Grows};
 
-use crate::closing::comes_to_close;
 use crate::core_of::Core;
 use gpu_journal::{Event, Why, Words};
 
@@ -81,15 +80,21 @@ impl Core {
     }
 
     // Whether the client of a stream has come to its Close, with each flush ordered.
-    fn may_close(&self, stream: u32) -> bool
-        requires known { IsKnown (length self.now.plans.plans) stream }
-        requires closes { is_closed (plan_of self.now.plans stream).actions ≡ true }
-        requires open { is_open (standing_of self.now.plans self.now.past stream) ≡ true }
-        ensures { IsTrue result ↔ MayClose self.now.plans self.now.past stream }
+    fn may_close(&mut self, stream: u32) -> bool
+        requires known { IsKnown (length self.old.plans.plans) stream }
+        requires closes { is_closed (plan_of self.old.plans stream).actions ≡ true }
+        requires open { is_open (standing_of self.old.plans self.old.past stream) ≡ true }
+        ensures core { self.new ≡ self.old }
+        ensures may { IsTrue result ↔ MayClose self.old.plans self.old.past stream }
     {
         let desk = &self.desks[stream as usize - 1];
-        let actions = self.plans.plan(stream).actions();
-        desk.is_all_ordered() && comes_to_close(actions, desk.finished(), desk.greatest())
+        if !desk.is_all_ordered() {
+            return false;
+        }
+        let Core { plans, desks, .. } = self;
+        let actions = plans.plan(stream).actions();
+        let desk = &mut desks[stream as usize - 1];
+        desk.comes_to_close(actions)
     }
 
     /// Closes a stream whose plan has a Close, once its client has come to it. It takes no memory.

@@ -10,6 +10,7 @@ mod making;
 mod orders;
 mod runs;
 mod steps;
+mod walk;
 
 pub use carried::Carried;
 pub use core_of::Core;

@@ -1,27 +1,16 @@
 //! Orders: the next flush of a stream draws the next order number.
-ghost use Rattle.std.specs.Prelude.{◌≡◌, ◌↔◌, ◌+◌, length, slice_get, Some, true, IfOk, OnErr, IsErrOf, IsSome};
+ghost use Rattle.std.specs.Prelude.{◌≡◌, ◌↔◌, ◌+◌, length, slice_get, true, IfOk, OnErr, IsErrOf, IsSome};
 ghost use Rattle.gpu_plan.specs.Plans.{plan_of};
 ghost use Rattle.gpu_plan.specs.Places.{flush_places};
 ghost use Rattle.sync_core.specs.Standing.{IsKnown};
 ghost use Rattle.gpu_journal.specs.World.{known};
-ghost use Rattle.gpu_journal.specs.Waits.{standing_of, drawn, fences_in};
+ghost use Rattle.gpu_journal.specs.Waits.{standing_of, drawn};
 ghost use Rattle.gpu_journal.specs.Serial.{order_event};
 ghost use Rattle.house_core.specs.Core.{Stays, Grows};
 
 use crate::core_of::{Core, take_room};
-use gpu_journal::Event;
-use gpu_plan::Action;
+use gpu_journal::{Event, fences_at};
 use sync_core::OrderFault;
-
-// The fences of a flush; what is no flush has none.
-fn fences_of(action: &Action) -> &[(u32, u64)]
-    ensures { result.now ≡ fences_in (Some action.now) }
-{
-    match action {
-        Action::Flush { fences, .. } => fences.as_slice(),
-        _ => &[],
-    }
-}
 
 impl Core {
     /// The first flush of a stream that has no order draws the next number, and its fences are judged.
@@ -59,7 +48,7 @@ impl Core {
         let Ok(()) = take_room(journal, *owed, 2) else {
             return Err(OrderFault::Memory);
         };
-        let fences = fences_of(&plans.plan(stream).actions()[place as usize]);
+        let fences = fences_at(plans.plan(stream).actions(), place);
         let order = scene.sync.order(stream, fences)?;
         scene.sync.has_room();
         let desk = &mut desks[stream as usize - 1];

@@ -1,10 +1,11 @@
 //! Runs leave the house and come back.
-ghost use Rattle.std.specs.Prelude.{◌≡◌, ◌<◌, ◌≤◌, [], length, true, false, option_map, slice_get, IfSome, IfNone};
+ghost use Rattle.std.specs.Prelude.{◌≡◌, ◌<◌, ◌≤◌, [], length, true, false, option_map, IfSome, IfNone};
 ghost use Rattle.sync_core.specs.Standing.{is_open};
 ghost use Rattle.gpu_journal.specs.declared.event.Event.TheVariants.{Finish, Lost};
 ghost use Rattle.gpu_journal.specs.declared.event.Why.TheVariants.{Memory};
-ghost use Rattle.gpu_journal.specs.Facts.{put_in};
 ghost use Rattle.gpu_journal.specs.Waits.{standing_of};
+ghost use Rattle.gpu_journal.specs.Legal.{IsLegal};
+ghost use Rattle.serial_laws.specs.Scripts.{AreLawfulPlans};
 ghost use Rattle.run_laws.specs.Going.{MayGoOn};
 ghost use Rattle.run_laws.specs.Choosing.{choice_at_home};
 ghost use Rattle.house_core.specs.Desks.{RunData, at_home};
@@ -12,19 +13,7 @@ ghost use Rattle.house_core.specs.Core.{Stays, Grows, Waits, IsOfPlans, IsRunOf,
 
 use crate::carried::Carried;
 use crate::core_of::Core;
-use gpu_journal::Event;
-use gpu_plan::{Action, Plan};
-
-// The put of the flush at a place; what is no flush has none.
-fn put_at(plan: &Plan, place: u32) -> u32
-    requires { place < length plan.now.actions }
-    ensures { result ≡ put_in (slice_get plan.now.actions place) }
-{
-    match &plan.actions()[place as usize] {
-        Action::Flush { put, .. } => *put,
-        _ => 0,
-    }
-}
+use gpu_journal::{Event, put_at};
 
 impl Core {
     /// A run of the stream that the scheduler chooses among those at home, or `None` where none of them can run.
@@ -56,7 +45,7 @@ impl Core {
         let Some(place) = desk.place(desk.finished()) else {
             unreachable!()
         };
-        let put = put_at(plan, place);
+        let put = put_at(plan.actions(), place);
         scheduler.take(stream);
         Some(Carried::take(desk, plan, stream, order, place, put))
     }
@@ -71,6 +60,8 @@ impl Core {
         ensures positive { 0 < run.old.order }
         ensures shows { is_open (standing_of self.old.plans self.old.past run.old.stream) ≡ true → IsRunOf self.old.plans self.old.past run.old }
         ensures runs { MayGoOn self.old.plans self.old.past run.old.stream run.old.order run.old.paused }
+        ensures lawful { AreLawfulPlans self.old.plans }
+        ensures legal { IsLegal self.old.plans self.old.past }
     {
         let desk = &mut self.desks[run.stream() as usize - 1];
         run.meet(desk);

@@ -103,8 +103,9 @@ impl Core {
         if self.is_closed(stream) {
             return Ok(Stepped::Closed);
         }
-        let words = Words::of(self.alloc, fetched.words())?;
-        match self.judge(stream, &fetched) {
+        let judged = self.judge(stream, &fetched);
+        let words = Words::taken(fetched.into_words());
+        match judged {
             Ok(command) => Ok(Stepped::Done(self.enter_step(run, &command, words)?)),
             Err(error) => {
                 self.enter_lost(stream, Why::Error(error), words);

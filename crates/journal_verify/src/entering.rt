@@ -8,19 +8,10 @@ ghost use Rattle.gpu_journal.specs.Waits.{fences_in};
 ghost use Rattle.journal_verify.specs.Entered.{FitsPlans, HasCounted, HasTurned};
 
 use crate::judge::Judge;
-use gpu_plan::{Action, Plans};
+use gpu_journal::fences_at;
+use gpu_plan::Plans;
 use gpu_word::Memory;
 use sync_core::SyncCore;
-
-// The fences of the flush at a place.
-fn fences_at(actions: &[Action], place: u32) -> &[(u32, u64)]
-    ensures { result.now ≡ fences_in (slice_get actions.now place) }
-{
-    match actions.get(place as usize) {
-        Some(Action::Flush { fences, .. }) => fences.as_slice(),
-        _ => &[],
-    }
-}
 
 // Draws a number. A stream that is open is not lost, so nothing but memory can be wanting.
 fn draw(core: &mut SyncCore, s: u32, fences: &[(u32, u64)]) -> Result<(), Memory>

@@ -11,7 +11,8 @@ use crate::copy::copy;
 use crate::outcome::Outcome;
 use crate::watch::Watch;
 use gpu_cmd::{CmdError, Command, StreamFacts};
-use gpu_plan::{Action, Plans};
+use gpu_journal::put_at;
+use gpu_plan::Plans;
 use std::alloc::AllocError;
 use std::marker::Model;
 use step_parts::Scene;
@@ -32,16 +33,6 @@ impl Model for Judge {
     ghost Value = { JudgeData };
 
     ghost view = { λ j. record { drawn = j.drawn; core = j.scene.sync; images = j.scene.images; states = j.states.items; watches = j.watches.items } };
-}
-
-// The put of the flush at a place, or 0 where none is.
-fn put_at(actions: &[Action], place: u32) -> u32
-    ensures { result ≡ put_in (slice_get actions.now place) }
-{
-    match actions.get(place as usize) {
-        Some(Action::Flush { put, .. }) => *put,
-        _ => 0,
-    }
 }
 
 impl Judge {

@@ -1,6 +1,5 @@
-use Rattle.std.proofs.Common.{◌≡◌, ◌<◌, ◌+◌, ℕ, true, Some, List, ◌∷◌, length, refl, ap, sym, subst, ◌∙◌, arith}
+use Rattle.std.proofs.Common.{◌≡◌, ◌+◌, ℕ, true, Some, List, ◌∷◌, refl, ap, sym, subst, ◌∙◌, arith}
 use Rattle.std.specs.Prelude.{slice_get, unwrap_or, Option}
-use Rattle.std.proofs.lemmas.Option.{slice_get_read}
 use Rattle.gpu_plan.specs.declared.plan.Action.{Action}
 use Rattle.gpu_plan.specs.Plans.{PlanData, plan_of}
 use Rattle.gpu_plan.specs.Places.{flush_places}
@@ -14,7 +13,6 @@ use Rattle.gpu_journal.specs.Waits.{sync_of, standing_of, drawn, fences_in}
 use Rattle.gpu_journal.specs.Serial.{order_event}
 use Rattle.gpu_journal.proofs.Worlds.{images_then}
 use Rattle.step_parts.proofs.Plans.{plan_here}
-use Rattle.serial_laws.proofs.Flushes.{flushes_before}
 use Rattle.serial_laws.proofs.Obeying.{order_obeys}
 use Rattle.run_laws.proofs.Needs.{need_order}
 use Rattle.run_laws.proofs.Ended.{next_open}
@@ -27,15 +25,6 @@ use Rattle.house_core.proofs.Again.{Place, seats_stay, goes_on}
 use Rattle.house_core.proofs.Seen.{parts_of, place_seen}
 use Rattle.house_core.proofs.Ordering.{next_placed}
 use Rattle.house_core.proofs.core_of.Core.order.Goals as goal
-
-pub bounds-actions-place : goal.bounds-actions-place
-bounds-actions-place c =
-    let now = parts_of c.self.inside in
-    let s = c.args.stream in
-    let place = place_seen now _ s c.self.view_is c.self.invariant c.requires.known in
-    let next = next_placed now s c.ordered.result c.in-Some.place c.index-desk.result.now _ c.place.result place c.index-desk.ensures c.ordered.ensures c.place.ensures c.in-Some.is in
-    let actions = c.actions.ensures.value ∙ ap (λ (plan : PlanData). plan.actions) (sym (plan_here now.plans s c.plan.result.now c.requires.known.0 c.plan.ensures)) in
-    subst (λ (n : ℕ). c.in-Some.place < n) (ap length (sym actions)) (flushes_before (plan_of now.plans s).actions (known now.plans now.past s).ordered c.in-Some.place next).1
 
 module _ (c : goal.After-push) where
   abbrev now : Parts
@@ -59,12 +48,10 @@ module _ (c : goal.After-push) where
   past : c.push.new.self.events ≡ event ∷ now.past
   past = c.push.ensures.events ∙ ap (λ (n : ℕ). Order s n c.in-Some.place ∷ c.take_room.new.journal.events) number ∙ ap (λ (h : List Event). event ∷ h) c.take_room.ensures.past
 
-  fences : c.fences_of-fences.result.now ≡ fences_in (slice_get (plan_of now.plans s).actions c.in-Some.place)
+  fences : c.fences_at-fences.result.now ≡ fences_in (slice_get (plan_of now.plans s).actions c.in-Some.place)
   fences =
       let actions = c.actions.ensures.value ∙ ap (λ (plan : PlanData). plan.actions) (sym (plan_here now.plans s c.plan.result.now c.requires.known.0 c.plan.ensures)) in
-      let low = subst (λ (n : ℕ). c.in-Some.place < n) (ap length (sym actions)) (flushes_before (plan_of now.plans s).actions (known now.plans now.past s).ordered c.in-Some.place next).1 in
-      let found = slice_get_read c.actions.result.now (length c.actions.result.now) c.in-Some.place c.index-actions-place.result refl low c.index-actions-place.is in
-      c.fences_of-fences.ensures ∙ ap fences_in (sym found) ∙ ap (λ (actions : List Action). fences_in (slice_get actions c.in-Some.place)) actions
+      c.fences_at-fences.ensures ∙ ap (λ (actions : List Action). fences_in (slice_get actions c.in-Some.place)) actions
 
   came : c.order-2.new.self ≡ record (desk_at now.desks s) { ordered = (desk_at now.desks s).ordered + 1 }
   came = c.order-2.ensures ∙ ap (λ (desk : DeskData). record desk { ordered = desk.ordered + 1 }) (c.index_mut-desk.ensures.value ∙ place.there _)

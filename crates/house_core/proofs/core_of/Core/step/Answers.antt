@@ -6,8 +6,7 @@ use Rattle.gpu_journal.specs.declared.event.Event.TheVariants.{Step, Lost}
 use Rattle.gpu_journal.specs.declared.event.Why.TheVariants.{Error}
 use Rattle.gpu_journal.specs.Waits.{standing_of}
 use Rattle.gpu_journal.specs.Facts.{verdict_at}
-use Rattle.gpu_journal.specs.Legal.{Obeys, IsLegal}
-use Rattle.serial_laws.specs.Scripts.{AreLawfulPlans}
+use Rattle.gpu_journal.specs.Legal.{Obeys}
 use Rattle.house_core.specs.Desks.{RunData}
 use Rattle.house_core.specs.Core.{CoreData}
 use Rattle.house_core.proofs.Fetching.{fetched_for, fetched_step_obeys, fetched_error_obeys}
@@ -48,11 +47,10 @@ enter_step-requires-clause-obeys c =
     let core = c.meet.ensures.core in
     let same = c.meet.ensures.run in
     let stream = c.stream-stream.ensures in
-    let view = c.self.view_is ∙ core in
     let open' = open_there v now run met s core same stream c.is_lost.result c.is_closed.result c.is_lost.ensures c.if-is_lost.false c.is_closed.ensures c.if-is_closed.false in
-    let is = fetched_for v.plans v.past run c.args.fetched.facts c.words.result.now words c.requires.plan.known open' c.meet.ensures.shows c.meet.ensures.runs c.requires.going c.requires.facts c.words.ensures.more c.words.ensures.copy.places c.words.ensures.value c.requires.may in
-    step_there v now run met s core same stream c.in_ok-words.words words (c.in_ok-words.ensures ∙ c.words.ensures.value)
-    (fetched_step_obeys v.plans v.past run c.args.fetched.facts words is c.in-Ok.command (subst (λ (w : CoreData). AreLawfulPlans w.plans) view c.self.invariant.lawful) (subst (λ (w : CoreData). IsLegal w.plans w.past) view c.self.invariant.legal)
+    let is = fetched_for v.plans v.past run c.args.fetched.facts c.into_words.result.items words c.requires.plan.known open' c.meet.ensures.shows c.meet.ensures.runs c.requires.going c.requires.facts c.into_words.ensures.more c.into_words.ensures.copy.places c.into_words.ensures.value c.requires.may in
+    step_there v now run met s core same stream c.taken-words.result words (c.taken-words.ensures ∙ c.into_words.ensures.value)
+    (fetched_step_obeys v.plans v.past run c.args.fetched.facts words is c.in-Ok.command c.meet.ensures.lawful c.meet.ensures.legal
     (judged v now run met s core same stream words (Ok c.in-Ok.command) c.in-Ok.ensures.verdict))
 
 pub enter_lost-requires-clause-obeys : goal.enter_lost-requires-clause-obeys
@@ -66,9 +64,8 @@ enter_lost-requires-clause-obeys c =
     let core = c.meet.ensures.core in
     let same = c.meet.ensures.run in
     let stream = c.stream-stream.ensures in
-    let view = c.self.view_is ∙ core in
     let open' = open_there v now run met s core same stream c.is_lost.result c.is_closed.result c.is_lost.ensures c.if-is_lost.false c.is_closed.ensures c.if-is_closed.false in
-    let is = fetched_for v.plans v.past run c.args.fetched.facts c.words.result.now words c.requires.plan.known open' c.meet.ensures.shows c.meet.ensures.runs c.requires.going c.requires.facts c.words.ensures.more c.words.ensures.copy.places c.words.ensures.value c.requires.may in
-    lost_there v now run met s core same stream c.in-Err.error c.in_ok-words.words words (c.in_ok-words.ensures ∙ c.words.ensures.value)
-    (fetched_error_obeys v.plans v.past run c.args.fetched.facts words is c.in-Err.error (subst (λ (w : CoreData). AreLawfulPlans w.plans) view c.self.invariant.lawful) (subst (λ (w : CoreData). IsLegal w.plans w.past) view c.self.invariant.legal)
+    let is = fetched_for v.plans v.past run c.args.fetched.facts c.into_words.result.items words c.requires.plan.known open' c.meet.ensures.shows c.meet.ensures.runs c.requires.going c.requires.facts c.into_words.ensures.more c.into_words.ensures.copy.places c.into_words.ensures.value c.requires.may in
+    lost_there v now run met s core same stream c.in-Err.error c.taken-words.result words (c.taken-words.ensures ∙ c.into_words.ensures.value)
+    (fetched_error_obeys v.plans v.past run c.args.fetched.facts words is c.in-Err.error c.meet.ensures.lawful c.meet.ensures.legal
     (judged v now run met s core same stream words (Err c.in-Err.error) c.in-Err.ensures.verdict))

@@ -1,9 +1,9 @@
-use Rattle.std.proofs.Common.{◌≡◌, ◌<◌, ◌-◌, ℕ, false, List, eqb, length, set, ap, sym, subst, ◌∙◌, Some, None, option_map, slice_get}
+use Rattle.std.proofs.Common.{◌≡◌, ◌-◌, ℕ, false, List, eqb, set, ap, sym, subst, ◌∙◌, Some, None, option_map, slice_get}
+use Rattle.gpu_plan.specs.declared.plan.Action.{Action}
 use Rattle.gpu_plan.specs.Plans.{PlanData, plan_of}
 use Rattle.sync_core.specs.Standing.{first_order}
 use Rattle.gpu_journal.specs.Waits.{left_of}
 use Rattle.gpu_journal.specs.Facts.{put_in}
-use Rattle.serial_laws.proofs.Flushes.{flushes_before}
 use Rattle.run_laws.specs.Choosing.{choice_at_home}
 use Rattle.run_laws.proofs.Going.{run_begins}
 use Rattle.house_core.specs.Desks.{DeskData, RunData, desk_at, run_of}
@@ -30,17 +30,6 @@ unreachable-requires-in_default-place c =
     let is = chosen (parts_of c.self.inside) c.in_ok-stream.stream c.self.invariant (sym c.in_ok-stream.ensures.choice) in
     let read = c.index_mut-desk.ensures.value ∙ is.place.there _ in
     c.in_default-place.not-Some _ (c.place.ensures ∙ ap (slice_get c.index_mut-desk.result.now.places) c.finished.ensures ∙ ap (λ (desk : DeskData). slice_get desk.places desk.finished) read ∙ is.flush)
-
-pub put_at-put-requires : goal.put_at-put-requires
-put_at-put-requires c =
-    let now = parts_of c.self.inside in
-    let s = c.in_ok-stream.stream in
-    let is = chosen now s c.self.invariant (sym c.in_ok-stream.ensures.choice) in
-    let plan = plan_there now.plans s c.plan-plan.result.now is.place.plan c.plan-plan.ensures in
-    let read = c.index_mut-desk.ensures.value ∙ is.place.there _ in
-    let found = finds c.index_mut-desk.result.now _ c.finished.result c.in-Some-place.place read c.finished.ensures c.in-Some-place.ensures in
-    let short = (flushes_before (plan_of now.plans s).actions (desk_at now.desks s).finished c.in-Some-place.place (ap (λ (places : List ℕ). slice_get places (desk_at now.desks s).finished) (sym is.place.fits.places) ∙ found)).1 in
-    subst (λ (plan : PlanData). c.in-Some-place.place < length plan.actions) (sym plan) short
 
 pub take-requires-2-clause-order : goal.take-requires-2-clause-order
 take-requires-2-clause-order c =
@@ -76,7 +65,7 @@ module _ (c : goal.After-self-2-1) where
   found = finds c.index_mut-desk.result.now _ c.finished.result c.in-Some-place.place read c.finished.ensures c.in-Some-place.ensures
 
   put : c.put_at-put.result ≡ put_in (slice_get (plan_of now.plans s).actions c.in-Some-place.place)
-  put = c.put_at-put.ensures ∙ ap (λ (plan : PlanData). put_in (slice_get plan.actions c.in-Some-place.place)) plan
+  put = c.put_at-put.ensures ∙ ap (λ (actions : List Action). put_in (slice_get actions c.in-Some-place.place)) (c.actions.ensures.value ∙ ap (λ (plan : PlanData). plan.actions) plan)
 
   all : HasLeft now.plans now.past s away c.in-Some-place.place c.put_at-put.result
   all = leaves now s c.in-Some.order c.in-Some-place.place c.put_at-put.result is first found put

@@ -25,8 +25,8 @@ use Rattle.journal_verify.proofs.judge.Judge.enter_step.Goals as goal
 abbrev kept_by : Inside → JudgeData
 kept_by judge = record { drawn = judge.drawn; core = judge.scene.sync; images = judge.scene.images; states = judge.states.items; watches = judge.watches.items }
 
-pub act-requires-clause-ready : goal.act-requires-clause-ready
-act-requires-clause-ready c =
+pub act-requires : goal.act-requires
+act-requires c =
     let p = c.args.plans.now in
     let s = c.args.s in
     let old = kept_by c.self.inside in
@@ -34,14 +34,16 @@ act-requires-clause-ready c =
     let known = front_known p c.args.self.now s c.requires.fits c.requires.front in
     let state : c.index_mut.result.now ≡ kept_state old s = state_here old.states s c.index_mut.result.now (omega (arith, known.0)) (omega (arith, known.1, fits.states)) c.index_mut.ensures.value in
     record {
-      passed = record {
-        known = known;
-        accepted = subst (IsTaken (plan_of p s).areas c.args.words.now) (sym state) (subst (λ (j : JudgeData). IsTaken (plan_of p s).areas c.args.words.now (kept_state j s)) (sym c.self.view_is) c.requires.taken);
-        command = c.requires.said;
-        within = subst IsWithin (sym c.index_mut.ensures.value) (All-get_or IsWithin old.states (s - 1) c.index_mut.result.now (omega (arith, known.0, known.1, fits.states)) fits.within);
+      ready = record {
+        passed = record {
+          known = known;
+          accepted = subst (IsTaken (plan_of p s).areas c.args.words.now) (sym state) (subst (λ (j : JudgeData). IsTaken (plan_of p s).areas c.args.words.now (kept_state j s)) (sym c.self.view_is) c.requires.taken);
+          command = c.requires.said;
+          within = subst IsWithin (sym c.index_mut.ensures.value) (All-get_or IsWithin old.states (s - 1) c.index_mut.result.now (omega (arith, known.0, known.1, fits.states)) fits.within);
+        };
+        streams = fits.core;
+        front = subst (λ (j : JudgeData). 0 < length (left_of j.core s)) (sym c.self.view_is) c.requires.front;
       };
-      streams = fits.core;
-      front = subst (λ (j : JudgeData). 0 < length (left_of j.core s)) (sym c.self.view_is) c.requires.front;
     }
 
 pub tell-requires : goal.tell-requires
@@ -66,7 +68,8 @@ returns-clause-entered c =
     let does = c.in_ok-acted.ensures.executes in
     let told : c.in_ok-acted.acted.effect ≡ effect_in p old s words = does.told.effect ∙ ap (effect areas words) state in
     let answer = does.told.answer ∙ ap (λ (e : Effect). (drawn_by e old.images).answer) told in
-    subst (λ (j : JudgeData). HasEntered p (Step s words) j _) c.self.view_is record {
+    let new : JudgeData = record { drawn = old.drawn; core = c.act.new.scene.sync; images = c.act.new.scene.images; states = set old.states (s - 1) c.act.new.state; watches = set old.watches (s - 1) c.tell.new.watch } in
+    subst (λ (j : JudgeData). HasEntered p (Step s words) j new) c.self.view_is record {
       was = c.index_mut-2.result.now;
       now = c.tell.new.watch;
       here = watch_here p old s c.index_mut-2.result.now fits known c.index_mut-2.ensures.value;

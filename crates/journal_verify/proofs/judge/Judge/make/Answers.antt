@@ -7,12 +7,12 @@ use Rattle.journal_verify.proofs.judge.Judge.make.Goals as goal
 pub returns-clause-follows : goal.returns-clause-follows
 returns-clause-follows c =
     let p = c.args.plans.now in
-    let judge : JudgeData = record { drawn = 0; core = c.in_ok-core.core; images = c.make-2.result; states = c.in_ok-states.states.items; watches = c.in_ok-watches.watches.items } in
-    first_follows p judge refl c.in_ok-core.ensures.drawn (c.in_ok-core.ensures.count ∙ c.count-count.ensures.count) c.in_ok-core.ensures.stands c.make-2.ensures
+    let judge : JudgeData = record { drawn = 0; core = c.in_ok-sync.sync; images = c.make-images.result; states = c.in_ok-states.states.items; watches = c.in_ok-watches.watches.items } in
+    first_follows p judge refl c.in_ok-sync.ensures.drawn (c.in_ok-sync.ensures.count ∙ c.count-count.ensures.count) c.in_ok-sync.ensures.stands c.make-images.ensures
     (c.in_ok-states.ensures ∙ ap (λ n. replicate n first_state) c.count-count.ensures.count) c.in_ok-watches.ensures.count c.in_ok-watches.ensures.first
 
 pub returns-clause-counted : goal.returns-clause-counted
 returns-clause-counted c =
     let p = c.args.plans.now in
-    let judge : JudgeData = record { drawn = 0; core = c.in_ok-core.core; images = c.make-2.result; states = c.in_ok-states.states.items; watches = c.in_ok-watches.watches.items } in
+    let judge : JudgeData = record { drawn = 0; core = c.in_ok-sync.sync; images = c.make-images.result; states = c.in_ok-states.states.items; watches = c.in_ok-watches.watches.items } in
     first_counted p judge refl c.in_ok-watches.ensures.first

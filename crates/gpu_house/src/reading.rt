@@ -1,0 +1,38 @@
+//! What is known of streams and of waits.
+ghost use Rattle.std.specs.Prelude.{◌≡◌, length};
+ghost use Rattle.sync_core.specs.Standing.{IsKnown, is_open};
+ghost use Rattle.gpu_journal.specs.Waits.{standing_of};
+ghost use Rattle.gpu_house.specs.Waiting.{HaveTargets, FormNoCycle};
+
+use crate::house::House;
+use crate::naming::Naming;
+use gpu_fetch::ServiceSide;
+use wait_hooks::Hook;
+
+impl<N: Naming, P: ServiceSide, H: Hook> House<N, P, H> {
+    /// Whether a stream is lost.
+    pub fn is_lost(&self, stream: u32) -> bool
+        requires { IsKnown (length N.plans.plans) stream }
+        ensures { result ≡ (standing_of N.plans self.now.core.past stream).lost }
+    {
+        self.core.is_lost(stream)
+    }
+
+    /// Whether a stream is neither lost nor closed.
+    pub fn is_open(&self, stream: u32) -> bool
+        requires { IsKnown (length N.plans.plans) stream }
+        ensures { result ≡ is_open (standing_of N.plans self.now.core.past stream) }
+    {
+        self.core.is_open(stream)
+    }
+
+    /// The law of the waits of a house: each pending wait names another stream, which is neither lost nor closed and has a lower
+    /// unprocessed number, and no waits form a cycle. It changes nothing.
+    #[tactic(auto, using(sync_core::proofs::Targets::waits_go_down, sync_core::proofs::Targets::no_cycle))]
+    pub fn holds(&self)
+        ensures targets { HaveTargets N.plans self.now.core.past }
+        ensures no_cycle { FormNoCycle N.plans self.now.core.past }
+    {
+        let _ = &self.core;
+    }
+}
