@@ -1,7 +1,6 @@
 //! The first phase of a round: each client goes as far as it can.
 ghost use Rattle.std.specs.Prelude.{◌≡◌, ◌-◌, ◌≤◌, length, true, IfOk, OnOk};
-ghost use Rattle.sync_core.specs.Standing.{IsKnown, is_open};
-ghost use Rattle.gpu_journal.specs.Waits.{standing_of};
+ghost use Rattle.sync_core.specs.Standing.{IsKnown};
 ghost use Rattle.gpu_journal.specs.Serial.{stays};
 ghost use Rattle.gpu_run.specs.Reading.{HaveRead};
 ghost use Rattle.gpu_run.specs.Served.{IsServed};
@@ -9,7 +8,7 @@ ghost use Rattle.gpu_run.specs.Stands.{Acting, Stands, HasActed};
 
 use crate::client::Client;
 use gpu_fetch::PlainPass;
-use gpu_house::{Doing, House, Naming};
+use gpu_house::{House, Naming};
 use gpu_word::Memory;
 use wait_hooks::Hook;
 
@@ -22,19 +21,6 @@ pub(crate) enum Act {
     Passed,
     /// A flush, which was ordered.
     Ordered,
-}
-
-/// Whether a stream is neither lost nor closed.
-pub(crate) fn is_open<N: Naming, H: Hook>(house: &House<N, PlainPass, H>, stream: u32) -> bool
-    requires { IsKnown (length N.plans.plans) stream }
-    ensures { result ≡ is_open (standing_of N.plans house.now.core.past stream) }
-{
-    match house.state(stream) {
-        Doing::Open => true,
-        Doing::AllDone => true,
-        Doing::Lost => false,
-        Doing::Closed => false,
-    }
 }
 
 /// The client of a stream does its next action, if that passes. A dump of the action is read, and a flush is ordered.
@@ -86,7 +72,7 @@ fn act_on<N: Naming, H: Hook>(
     ensures stands { OnOk result (Stands (Acting stream) N.plans house.new clients.new) }
     ensures longer { OnOk result (length house.old.core.past ≤ length house.new.core.past) }
 {
-    if !is_open(house, stream) {
+    if !house.is_open(stream) {
         return Ok(());
     }
     loop {

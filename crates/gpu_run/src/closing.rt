@@ -4,7 +4,6 @@ ghost use Rattle.sync_core.specs.Standing.{IsKnown};
 ghost use Rattle.gpu_journal.specs.Serial.{is_close};
 ghost use Rattle.gpu_run.specs.Stands.{Acting, Closing, Running, Stands};
 
-use crate::acting::is_open;
 use crate::client::Client;
 use gpu_fetch::PlainPass;
 use gpu_house::{House, Naming};
@@ -32,7 +31,7 @@ fn close_one<N: Naming, H: Hook>(
     ensures stands { Stands (Closing stream) N.plans house.new clients.now }
     ensures longer { length house.old.core.past ≤ length house.new.core.past }
 {
-    if !is_open(house, stream) {
+    if !house.is_open(stream) {
         return;
     }
     let position = clients[stream as usize - 1].position();

@@ -2,31 +2,17 @@
 ghost use Rattle.std.specs.Prelude.{◌≡◌, ◌++◌, length, IfOk, OnOk};
 ghost use Rattle.sync_core.specs.Standing.{IsKnown};
 ghost use Rattle.stream_state.specs.State.{result_of};
-ghost use Rattle.gpu_journal.specs.Waits.{standing_of};
 ghost use Rattle.gpu_run.specs.Dumps.{dumps_read, all_dumps};
 ghost use Rattle.gpu_run.specs.Reading.{read_left, HasRead, HaveRead};
 
 use crate::client::Client;
 use crate::dumps::Dumps;
 use gpu_fetch::PlainPass;
-use gpu_house::{Doing, House, Naming};
+use gpu_house::{House, Naming};
 use gpu_word::Memory;
 use std::alloc::Global;
 use stream_state::StreamState;
 use wait_hooks::Hook;
-
-// Whether a stream is lost.
-fn is_lost<N: Naming, H: Hook>(house: &House<N, PlainPass, H>, stream: u32) -> bool
-    requires { IsKnown (length N.plans.plans) stream }
-    ensures { result ≡ (standing_of N.plans house.now.core.past stream).lost }
-{
-    match house.state(stream) {
-        Doing::Open => false,
-        Doing::AllDone => false,
-        Doing::Lost => true,
-        Doing::Closed => false,
-    }
-}
 
 /// Reads what is left of a plan's dumps, as the results now are.
 ///
@@ -59,7 +45,7 @@ fn dumps_of<N: Naming, H: Hook>(
     ensures { IfOk result (λ dumps. dumps ≡ dumps_read N.plans house.now.core.past stream) }
 {
     let mut dumps = client.into_dumps();
-    if is_lost(house, stream) {
+    if house.is_lost(stream) {
         dumps.clear();
         return Ok(dumps);
     }
