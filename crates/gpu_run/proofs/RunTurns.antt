@@ -95,13 +95,13 @@ fetched_with p house clients run new words list facts verdict w out there is mor
     (subst (IsBeside new.side) is beside) (λ n b. subst (λ (v : PlainData). IsNoteBeside new.side v n) is (notes n (subst (λ (v : PlainData). IsNoteBeside run.side v n) (sym is) b)))
 
 -- the note that a fetch has met is met after the step
-pub stays_met : {side : SideData → SideData} {mark : ℕ → ℕ} (p : PlansData) (house new : PlainHouse) (run now : OutData SideData ℕ) (words : List (ℕ × ℕ)) (next : Next) → run.note ≡ None → Steps side mark p house new run now words next → now.note ≡ run.note
-stays_met p house new run now words More met is = is.met ∙ sym met
-stays_met p house new run now words Paused met is = is.met ∙ sym met
-stays_met p house new run now words FlushEnd met is = is.met ∙ sym met
-stays_met p house new run now words (Invalid error) met is = is.met ∙ sym met
-stays_met p house new run now words Lost met is = ap (λ (r : OutData SideData ℕ). r.note) is.run
-stays_met p house new run now words Closed met is = ap (λ (r : OutData SideData ℕ). r.note) is.run
+pub stays_met : (side : SideData → SideData) (mark : ℕ → ℕ) (p : PlansData) (house new : PlainHouse) (run now : OutData SideData ℕ) (words : List (ℕ × ℕ)) (next : Next) → run.note ≡ None → Steps side mark p house new run now words next → now.note ≡ run.note
+stays_met side mark p house new run now words More met is = is.met ∙ sym met
+stays_met side mark p house new run now words Paused met is = is.met ∙ sym met
+stays_met side mark p house new run now words FlushEnd met is = is.met ∙ sym met
+stays_met side mark p house new run now words (Invalid error) met is = is.met ∙ sym met
+stays_met side mark p house new run now words Lost met is = ap (λ (r : OutData SideData ℕ). r.note) is.run
+stays_met side mark p house new run now words Closed met is = ap (λ (r : OutData SideData ℕ). r.note) is.run
 
 -- what is neither of the answers to go on is one to stop
 pub stops : (next : Next) → (next ≡ More → ⊥) → (next ≡ FlushEnd → ⊥) → goes_further next ≡ false

@@ -208,10 +208,10 @@ module _ (p : PlansData) (house new : PlainHouse) (clients : List ClientData) (r
     not_closed x o closed = let off : is_open x ≡ false = ap (λ (b : Bool). not x.lost && not b) closed ∙ and_right (not x.lost) false refl in cc
 
     -- whatever was answered
-    pub has_stepped : {side : SideData → SideData} {mark : ℕ → ℕ} (next : Next) → Steps side mark p house new run now words next → HasStepped p house new clients run now (goes_further next)
-    has_stepped More is = stepped_done false is.valid is.kept is.event is.moved is.run record { order = run.run.order; paused = false } is.outs
-    has_stepped Paused is = stepped_done true is.valid is.kept is.event is.moved is.run record { order = run.run.order; paused = true } is.outs
-    has_stepped FlushEnd is = stepped_done false is.valid is.kept is.event is.moved is.run record { order = run.run.order; paused = false } is.outs
-    has_stepped (Invalid error) is = stepped_lost error is.verdict is.event is.run is.outs
-    has_stepped nexts.Lost is = absurd (not_lost (standing_of p h s) still_open is.is_over)
-    has_stepped Closed is = absurd (not_closed (standing_of p h s) still_open is.is_over.1)
+    pub has_stepped : (side : SideData → SideData) (mark : ℕ → ℕ) (next : Next) → Steps side mark p house new run now words next → HasStepped p house new clients run now (goes_further next)
+    has_stepped side mark More is = stepped_done false is.valid is.kept is.event is.moved is.run record { order = run.run.order; paused = false } is.outs
+    has_stepped side mark Paused is = stepped_done true is.valid is.kept is.event is.moved is.run record { order = run.run.order; paused = true } is.outs
+    has_stepped side mark FlushEnd is = stepped_done false is.valid is.kept is.event is.moved is.run record { order = run.run.order; paused = false } is.outs
+    has_stepped side mark (Invalid error) is = stepped_lost error is.verdict is.event is.run is.outs
+    has_stepped side mark nexts.Lost is = absurd (not_lost (standing_of p h s) still_open is.is_over)
+    has_stepped side mark Closed is = absurd (not_closed (standing_of p h s) still_open is.is_over.1)

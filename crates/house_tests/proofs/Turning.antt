@@ -156,10 +156,10 @@ module _ {Side Note Results Words : Type 0} (belongs : Side → Words → Type 0
         }
 
     -- whatever was answered
-    pub stepped : {mark : Note → ℕ} (next : Next) → Steps seen mark p house new run now found next → HasStepped p house new now (goes_further next)
-    stepped More is = stepped_done false is.event is.moved is.met
-    stepped Paused is = stepped_done true is.event is.moved is.met
-    stepped FlushEnd is = stepped_done false is.event is.moved is.met
-    stepped (Invalid error) is = stepped_lost error is.event is.run is.met
-    stepped nexts.Lost is = stepped_over (λ o. not_lost (standing_of p h s) o is.is_over) is.same is.run
-    stepped Closed is = stepped_over (λ o. not_closed (standing_of p h s) o is.is_over.1) is.same is.run
+    pub stepped : (mark : Note → ℕ) (next : Next) → Steps seen mark p house new run now found next → HasStepped p house new now (goes_further next)
+    stepped mark More is = stepped_done false is.event is.moved is.met
+    stepped mark Paused is = stepped_done true is.event is.moved is.met
+    stepped mark FlushEnd is = stepped_done false is.event is.moved is.met
+    stepped mark (Invalid error) is = stepped_lost error is.event is.run is.met
+    stepped mark nexts.Lost is = stepped_over (λ o. not_lost (standing_of p h s) o is.is_over) is.same is.run
+    stepped mark Closed is = stepped_over (λ o. not_closed (standing_of p h s) o is.is_over.1) is.same is.run

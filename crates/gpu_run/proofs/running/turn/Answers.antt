@@ -48,8 +48,8 @@ stepped-More g c =
     let here : w ≡ (client_at c.args.clients.now run.run.stream).words = its_words ∙ ap (λ (u : ℕ). (client_at c.args.clients.now u).words) (sym stream) in
     let t = c.in_ok-step.ensures in
     has_stepped p c.args.house.now c.step.new.self c.args.clients.now run c.step.new.run c.in_ok-fetched.fetched.words has (played_is_legal p c.args.house.now.core.past c.requires.lawful c.requires.played) (subst (λ (u : ℕ). is_runnable p c.args.house.now.core.past u ≡ true) (sym stream) c.requires.runs)
-    t.slots (stays_met p c.args.house.now c.step.new.self run c.step.new.run c.in_ok-fetched.fetched.words c.in_ok-step.field-0 e.met t.steps) (subst (IsBeside c.step.new.run.side) here t.still.beside) (λ n b. subst (λ (v : PlainData). IsNoteBeside c.step.new.run.side v n) here (t.still.notes n (subst (λ (v : PlainData). IsNoteBeside run.side v n) (sym here) b))) t.list
-    c.in_ok-step.field-0 t.steps
+    t.slots (stays_met _ _ p c.args.house.now c.step.new.self run c.step.new.run c.in_ok-fetched.fetched.words c.in_ok-step.field-0 e.met t.steps) (subst (IsBeside c.step.new.run.side) here t.still.beside) (λ n b. subst (λ (v : PlainData). IsNoteBeside c.step.new.run.side v n) here (t.still.notes n (subst (λ (v : PlainData). IsNoteBeside run.side v n) (sym here) b))) t.list
+    _ _ c.in_ok-step.field-0 t.steps
 
 pub returns-in-More-clause-event : goal.returns-in-More-clause-event
 returns-in-More-clause-event g c = (stepped-More g c).event ∙ ap (λ (r : RunData). run_event g.N.Naming.plans c.args.house.now.core.past r.stream ∷ c.args.house.now.core.past) c.in_ok-fetched.ensures.run
@@ -73,8 +73,8 @@ stepped-FlushEnd g c =
     let here : w ≡ (client_at c.args.clients.now run.run.stream).words = its_words ∙ ap (λ (u : ℕ). (client_at c.args.clients.now u).words) (sym stream) in
     let t = c.in_ok-step.ensures in
     has_stepped p c.args.house.now c.step.new.self c.args.clients.now run c.step.new.run c.in_ok-fetched.fetched.words has (played_is_legal p c.args.house.now.core.past c.requires.lawful c.requires.played) (subst (λ (u : ℕ). is_runnable p c.args.house.now.core.past u ≡ true) (sym stream) c.requires.runs)
-    t.slots (stays_met p c.args.house.now c.step.new.self run c.step.new.run c.in_ok-fetched.fetched.words c.in_ok-step.field-0 e.met t.steps) (subst (IsBeside c.step.new.run.side) here t.still.beside) (λ n b. subst (λ (v : PlainData). IsNoteBeside c.step.new.run.side v n) here (t.still.notes n (subst (λ (v : PlainData). IsNoteBeside run.side v n) (sym here) b))) t.list
-    c.in_ok-step.field-0 t.steps
+    t.slots (stays_met _ _ p c.args.house.now c.step.new.self run c.step.new.run c.in_ok-fetched.fetched.words c.in_ok-step.field-0 e.met t.steps) (subst (IsBeside c.step.new.run.side) here t.still.beside) (λ n b. subst (λ (v : PlainData). IsNoteBeside c.step.new.run.side v n) here (t.still.notes n (subst (λ (v : PlainData). IsNoteBeside run.side v n) (sym here) b))) t.list
+    _ _ c.in_ok-step.field-0 t.steps
 
 pub returns-in-FlushEnd-clause-event : goal.returns-in-FlushEnd-clause-event
 returns-in-FlushEnd-clause-event g c = (stepped-FlushEnd g c).event ∙ ap (λ (r : RunData). run_event g.N.Naming.plans c.args.house.now.core.past r.stream ∷ c.args.house.now.core.past) c.in_ok-fetched.ensures.run
@@ -99,8 +99,8 @@ back-requires g c = record {
       let here : w ≡ (client_at c.args.clients.now run.run.stream).words = its_words ∙ ap (λ (u : ℕ). (client_at c.args.clients.now u).words) (sym stream) in
       let t = c.in_ok-step.ensures in
       has_stepped p c.args.house.now c.step.new.self c.args.clients.now run c.step.new.run c.in_ok-fetched.fetched.words has (played_is_legal p c.args.house.now.core.past c.requires.lawful c.requires.played) (subst (λ (u : ℕ). is_runnable p c.args.house.now.core.past u ≡ true) (sym stream) c.requires.runs)
-      t.slots (stays_met p c.args.house.now c.step.new.self run c.step.new.run c.in_ok-fetched.fetched.words c.in_ok-step.field-0 e.met t.steps) (subst (IsBeside c.step.new.run.side) here t.still.beside) (λ n b. subst (λ (v : PlainData). IsNoteBeside c.step.new.run.side v n) here (t.still.notes n (subst (λ (v : PlainData). IsNoteBeside run.side v n) (sym here) b))) t.list
-      c.in_ok-step.field-0 t.steps
+      t.slots (stays_met _ _ p c.args.house.now c.step.new.self run c.step.new.run c.in_ok-fetched.fetched.words c.in_ok-step.field-0 e.met t.steps) (subst (IsBeside c.step.new.run.side) here t.still.beside) (λ n b. subst (λ (v : PlainData). IsNoteBeside c.step.new.run.side v n) here (t.still.notes n (subst (λ (v : PlainData). IsNoteBeside run.side v n) (sym here) b))) t.list
+      _ _ c.in_ok-step.field-0 t.steps
       ).list;
 }
 
@@ -117,8 +117,8 @@ stepped-back g c =
     let here : w ≡ (client_at c.args.clients.now run.run.stream).words = its_words ∙ ap (λ (u : ℕ). (client_at c.args.clients.now u).words) (sym stream) in
     let t = c.in_ok-step.ensures in
     has_stepped p c.args.house.now c.step.new.self c.args.clients.now run c.step.new.run c.in_ok-fetched.fetched.words has (played_is_legal p c.args.house.now.core.past c.requires.lawful c.requires.played) (subst (λ (u : ℕ). is_runnable p c.args.house.now.core.past u ≡ true) (sym stream) c.requires.runs)
-    t.slots (stays_met p c.args.house.now c.step.new.self run c.step.new.run c.in_ok-fetched.fetched.words c.in_ok-step.field-0 e.met t.steps) (subst (IsBeside c.step.new.run.side) here t.still.beside) (λ n b. subst (λ (v : PlainData). IsNoteBeside c.step.new.run.side v n) here (t.still.notes n (subst (λ (v : PlainData). IsNoteBeside run.side v n) (sym here) b))) t.list
-    c.in_ok-step.field-0 t.steps
+    t.slots (stays_met _ _ p c.args.house.now c.step.new.self run c.step.new.run c.in_ok-fetched.fetched.words c.in_ok-step.field-0 e.met t.steps) (subst (IsBeside c.step.new.run.side) here t.still.beside) (λ n b. subst (λ (v : PlainData). IsNoteBeside c.step.new.run.side v n) here (t.still.notes n (subst (λ (v : PlainData). IsNoteBeside run.side v n) (sym here) b))) t.list
+    _ _ c.in_ok-step.field-0 t.steps
 
 pub returns-in_default : goal.returns-in_default
 returns-in_default g c =
