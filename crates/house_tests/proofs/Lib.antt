@@ -3,3 +3,4 @@ pub mod Belonging
 pub mod Turning
 pub mod Acting
 pub mod Beginning
+pub mod Pairing

@@ -1,4 +1,5 @@
 mod drive;
+mod losses;
 mod opening;
 mod output;
 mod racing_words;
