@@ -334,14 +334,18 @@ enum Before {
 }
 
 // The loss or the call that is tried.
-fn try_before<N: Naming, H: Hook>(
-    house: &mut House<N, NotedPass, H>,
-    words: &NotedWords,
+fn try_before<N: Naming, P: ServiceSide, H: Hook>(
+    house: &mut House<N, P, H>,
+    words: &P::Words,
+    reader: P::Reader,
     before: Before,
 ) -> Result<(), Fail>
+where
+    P::Reader: Drop,
+    requires reader { P.reader_belongs words.now reader }
     requires two { length N.plans.plans ≡ 2 }
-    requires home { SecondIsHome (λ s w. IsBeside s.pass w.words) (λ s w n. IsNoteBeside s.pass w.words n) (λ w r. Unit {0}) words.now house.old }
-    ensures home { OnOk result (SecondIsHome (λ s w. IsBeside s.pass w.words) (λ s w n. IsNoteBeside s.pass w.words n) (λ w r. Unit {0}) words.now house.new) }
+    requires home { SecondIsHome P.belongs P.note_belongs P.results_belong words.now house.old }
+    ensures home { OnOk result (SecondIsHome P.belongs P.note_belongs P.results_belong words.now house.new) }
 {
     match before {
         Before::LoseRun => lose_run(house, words),
@@ -351,7 +355,7 @@ fn try_before<N: Naming, H: Hook>(
             Ok(())
         }
         Before::Settle => {
-            settle(house, words, NotedReader { number: READER });
+            settle(house, words, reader);
             Ok(())
         }
     }
@@ -382,7 +386,8 @@ fn drive<N: Naming>(
     requires beside { IsNoteBeside second.side.pass words.now.words second.note }
 {
     let mut house = open::<N, NotedPass>(alloc, plans, words, first, second)?;
-    try_before(&mut house, words, before)?;
+    let reader = NotedReader { number: READER };
+    try_before(&mut house, words, reader, before)?;
     finish_second(&mut house, words)?;
     Ok(house.report())
 }
