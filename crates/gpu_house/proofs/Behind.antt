@@ -4,10 +4,10 @@ use Rattle.std.specs.Prelude.{slice_get, MatchOption}
 use Rattle.std.proofs.lemmas.List.{drop_more, take_more, drop-append-le, map-append, length-take-le}
 use Rattle.std.proofs.lemmas.Option.{slice_get_within, get_or_from_slice_get}
 use Rattle.gpu_plan.specs.Plans.{PlanData}
-use Rattle.gpu_plan.specs.Places.{flush_places}
+use Rattle.gpu_plan.specs.Places.{flush_places, mark_of}
 use Rattle.gpu_plan.specs.Passes.{flushes}
 use Rattle.serial_laws.proofs.Flushes.{flushes_before, below_place}
-use Rattle.gpu_house.specs.Slots.{mark_of, marks_between}
+use Rattle.gpu_house.specs.Slots.{marks_between}
 
 pub mark_at : (plan : PlanData) (flush place : ℕ) → slice_get (flush_places plan.actions) flush ≡ Some place → mark_of plan flush ≡ place + 1
 mark_at plan flush place e = ap (λ (at : Option ℕ). unwrap_or (option_map suc at) (length plan.actions)) e ∙ (let one : suc place ≡ place + 1 = omega arith in one)

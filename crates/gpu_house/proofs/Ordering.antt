@@ -3,7 +3,7 @@ use Rattle.std.proofs.Common.{◌≡◌, ℕ, ◌+◌, ◌-◌, ◌<◌, false, 
 use Rattle.std.specs.Prelude.{slice_get}
 use Rattle.atomic_table.specs.Seated.{TableId}
 use Rattle.gpu_plan.specs.Plans.{PlansData, plan_of}
-use Rattle.gpu_plan.specs.Places.{flush_places}
+use Rattle.gpu_plan.specs.Places.{flush_places, mark_of}
 use Rattle.gpu_plan.specs.Passes.{flushes}
 use Rattle.gpu_fetch.specs.Side.{SideData}
 use Rattle.sync_core.specs.Standing.{IsKnown}
@@ -17,7 +17,7 @@ use Rattle.serial_laws.proofs.Flushes.{flush_there}
 use Rattle.run_laws.proofs.Ended.{next_open}
 use Rattle.house_core.specs.Core.{CoreData, is_home}
 use Rattle.house_core.specs.Desks.{Out}
-use Rattle.gpu_house.specs.Slots.{SlotData, slot_at, mark_of, SlotFits}
+use Rattle.gpu_house.specs.Slots.{SlotData, slot_at, SlotFits}
 use Rattle.gpu_house.proofs.Rows.{slot_there, slot_fits}
 use Rattle.gpu_house.proofs.Sides.{order_slot}
 use Rattle.gpu_house.proofs.Homes.{AllFit, FitsAt, all_set, others_event, same_outs}

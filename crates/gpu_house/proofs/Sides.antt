@@ -8,7 +8,7 @@ use Rattle.std.proofs.lemmas.Option.{IfSome_then}
 use Rattle.std.specs.List.{All}
 use Rattle.atomic_table.specs.Seated.{TableId}
 use Rattle.gpu_plan.specs.Plans.{PlansData, plan_of}
-use Rattle.gpu_plan.specs.Places.{flush_places}
+use Rattle.gpu_plan.specs.Places.{flush_places, mark_of}
 use Rattle.gpu_plan.specs.Passes.{greatest}
 use Rattle.gpu_fetch.specs.Side.{SideData, reach, with_met, with_finish}
 use Rattle.sync_core.specs.Standing.{is_open, first_order}
@@ -23,7 +23,7 @@ use Rattle.run_laws.proofs.Knowns.{known_order, known_finish, step_ordered, step
 use Rattle.run_laws.proofs.Fronts.{left_open, counts_within}
 use Rattle.house_core.specs.Core.{IsOfPlans, IsRunOf, MayHavePut}
 use Rattle.house_core.specs.Desks.{RunData}
-use Rattle.gpu_house.specs.Slots.{SlotData, note_ahead, left_slot, mark_of, marks_between, begun_of, HasMet, IsAtHome, NotesFit, SlotFits, RunFits}
+use Rattle.gpu_house.specs.Slots.{SlotData, note_ahead, left_slot, marks_between, begun_of, HasMet, IsAtHome, NotesFit, SlotFits, RunFits}
 use Rattle.gpu_house.specs.Changes.{met_by}
 use Rattle.gpu_house.proofs.Behind.{mark_at, mark_rises, queue_first, queue_pushed}
 

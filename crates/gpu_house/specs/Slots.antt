@@ -1,9 +1,9 @@
 -- The sides that lie in the house while no run is out, with the notes of flushes that no side has met yet.
-use Rattle.std.specs.Prelude.{◌≡◌, ℕ, zero, suc, ◌+◌, ◌-◌, ◌<◌, ◌≤◌, Bool, true, false, is_some, List, [], length, map, take, drop, slice_get, slice_set, slice_index_or, if◌then◌else◌, Option, None, IfSome, MatchOption, unwrap_or, option_map}
+use Rattle.std.specs.Prelude.{◌≡◌, ℕ, zero, suc, ◌+◌, ◌-◌, ◌<◌, ◌≤◌, Bool, true, false, is_some, List, [], length, map, take, drop, slice_get, slice_set, slice_index_or, if◌then◌else◌, Option, None, IfSome, MatchOption}
 use Rattle.std.specs.List.{All}
 use Rattle.atomic_table.specs.Seated.{TableId}
 use Rattle.gpu_plan.specs.Plans.{PlansData, PlanData, plan_of}
-use Rattle.gpu_plan.specs.Places.{flush_places}
+use Rattle.gpu_plan.specs.Places.{flush_places, mark_of}
 use Rattle.gpu_plan.specs.Passes.{greatest}
 use Rattle.gpu_fetch.specs.Side.{SideData, reach}
 use Rattle.sync_core.specs.Standing.{is_open}
@@ -41,10 +41,6 @@ note_ahead slot = if slot.begun then slot.first else slice_get slot.notes 0
 -- the slot once its side has left with this note
 abbrev pub left_slot : {Side Note : Type 0} → SlotData Side Note → SlotData Side Note
 left_slot slot = record { side = None; begun = true; first = None; notes = if slot.begun then slot.notes else drop 1 slot.notes }
-
--- the place of a flush and one more, counting flushes from 0; where there is none, the number of actions
-abbrev pub mark_of : PlanData → ℕ → ℕ
-mark_of plan flush = unwrap_or (option_map suc (slice_get (flush_places plan.actions) flush)) (length plan.actions)
 
 -- the marks of the flushes from one number up to another
 abbrev pub marks_between : PlanData → ℕ → ℕ → List ℕ

@@ -2,11 +2,11 @@
 ghost use Rattle.std.specs.Prelude.{◌≡◌, ◌↔◌, ◌+◌, ◌<◌, ◌∷◌, length, true, IfOk, IfErr, OnOk, OnErr, IsErrAnd};
 ghost use Rattle.gpu_plan.specs.Plans.{plan_of};
 ghost use Rattle.gpu_plan.specs.Passes.{flushes};
+ghost use Rattle.gpu_plan.specs.Places.{mark_of};
 ghost use Rattle.sync_core.specs.Standing.{IsKnown};
 ghost use Rattle.gpu_journal.specs.World.{known};
 ghost use Rattle.gpu_journal.specs.Waits.{standing_of, drawn};
 ghost use Rattle.gpu_journal.specs.Serial.{order_event};
-ghost use Rattle.gpu_house.specs.Slots.{mark_of};
 ghost use Rattle.gpu_house.specs.Changes.{Same, with_note};
 
 use crate::answers::OrderRefused;

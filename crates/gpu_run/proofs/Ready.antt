@@ -5,6 +5,7 @@ use Rattle.std.proofs.lemmas.List.{length-set}
 use Rattle.std.specs.Prelude.{slice_get, IfSome}
 use Rattle.gpu_plan.specs.Plans.{PlansData, PlanData, plan_of}
 use Rattle.gpu_plan.specs.Passes.{flushes, passes, greatest}
+use Rattle.gpu_plan.specs.Places.{mark_of}
 use Rattle.gpu_fetch.specs.Side.{SideData}
 use Rattle.gpu_fetch.specs.Plain.{PlainData, one_further, IsFlush, IsNext, IsBeside, IsNoteBeside}
 use Rattle.sync_core.specs.Standing.{IsKnown}
@@ -14,7 +15,7 @@ use Rattle.gpu_journal.specs.Facts.{reach}
 use Rattle.gpu_journal.specs.Serial.{stays, order_event}
 use Rattle.house_core.specs.Core.{is_home}
 use Rattle.house_core.specs.Desks.{Out}
-use Rattle.gpu_house.specs.Slots.{SlotData, slot_at, mark_of}
+use Rattle.gpu_house.specs.Slots.{SlotData, slot_at}
 use Rattle.gpu_house.specs.Changes.{with_note}
 use Rattle.gpu_run.specs.declared.acting.Act.TheVariants.{Stays}
 use Rattle.gpu_run.specs.Clients.{ClientData, client_at, done_at, flushes_to}

@@ -88,4 +88,5 @@ executed c t old new state left acted was place plans scene same does =
       kept = told.kept ∙ (λ i. keeps (plans i) (scene i).sync s acted.effect) ∙ core_keeps c.plans c.past c.sync place.stands s acted.effect;
       writes = told.writes ∙ (λ i. writes (areas i) t.words.now (same i));
       places = subst (λ (a : Areas). All (λ write. write.0 < words_in a.results) (writes_told acted.effect)) areas told.places;
+      texels = told.texels;
     }

@@ -8,13 +8,14 @@ use Rattle.gpu_plan.specs.declared.plan.Action.TheVariants.{Put, Flush, Finish, 
 use Rattle.gpu_plan.specs.Plans.{PlansData, PlanData, plan_of, is_flush}
 use Rattle.gpu_plan.specs.Passes.{flushes, passes_if_there}
 use Rattle.gpu_plan.proofs.Passing.{flushes_one_further}
+use Rattle.gpu_plan.specs.Places.{mark_of}
 use Rattle.gpu_fetch.specs.Plain.{IsFlush}
 use Rattle.gpu_fetch.specs.Shared.{IsOf, IsNoteOf}
 use Rattle.shm_words.specs.declared.client.Acted.{Acted}
 use Rattle.shm_words.specs.Seen.{ClientData, ServiceData, NoteData, next_action, flushes_before}
 use Rattle.shm_words.specs.Acts.{Acts, IsAtFlush, answer_for, counts}
 use Rattle.gpu_journal.specs.declared.event.Event.{Event}
-use Rattle.gpu_house.specs.Slots.{slot_at, mark_of}
+use Rattle.gpu_house.specs.Slots.{slot_at}
 use Rattle.gpu_house.specs.House.{HouseData}
 use Rattle.house_tests.specs.Alone.{ordered, AllBelong, IsHome, IsClientOf}
 use Rattle.house_tests.proofs.Flushing.{flush_counts, flush_left, flush_mark}

@@ -5,11 +5,11 @@ use Rattle.std.specs.Prelude.{slice_get}
 use Rattle.atomic_table.specs.Seated.{TableId}
 use Rattle.gpu_plan.specs.Plans.{PlansData, PlanData, plan_of, no_plan}
 use Rattle.gpu_plan.specs.Passes.{flushes}
+use Rattle.gpu_plan.specs.Places.{mark_of}
 use Rattle.gpu_fetch.specs.Side.{SideData, fresh_side}
 use Rattle.shm_words.specs.Seen.{ClientData, client_at}
 use Rattle.gpu_journal.specs.declared.event.Event.{Event}
 use Rattle.gpu_journal.specs.World.{world}
-use Rattle.gpu_house.specs.Slots.{mark_of}
 use Rattle.gpu_house.specs.Making.{AreFreshSides, AreFreshResults}
 use Rattle.house_tests.specs.Alone.{ordered, IsClientOf}
 

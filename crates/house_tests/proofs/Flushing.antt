@@ -6,12 +6,11 @@ use Rattle.gpu_plan.specs.declared.plan.Action.{Action}
 use Rattle.gpu_plan.specs.declared.plan.Action.TheVariants.{Put, Flush, Finish, Token, Close}
 use Rattle.gpu_plan.specs.Plans.{PlansData, PlanData, plan_of}
 use Rattle.gpu_plan.specs.Passes.{flush_count, flushes}
-use Rattle.gpu_plan.specs.Places.{flush_places}
+use Rattle.gpu_plan.specs.Places.{flush_places, mark_of}
 use Rattle.gpu_plan.proofs.Passing.{flushes_one_further}
 use Rattle.gpu_fetch.specs.Plain.{IsNext, IsFlush}
 use Rattle.gpu_fetch.specs.Stirred.{ComesToFlush, puts_ahead}
 use Rattle.serial_laws.proofs.Flushes.{flush_there, flushes_all, place_below, below_place}
-use Rattle.gpu_house.specs.Slots.{mark_of}
 
 -- ---- a flush that is next
 

@@ -5,12 +5,13 @@ use Rattle.std.specs.Prelude.{slice_get, IfSome}
 use Rattle.std.specs.List.{All}
 use Rattle.gpu_plan.specs.Plans.{PlansData, PlanData, plan_of, no_plan}
 use Rattle.gpu_plan.specs.Passes.{flushes}
+use Rattle.gpu_plan.specs.Places.{mark_of}
 use Rattle.gpu_fetch.specs.Plain.{IsNext, IsFlush}
 use Rattle.gpu_journal.specs.declared.event.Event.{Event}
 use Rattle.gpu_journal.specs.World.{Known, known, world}
 use Rattle.gpu_journal.specs.Serial.{order_event}
 use Rattle.serial_laws.proofs.Others.{known_other}
-use Rattle.gpu_house.specs.Slots.{SlotData, slot_at, note_ahead, mark_of}
+use Rattle.gpu_house.specs.Slots.{SlotData, slot_at, note_ahead}
 use Rattle.gpu_house.specs.House.{HouseData}
 use Rattle.gpu_house.specs.Changes.{Same, Appends, ResultsBelong, with_note}
 use Rattle.gpu_house.specs.Making.{AreFreshResults, fresh_slots}

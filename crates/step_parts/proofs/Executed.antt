@@ -45,6 +45,7 @@ image_executes taken old new state stepped left acted op made given answer kept 
         kept = kept ∙ sym (ap (keeps p old.sync taken.stream) effect);
         writes = given.writes;
         places = given.places;
+        texels = given.texels;
       };
       images = images ∙ sym (ap (λ (e : Effect). (drawn_by e old.images).images) effect);
       state = after ∙ ap (noted acted.answer) given.state;
@@ -69,6 +70,7 @@ wait_executes taken old new state stepped left acted t r made given answer kept 
         kept = kept ∙ sym (made.keeps old.sync taken.stream) ∙ sym (ap (keeps p old.sync taken.stream) given.effect);
         writes = given.writes;
         places = given.places;
+        texels = given.texels;
       };
       images = images ∙ sym (ap (λ (d : Applied). d.images) drawn);
       state = after ∙ ap (noted acted.answer) given.state;
@@ -99,6 +101,7 @@ plain_executes taken old new state stepped left acted plain given answer kept im
     kept = kept ∙ sym (keeps_none taken.plans.now taken old acted.effect (subst IsPlain (sym given.effect) plain));
     writes = given.writes;
     places = given.places;
+    texels = given.texels;
   };
   images = images;
   state = after ∙ ap (noted acted.answer) given.state;

@@ -53,13 +53,15 @@ pub record Asks (taken : Taken) (before after : State) (asked : Effect) : Type 0
   pub few : total after.errors ≤ 1048576
 
 -- what is told of a step on these words, in this state of its stream and on these images, where `keeps` says which waits are
--- kept: what it asked for, how that was answered, whether its wait was kept, and what it writes, in result places of its stream
+-- kept: what it asked for, how that was answered, whether its wait was kept, what it writes, in result places of its stream, and
+-- that an upload brings a texel for each of its rectangle
 pub record IsToldOf (areas : Areas) (words : List (ℕ × ℕ)) (state : State) (images : Pictures) (keeps : Effect → Bool) (acted : Acted) : Type 0 where
   pub effect : acted.effect ≡ effect areas words state
   pub answer : acted.answer ≡ (drawn_by acted.effect images).answer
   pub kept : acted.kept ≡ keeps acted.effect
   pub writes : writes_told acted.effect ≡ writes areas words state
   pub places : All (λ write. write.0 < words_in areas.results) (writes_told acted.effect)
+  pub texels : BringsItsTexels acted.effect
 
 -- what was taken is executed: what is told of that, what it draws, the state that it leaves its stream, and its sync event, for
 -- every list of sync events that the core stood for

@@ -1,7 +1,8 @@
 ghost use Rattle.std.specs.Prelude.{◌≡◌, ◌+◌, ◌<◌, length, IfOk, IfSome, OnOk, MatchOption};
 ghost use Rattle.gpu_plan.specs.Plans.{plan_of};
 ghost use Rattle.gpu_plan.specs.Passes.{flushes};
-ghost use Rattle.gpu_house.specs.Slots.{slot_at, mark_of};
+ghost use Rattle.gpu_plan.specs.Places.{mark_of};
+ghost use Rattle.gpu_house.specs.Slots.{slot_at};
 ghost use Rattle.house_tests.specs.Alone.{ordered, IsHome, IsOut};
 
 use gpu_fetch::ServiceSide;

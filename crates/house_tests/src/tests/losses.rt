@@ -1,13 +1,13 @@
 ghost use Rattle.std.specs.Prelude.{◌≡◌, ◌<◌, [], ◌∷◌, length, IfOk, OnOk};
 ghost use Rattle.gpu_plan.specs.Plans.{plan_of};
 ghost use Rattle.gpu_plan.specs.Passes.{flushes};
+ghost use Rattle.gpu_plan.specs.Places.{mark_of};
 ghost use Rattle.gpu_fetch.specs.Side.{fresh_side, no_table};
 ghost use Rattle.gpu_fetch.specs.Plain.{IsNext, IsFlush, IsBeside, IsNoteBeside};
 ghost use Rattle.sync_core.specs.Standing.{IsKnown};
 ghost use Rattle.gpu_journal.specs.World.{known};
 ghost use Rattle.gpu_journal.specs.Serial.{order_event};
 ghost use Rattle.house_core.specs.Core.{IsFresh};
-ghost use Rattle.gpu_house.specs.Slots.{mark_of};
 ghost use Rattle.gpu_house.specs.Changes.{with_note};
 ghost use Rattle.gpu_house.specs.Making.{AreFreshResults};
 ghost use Rattle.house_tests.specs.Pair.{SecondIsHome};

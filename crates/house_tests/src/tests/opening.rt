@@ -1,9 +1,9 @@
 ghost use Rattle.std.specs.Prelude.{◌≡◌, ◌<◌, [], ◌∷◌, length, IfOk, OnOk};
 ghost use Rattle.gpu_plan.specs.Plans.{plan_of};
 ghost use Rattle.gpu_plan.specs.Passes.{flushes};
+ghost use Rattle.gpu_plan.specs.Places.{mark_of};
 ghost use Rattle.gpu_fetch.specs.Side.{fresh_side};
 ghost use Rattle.house_core.specs.Core.{IsFresh};
-ghost use Rattle.gpu_house.specs.Slots.{mark_of};
 ghost use Rattle.gpu_house.specs.Making.{fresh_slots, AreFreshResults};
 ghost use Rattle.house_tests.specs.Alone.{IsHome};
 

@@ -1,7 +1,7 @@
 use Rattle.std.proofs.Common.{◌≡◌, ℕ, ◌+◌, ◌-◌, ◌<◌, ◌∷◌, false, List, length, refl, sym, ap, subst, ◌∙◌, arith, length-set, IsSome, unwrap_or}
 use Rattle.std.specs.Prelude.{slice_set, slice_get}
 use Rattle.gpu_plan.specs.Plans.{PlansData, plan_of}
-use Rattle.gpu_plan.specs.Places.{flush_places}
+use Rattle.gpu_plan.specs.Places.{flush_places, mark_of}
 use Rattle.gpu_plan.specs.Passes.{flushes}
 use Rattle.sync_core.specs.Standing.{IsKnown}
 use Rattle.gpu_journal.specs.declared.event.Event.{Event}
@@ -12,7 +12,6 @@ use Rattle.gpu_journal.specs.Serial.{order_event}
 use Rattle.serial_laws.specs.Scripts.{AreLawfulPlans}
 use Rattle.house_core.proofs.Held.{core_lawful, core_legal}
 use Rattle.gpu_house.specs.Names.{table_at}
-use Rattle.gpu_house.specs.Slots.{mark_of}
 use Rattle.gpu_house.specs.Marks.{AreMarked}
 use Rattle.gpu_house.proofs.Places.{set_back}
 use Rattle.gpu_house.proofs.Cases.{not_err}
