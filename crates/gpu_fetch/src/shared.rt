@@ -25,6 +25,8 @@ impl ServiceSide for ServicePass {
 
     ghost mark = { λ n. n.mark };
 
+    ghost note_of = { λ n t. n.table ≡ t };
+
     ghost belongs = { IsOf };
 
     ghost note_belongs = { IsNoteOf };
@@ -66,7 +68,8 @@ impl ServiceSide for ServicePass {
         ServicePass::publish_token(self, words, token);
     }
 
-    fn publish_finish(&mut self, words: &SharedWords) {
+    fn publish_finish(&mut self, words: &SharedWords, results: &()) {
+        let () = *results;
         ServicePass::publish_finish(self, words);
     }
 

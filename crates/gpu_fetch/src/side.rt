@@ -2,7 +2,7 @@ ghost use Rattle.std.specs.Prelude.{◌≡◌, ℕ, ◌+◌, ◌<◌, ◌≤◌,
 ghost use Rattle.std.specs.List.{All};
 ghost use Rattle.std.specs.Option.{IfSome};
 ghost use Rattle.atomic_table.specs.Seated.{TableId};
-ghost use Rattle.gpu_word.specs.Results.{Written, Finish, writes_of, Settles};
+ghost use Rattle.gpu_word.specs.Results.{Written, Finish, finishes_in, writes_of, Settles};
 ghost use Rattle.gpu_cmd.specs.Lawful.{places_of};
 ghost use Rattle.gpu_fetch.specs.Side.{SideData, reach, MayFetch, with_words, with_met, with_finish, with_token, told_more};
 
@@ -34,6 +34,14 @@ pub trait ServiceSide: Drop {
 
     // How many actions the client had done once a note's flush was made: its place and one more, or 0 for no flush.
     ghost mark: { Self.Note → ℕ };
+
+    // A note is of a table of words: what is known of it wherever it lies, where its words are not at hand.
+    ghost note_of: { Self.Note → TableId → Type 0 } = { λ n t. Unit {0} };
+
+    // Results are of a table of result words, and a reader is.
+    ghost results_of: { Self.Results → TableId → Type 0 } = { λ r t. Unit {0} };
+
+    ghost reader_of: { Self.Reader → TableId → Type 0 } = { λ r t. Unit {0} };
 
     // The words and the side are of one stream.
     ghost belongs: { Self → Self.Words → Type 0 };
@@ -100,9 +108,10 @@ pub trait ServiceSide: Drop {
         ensures notes { (n : Self.Note) → note_belongs self.old words.now n → note_belongs self.new words.now n }
         ensures table { table self.new ≡ table self.old };
 
-    /// Publishes one more flush as finished.
-    fn publish_finish(&mut self, words: &Self::Words)
+    /// Publishes one more flush as finished. The finish was counted in the results before.
+    fn publish_finish(&mut self, words: &Self::Words, results: &Self::Results)
         requires belongs { belongs self.old words.now }
+        requires counted { IfSome (written results.now) (λ list. finishes_in list ≡ (side self.old).finished + 1) }
         requires room { (side self.old).finished + 1 < 2 ^ 64 }
 
         ensures finished { side self.new ≡ with_finish (side self.old) }
@@ -117,6 +126,7 @@ pub trait ServiceSide: Drop {
 
         ensures written { written results.new ≡ told_more (written results.old) (writes_of writes.now) }
         ensures takes { (place : ℕ) → takes results.new place ≡ takes results.old place }
+        ensures named { (t : TableId) → results_of results.old t → results_of results.new t }
         ensures belongs { results_belong words.now results.new };
 
     /// Counts one more finish in the result words.
@@ -125,6 +135,7 @@ pub trait ServiceSide: Drop {
 
         ensures written { written results.new ≡ told_more (written results.old) (Finish ∷ []) }
         ensures takes { (place : ℕ) → takes results.new place ≡ takes results.old place }
+        ensures named { (t : TableId) → results_of results.old t → results_of results.new t }
         ensures belongs { results_belong words.now results.new };
 
     /// Takes the reader back: each value that it was given is the last one written to its place, or 0, in a first part of
@@ -136,6 +147,7 @@ pub trait ServiceSide: Drop {
         ensures settled { IfSome (written results.new) (λ list. Settles list (reads reader)) }
         ensures written { written results.new ≡ written results.old }
         ensures takes { (place : ℕ) → takes results.new place ≡ takes results.old place }
+        ensures named { (t : TableId) → results_of results.old t → results_of results.new t }
         ensures belongs { results_belong words.now results.new };
 
     // What holds of a note's stream holds of it without the note.

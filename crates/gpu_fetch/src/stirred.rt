@@ -196,9 +196,9 @@ impl ServiceSide for StirredPass {
         self.pass.publish_token(&self.words, token);
     }
 
-    fn publish_finish(&mut self, words: &()) {
+    fn publish_finish(&mut self, words: &(), results: &()) {
         let () = *words;
-        self.pass.publish_finish(&self.words);
+        self.pass.publish_finish(&self.words, results);
     }
 
     fn publish_results(results: &mut (), words: &(), writes: &[(u32, u32)]) {

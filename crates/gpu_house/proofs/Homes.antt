@@ -53,10 +53,10 @@ order_positive p h run is = first (left_of p h run.stream) (left_positive (sync_
 
 -- ---- all slots
 
-module _ {Side Note : Type 0} (side : Side → SideData) (table : Side → TableId) (mark : Note → ℕ) (p : PlansData) (tables : ℕ → TableId) where
+module _ {Side Note : Type 0} (side : Side → SideData) (table : Side → TableId) (mark : Note → ℕ) (note_of : Note → TableId → Type 0) (p : PlansData) (tables : ℕ → TableId) where
   -- the slot of stream s by this core
   abbrev pub FitsAt : CoreData → ℕ → SlotData Side Note → Type 0
-  FitsAt core s slot = SlotFits side table mark p tables core.past (is_home core.outs s) s slot
+  FitsAt core s slot = SlotFits side table mark note_of p tables core.past (is_home core.outs s) s slot
 
   abbrev pub AllFit : CoreData → List (SlotData Side Note) → Type 0
   AllFit core slots = (k : ℕ) (other : SlotData Side Note) → k < length slots → FitsAt core (suc k) (slice_index_or slots k other)
@@ -76,13 +76,13 @@ module _ {Side Note : Type 0} (side : Side → SideData) (table : Side → Table
 
   pub others_event : (old new : CoreData) (e : Event) → new.past ≡ e ∷ old.past → SameHome old new (stream_in e) → OthersFit old new (stream_in e)
   others_event old new e past homes t slot off fits =
-      subst (λ (h : List Event). SlotFits side table mark p tables h (is_home new.outs t) t slot) (sym past)
-      (other_slot side table mark p tables e old.past (is_home old.outs t) (is_home new.outs t) t slot off (homes t off) fits)
+      subst (λ (h : List Event). SlotFits side table mark note_of p tables h (is_home new.outs t) t slot) (sym past)
+      (other_slot side table mark note_of p tables e old.past (is_home old.outs t) (is_home new.outs t) t slot off (homes t off) fits)
 
   pub others_none : (old new : CoreData) (s : ℕ) → new.past ≡ old.past → SameHome old new s → OthersFit old new s
   others_none old new s past homes t slot off fits =
-      subst (λ (h : List Event). SlotFits side table mark p tables h (is_home new.outs t) t slot) (sym past)
-      (same_slot side table mark p tables old.past (is_home old.outs t) (is_home new.outs t) t slot (homes t off) fits)
+      subst (λ (h : List Event). SlotFits side table mark note_of p tables h (is_home new.outs t) t slot) (sym past)
+      (same_slot side table mark note_of p tables old.past (is_home old.outs t) (is_home new.outs t) t slot (homes t off) fits)
 
   -- one slot is another now
   pub all_set : (old new : CoreData) (slots : List (SlotData Side Note)) (s : ℕ) (slot : SlotData Side Note) → IsKnown (length slots) s → OthersFit old new s → FitsAt new s slot → AllFit old slots → AllFit new (set slots (s - 1) slot)
@@ -99,32 +99,32 @@ module _ {Side Note : Type 0} (side : Side → SideData) (table : Side → Table
   slot_read core slots s t other at known read was = subst (λ (s : ℕ). FitsAt core s other) at (subst (FitsAt core t) (sym (read ∙ slot_there slots t other known)) (slot_fits (FitsAt core) slots t known was))
 
   module _ (books : ℕ → TableId) (run : RunData) (old new : CoreData) (slots : List (SlotData Side Note)) (t : ℕ) (other slot : SlotData Side Note) where
-    set_fits : t ≡ run.stream → IsKnown (length slots) t → OthersFit old new run.stream → new.outs ≡ with_out old.outs run.stream at_home → SlotFits side table mark p tables new.past true run.stream slot → AllFit old slots → AllFit new (set slots (t - 1) slot)
+    set_fits : t ≡ run.stream → IsKnown (length slots) t → OthersFit old new run.stream → new.outs ≡ with_out old.outs run.stream at_home → SlotFits side table mark note_of p tables new.past true run.stream slot → AllFit old slots → AllFit new (set slots (t - 1) slot)
     set_fits at known others outs here was =
         let home : is_home new.outs run.stream ≡ true = ap (λ (row : List Out). is_home row run.stream) outs ∙ home_back old.outs run.stream in
-        all_set old new slots t slot known (subst (OthersFit old new) (sym at) others) (subst (λ (s : ℕ). FitsAt new s slot) (sym at) (same_slot side table mark p tables new.past true (is_home new.outs run.stream) run.stream slot home here)) was
+        all_set old new slots t slot known (subst (OthersFit old new) (sym at) others) (subst (λ (s : ℕ). FitsAt new s slot) (sym at) (same_slot side table mark note_of p tables new.past true (is_home new.outs run.stream) run.stream slot home here)) was
 
     -- while its order is unprocessed, or when its stream has ended
-    pub came_home : (x : Side) (left : Option Note) → t ≡ run.stream → IsKnown (length slots) t → other ≡ slice_index_or slots (t - 1) other → slot ≡ record other { side = Some x; begun = true; first = left } → RunFits side table mark p tables books run x left
-        → OthersFit old new run.stream → new.outs ≡ with_out old.outs run.stream at_home → SlotFits side table mark p tables new.past (is_home old.outs run.stream) run.stream other
+    pub came_home : (x : Side) (left : Option Note) → t ≡ run.stream → IsKnown (length slots) t → other ≡ slice_index_or slots (t - 1) other → slot ≡ record other { side = Some x; begun = true; first = left } → RunFits side table mark note_of p tables books run x left
+        → OthersFit old new run.stream → new.outs ≡ with_out old.outs run.stream at_home → SlotFits side table mark note_of p tables new.past (is_home old.outs run.stream) run.stream other
         → (is_open (standing_of p new.past run.stream) ≡ true → IsRunOf p new.past run × (length (side x).fetched ≡ run.facts.fetched) × (is_home old.outs run.stream ≡ false))
         → AllFit old slots → AllFit new (set slots (t - 1) slot)
     came_home x left at known read is fits others outs own shows was =
-        set_fits at known others outs (subst (SlotFits side table mark p tables new.past true run.stream) (sym is) (back_fits side table mark p tables books run new.past (is_home old.outs run.stream) x left other fits shows own)) was
+        set_fits at known others outs (subst (SlotFits side table mark note_of p tables new.past true run.stream) (sym is) (back_fits side table mark note_of p tables books run new.past (is_home old.outs run.stream) x left other fits shows own)) was
 
     -- with no event
-    pub came_back : (x : Side) (left : Option Note) → t ≡ run.stream → IsKnown (length slots) t → other ≡ slice_index_or slots (t - 1) other → slot ≡ record other { side = Some x; begun = true; first = left } → RunFits side table mark p tables books run x left
+    pub came_back : (x : Side) (left : Option Note) → t ≡ run.stream → IsKnown (length slots) t → other ≡ slice_index_or slots (t - 1) other → slot ≡ record other { side = Some x; begun = true; first = left } → RunFits side table mark note_of p tables books run x left
         → new.past ≡ old.past → new.outs ≡ with_out old.outs run.stream at_home
         → (is_open (standing_of p old.past run.stream) ≡ true → IsRunOf p old.past run × (length (side x).fetched ≡ run.facts.fetched) × (is_home old.outs run.stream ≡ false))
         → AllFit old slots → AllFit new (set slots (t - 1) slot)
     came_back x left at known read is fits past outs shows was =
         let low : 0 < run.stream = fits.of_plans.known.0 in
         came_home x left at known read is fits (others_none old new run.stream past (other_outs old new run.stream at_home low outs)) outs
-        (subst (λ (h : List Event). SlotFits side table mark p tables h (is_home old.outs run.stream) run.stream other) (sym past) (slot_read old slots run.stream t other at known read was))
+        (subst (λ (h : List Event). SlotFits side table mark note_of p tables h (is_home old.outs run.stream) run.stream other) (sym past) (slot_read old slots run.stream t other at known read was))
         (subst (λ (h : List Event). is_open (standing_of p h run.stream) ≡ true → IsRunOf p h run × (length (side x).fetched ≡ run.facts.fetched) × (is_home old.outs run.stream ≡ false)) (sym past) shows) was
 
     -- its stream is lost
-    pub came_lost : (x : Side) (left : Option Note) (why : Why) (words : List (ℕ × ℕ)) → t ≡ run.stream → IsKnown (length slots) t → other ≡ slice_index_or slots (t - 1) other → slot ≡ record other { side = Some x; begun = true; first = left } → RunFits side table mark p tables books run x left
+    pub came_lost : (x : Side) (left : Option Note) (why : Why) (words : List (ℕ × ℕ)) → t ≡ run.stream → IsKnown (length slots) t → other ≡ slice_index_or slots (t - 1) other → slot ≡ record other { side = Some x; begun = true; first = left } → RunFits side table mark note_of p tables books run x left
         → new.past ≡ Lost run.stream why words ∷ old.past → new.outs ≡ with_out old.outs run.stream at_home → AllFit old slots → AllFit new (set slots (t - 1) slot)
     came_lost x left why words at known read is fits past outs was =
         let low : 0 < run.stream = fits.of_plans.known.0 in
@@ -132,19 +132,19 @@ module _ {Side Note : Type 0} (side : Side → SideData) (table : Side → Table
         let over = lost_ends p old.past run.stream why words in
         let over' : is_open (standing_of p new.past run.stream) ≡ false = ap (λ (h : List Event). is_open (standing_of p h run.stream)) past ∙ over in
         came_home x left at known read is fits (others_event old new e past (other_outs old new run.stream at_home low outs)) outs
-        (over_slot side table mark p tables old.past new.past (is_home old.outs run.stream) run.stream other over' (slot_read old slots run.stream t other at known read was))
+        (over_slot side table mark note_of p tables old.past new.past (is_home old.outs run.stream) run.stream other over' (slot_read old slots run.stream t other at known read was))
         (λ o. absurd (cc)) was
 
     -- its order is finished
-    pub came_done : (x done : Side) (left : Option Note) → t ≡ run.stream → IsKnown (length slots) t → other ≡ slice_index_or slots (t - 1) other → slot ≡ record other { side = Some done; begun = false; first = None } → RunFits side table mark p tables books run x left
+    pub came_done : (x done : Side) (left : Option Note) → t ≡ run.stream → IsKnown (length slots) t → other ≡ slice_index_or slots (t - 1) other → slot ≡ record other { side = Some done; begun = false; first = None } → RunFits side table mark note_of p tables books run x left
         → new.past ≡ Finish run.stream run.order ∷ old.past → new.outs ≡ with_out old.outs run.stream at_home → is_open (standing_of p old.past run.stream) ≡ true → IsRunOf p old.past run → run.facts.get ≡ run.facts.put
         → is_home old.outs run.stream ≡ false → side done ≡ with_finish (met_by (option_map mark left) (side x)) → table done ≡ table x → AllFit old slots → AllFit new (set slots (t - 1) slot)
     came_done x done left at known read is fits past outs open' run_of end out told same was =
         let low : 0 < run.stream = fits.of_plans.known.0 in
         let e = Finish run.stream run.order in
-        let here = finish_fits side table mark p tables books run old.past (is_home old.outs run.stream) x done left other fits open' run_of end out told same (slot_read old slots run.stream t other at known read was) in
+        let here = finish_fits side table mark note_of p tables books run old.past (is_home old.outs run.stream) x done left other fits open' run_of end out told same (slot_read old slots run.stream t other at known read was) in
         set_fits at known (others_event old new e past (other_outs old new run.stream at_home low outs)) outs
-        (subst (λ (h : List Event). SlotFits side table mark p tables h true run.stream slot) (sym past) (subst (SlotFits side table mark p tables (e ∷ old.past) true run.stream) (sym is) here)) was
+        (subst (λ (h : List Event). SlotFits side table mark note_of p tables h true run.stream slot) (sym past) (subst (SlotFits side table mark note_of p tables (e ∷ old.past) true run.stream) (sym is) here)) was
 
     -- ---- a side leaves
 
@@ -175,10 +175,10 @@ module _ {Side Note : Type 0} (side : Side → SideData) (table : Side → Table
         let low : 0 < run.stream = it.plan.known.0 in
         let first = left_open p old.past run.stream it.legal (first_some (first_order (left_of p old.past run.stream)) run.order it.run_of.order) in
         let placed = ap (slice_get (flush_places (plan_of p run.stream).actions)) (sym it.run_of.finished) ∙ it.plan.place in
-        let here = left_fits side table mark p tables old.past (is_home old.outs run.stream) run.stream run.place other first.2 placed it.fits in
+        let here = left_fits side table mark note_of p tables old.past (is_home old.outs run.stream) run.stream run.place other first.2 placed it.fits in
         all_set old new slots t slot it.known (subst (OthersFit old new) (sym it.at) (others_none old new run.stream past (other_outs old new run.stream out low outs)))
-        (subst (λ (s : ℕ). FitsAt new s slot) (sym it.at) (same_slot side table mark p tables new.past false (is_home new.outs run.stream) run.stream slot away
-        (subst (λ (h : List Event). SlotFits side table mark p tables h false run.stream slot) (sym past) (subst (SlotFits side table mark p tables old.past false run.stream) (sym is) here)))) was
+        (subst (λ (s : ℕ). FitsAt new s slot) (sym it.at) (same_slot side table mark note_of p tables new.past false (is_home new.outs run.stream) run.stream slot away
+        (subst (λ (h : List Event). SlotFits side table mark note_of p tables h false run.stream slot) (sym past) (subst (SlotFits side table mark note_of p tables old.past false run.stream) (sym is) here)))) was
 
     -- its list of fetches is that of the journal
     pub taken_list : (x : Side) → Taken → other.side ≡ Some x → length (side x).fetched ≡ run.facts.fetched
@@ -196,9 +196,9 @@ module _ {Side Note : Type 0} (side : Side → SideData) (table : Side → Table
     where
       own : (slot : SlotData Side Note) → FitsAt old s slot → FitsAt new s slot
       own slot fits =
-          subst (λ (h : List Event). SlotFits side table mark p tables h (is_home new.outs s) s slot) (sym past)
-          (same_slot side table mark p tables (Step s words ∷ old.past) false (is_home new.outs s) s slot now_out
-          (step_slot side table mark p tables old.past s words slot open' (same_slot side table mark p tables old.past (is_home old.outs s) false s slot (sym was_out) fits)))
+          subst (λ (h : List Event). SlotFits side table mark note_of p tables h (is_home new.outs s) s slot) (sym past)
+          (same_slot side table mark note_of p tables (Step s words ∷ old.past) false (is_home new.outs s) s slot now_out
+          (step_slot side table mark note_of p tables old.past s words slot open' (same_slot side table mark note_of p tables old.past (is_home old.outs s) false s slot (sym was_out) fits)))
 
 -- ---- as contracts see it
 

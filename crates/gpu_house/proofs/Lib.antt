@@ -13,4 +13,6 @@ pub mod Keeping
 pub mod Ordering
 pub mod Fresh
 pub mod Idle
+pub mod Counting
+pub mod Drawings
 mod Applied

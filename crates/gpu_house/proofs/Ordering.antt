@@ -32,22 +32,22 @@ pub pushed_back : {Side Note : Type 0} (slot pushed popped : SlotData Side Note)
 pushed_back {Side} {Note} slot pushed popped note answer push pop =
     (pop slot.notes note (ap (λ (x : SlotData Side Note). x.notes) push)).1 ∙ ap (λ (x : SlotData Side Note). record x { notes = slot.notes }) push
 
-module _ {Side Note : Type 0} (side : Side → SideData) (table : Side → TableId) (mark : Note → ℕ) (p : PlansData) (tables : ℕ → TableId) where
+module _ {Side Note : Type 0} (side : Side → SideData) (table : Side → TableId) (mark : Note → ℕ) (note_of : Note → TableId → Type 0) (p : PlansData) (tables : ℕ → TableId) where
   pub ordered_homes : (old new : CoreData) (slots : List (SlotData Side Note)) (s : ℕ) (note : Note) (slot pushed : SlotData Side Note) → IsLegal p old.past → IsKnown (length slots) s → (standing_of p old.past s).lost ≡ false
-      → (known p old.past s).ordered < flushes (plan_of p s).actions → mark note ≡ mark_of (plan_of p s) (known p old.past s).ordered → new.past ≡ order_event p old.past s ∷ old.past → new.outs ≡ old.outs
-      → slot ≡ get_or slots (s - 1) slot → pushed ≡ record slot { notes = slot.notes ++ note ∷ [] } → AllFit side table mark p tables old slots → AllFit side table mark p tables new (set slots (s - 1) pushed)
-  ordered_homes old new slots s note slot pushed legal here kept next is past outs read push was =
+      → (known p old.past s).ordered < flushes (plan_of p s).actions → mark note ≡ mark_of (plan_of p s) (known p old.past s).ordered → note_of note (tables s) → new.past ≡ order_event p old.past s ∷ old.past → new.outs ≡ old.outs
+      → slot ≡ get_or slots (s - 1) slot → pushed ≡ record slot { notes = slot.notes ++ note ∷ [] } → AllFit side table mark note_of p tables old slots → AllFit side table mark note_of p tables new (set slots (s - 1) pushed)
+  ordered_homes old new slots s note slot pushed legal here kept next is shared past outs read push was =
       let there = flush_there (plan_of p s).actions (known p old.past s).ordered next in
       let n = drawn p old.past + 1 in
       let event : order_event p old.past s ≡ Order s n there.0 = ap (λ (o : Option ℕ). Order s n (unwrap_or o 0)) there.1 in
       let grown : new.past ≡ Order s n there.0 ∷ old.past = past ∙ ap (λ (e : Event). e ∷ old.past) event in
-      let own = slot_fits (FitsAt side table mark p tables old) slots s here was in
+      let own = slot_fits (FitsAt side table mark note_of p tables old) slots s here was in
       let same : slot ≡ slot_at slots s = read ∙ slot_there slots s slot here in
-      let fits = order_slot side table mark p tables old.past (is_home old.outs s) s n there.0 note (slot_at slots s) legal (next_open p old.past s there.0 legal there.1 kept) there.1 is own in
+      let fits = order_slot side table mark note_of p tables old.past (is_home old.outs s) s n there.0 note (slot_at slots s) legal (next_open p old.past s there.0 legal there.1 kept) there.1 is shared own in
       let pushed_is : pushed ≡ record (slot_at slots s) { notes = (slot_at slots s).notes ++ note ∷ [] } = push ∙ ap (λ (x : SlotData Side Note). record x { notes = x.notes ++ note ∷ [] }) same in
-      all_set side table mark p tables old new slots s pushed here
-      (others_event side table mark p tables old new (Order s n there.0) grown (same_outs side table mark p tables old new s outs))
-      (subst (λ (h : List Event). SlotFits side table mark p tables h (is_home new.outs s) s pushed) (sym grown)
-      (subst (λ (row : List Out). SlotFits side table mark p tables (Order s n there.0 ∷ old.past) (is_home row s) s pushed) (sym outs)
-      (subst (SlotFits side table mark p tables (Order s n there.0 ∷ old.past) (is_home old.outs s) s) (sym pushed_is) fits)))
+      all_set side table mark note_of p tables old new slots s pushed here
+      (others_event side table mark note_of p tables old new (Order s n there.0) grown (same_outs side table mark note_of p tables old new s outs))
+      (subst (λ (h : List Event). SlotFits side table mark note_of p tables h (is_home new.outs s) s pushed) (sym grown)
+      (subst (λ (row : List Out). SlotFits side table mark note_of p tables (Order s n there.0 ∷ old.past) (is_home row s) s pushed) (sym outs)
+      (subst (SlotFits side table mark note_of p tables (Order s n there.0 ∷ old.past) (is_home old.outs s) s) (sym pushed_is) fits)))
       was

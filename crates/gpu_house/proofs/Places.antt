@@ -1,8 +1,8 @@
 -- What stands at one place of a row.
-use Rattle.std.proofs.Common.{◌≡◌, ◌≢◌, ℕ, zero, suc, ◌<◌, Some, List, [], ◌∷◌, length, get_or, set, refl, sym, ap, subst, ◌∙◌, arith, length-set}
+use Rattle.std.proofs.Common.{◌≡◌, ◌≢◌, ℕ, zero, suc, ◌<◌, Option, Some, None, List, [], ◌∷◌, length, get_or, set, refl, sym, ap, subst, ◌∙◌, arith, length-set}
 use Rattle.std.specs.Prelude.{IfSome, slice_get}
 use Rattle.std.proofs.lemmas.List.{get_or-set_same, set-get_or}
-use Rattle.std.proofs.lemmas.Option.{slice_get-get_or}
+use Rattle.std.proofs.lemmas.Option.{slice_get-get_or, get_or_from_slice_get}
 
 module _ {X : Type 0} where
   pub slice_get-set_same : (xs : List X) (i : ℕ) (x : X) → i < length xs → slice_get (set xs i x) i ≡ Some x
@@ -26,3 +26,11 @@ module _ {X : Type 0} where
   -- what was read at a place and is put there again changes nothing
   pub set_back : (xs : List X) (i : ℕ) (x : X) → x ≡ get_or xs i x → set xs i x ≡ xs
   set_back xs i x read = ap (set xs i) read ∙ set-get_or xs i x
+
+  -- what holds of each that may be read at a place holds of what stands there
+  pub each_has : (P : X → Type 0) (xs : List X) (i : ℕ) → ((d : X) → P (get_or xs i d)) → IfSome (slice_get xs i) P
+  each_has P xs i each = by (slice_get xs i) refl
+    where
+      by : (found : Option X) → slice_get xs i ≡ found → IfSome found P
+      by None e = tt
+      by (Some x) e = subst P (get_or_from_slice_get xs i x x e) (each x)

@@ -21,9 +21,9 @@ use Rattle.gpu_house.specs.Slots.{RunFits}
 abbrev pub reach_of : PlansData → RunData → ℕ
 reach_of p run = bound (plan_of p run.stream).actions run.finished (run.greatest ∷ [])
 
-module _ {Side Note : Type 0} (side : Side → SideData) (table : Side → TableId) (mark : Note → ℕ) (p : PlansData) (tables books : ℕ → TableId) (run : RunData) where
+module _ {Side Note : Type 0} (side : Side → SideData) (table : Side → TableId) (mark : Note → ℕ) (note_of : Note → TableId → Type 0) (p : PlansData) (tables books : ℕ → TableId) (run : RunData) where
   abbrev pub Fits : Side → Option Note → Type 0
-  Fits x note = RunFits side table mark p tables books run x note
+  Fits x note = RunFits side table mark note_of p tables books run x note
 
   pub side_reaches : (x : Side) (left : Option Note) → Fits x left → reach (side x) ≡ reach_of p run
   side_reaches x left fits =
@@ -45,6 +45,7 @@ module _ {Side Note : Type 0} (side : Side → SideData) (table : Side → Table
         book = fits.book;
         plan = ap (λ (s : SideData). s.plan) told ∙ fits.plan;
         shared = same ∙ fits.shared;
+        note_shared = tt;
         finished = ap (λ (s : SideData). s.finished) told ∙ fits.finished;
         greatest = ap (λ (s : SideData). s.greatest) told ∙ fits.greatest;
         list = subst (λ (l : List (ℕ × ℕ)). run.facts.fetched ≤ length l) (sym list) fits.list;
@@ -75,6 +76,7 @@ module _ {Side Note : Type 0} (side : Side → SideData) (table : Side → Table
         book = fits.book;
         plan = ap (λ (s : SideData). s.plan) told ∙ fits.plan;
         shared = same ∙ fits.shared;
+        note_shared = tt;
         finished = ap (λ (s : SideData). s.finished) told ∙ fits.finished;
         greatest = ap (λ (s : SideData). s.greatest) told ∙ fits.greatest;
         list = subst (λ (l : List (ℕ × ℕ)). run.facts.fetched ≤ length l) (sym list) (omega (arith, many, more));

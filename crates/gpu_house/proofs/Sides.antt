@@ -2,7 +2,7 @@
 use Rattle.std.proofs.Common.{◌≡◌, ℕ, ◌+◌, ◌≤◌, ◌<◌, eqb, Bool, true, false, cond, List, [], ◌∷◌, ◌++◌, length, drop, map, max, is_some, Option, Some, None, refl, sym, ap, subst, ◌∙◌, arith, option_map}
 use Rattle.std.specs.Prelude.{slice_get, IfSome, MatchOption}
 use Rattle.std.proofs.lemmas.List.{drop_all}
-use Rattle.std.proofs.lemmas.List.Elements.{All-nil}
+use Rattle.std.proofs.lemmas.List.Elements.{All-nil, All-cons, All-append, All-drop, All-head}
 use Rattle.std.proofs.Math.Nat.{max-eq_right}
 use Rattle.std.proofs.lemmas.Option.{IfSome_then}
 use Rattle.std.specs.List.{All}
@@ -36,6 +36,11 @@ is_none : {X : Type 0} (o : Option X) → is_some o ≡ false → o ≡ None
 is_none None e = refl
 is_none (Some x) e = absurd (cc)
 
+-- what holds of all holds of the first
+first_of : {X : Type 0} (P : X → Type 0) (xs : List X) → All P xs → IfSome (slice_get xs 0) P
+first_of P [] all = tt
+first_of P (x ∷ xs) all = All-head P x xs all
+
 -- what a side says is the same of two histories
 record SaysSame (p : PlansData) (h g : List Event) (s : ℕ) : Type 0 where
   pub fetched : (state_of p g s).fetched ≡ (state_of p h s).fetched
@@ -50,11 +55,11 @@ home_same p h g s x same f = record {
   met = subst (λ (n : ℕ). x.met ≤ mark_of (plan_of p s) n) (sym same.finished) f.met;
 }
 
-module _ {Side Note : Type 0} (side : Side → SideData) (table : Side → TableId) (mark : Note → ℕ) (p : PlansData) (tables : ℕ → TableId) where
+module _ {Side Note : Type 0} (side : Side → SideData) (table : Side → TableId) (mark : Note → ℕ) (note_of : Note → TableId → Type 0) (p : PlansData) (tables : ℕ → TableId) where
   abbrev Slot : List Event → Bool → ℕ → SlotData Side Note → Type 0
-  Slot h home s slot = SlotFits side table mark p tables h home s slot
+  Slot h home s slot = SlotFits side table mark note_of p tables h home s slot
 
-  notes_same : (h g : List Event) (s : ℕ) (slot : SlotData Side Note) → (known p g s).finished ≡ (known p h s).finished → (known p g s).ordered ≡ (known p h s).ordered → NotesFit side table mark p h s slot → NotesFit side table mark p g s slot
+  notes_same : (h g : List Event) (s : ℕ) (slot : SlotData Side Note) → (known p g s).finished ≡ (known p h s).finished → (known p g s).ordered ≡ (known p h s).ordered → NotesFit side table mark note_of p h s slot → NotesFit side table mark note_of p g s slot
   notes_same h g s slot done ordered f =
       let back = sym done in
       record {
@@ -72,6 +77,8 @@ module _ {Side Note : Type 0} (side : Side → SideData) (table : Side → Table
       let still : is_open (standing_of p (e ∷ h) t) ≡ true → is_open (standing_of p h t) ≡ true = λ o. ap is_open (sym (standing_other p e h t off)) ∙ o in
       record {
         own = f.own;
+        queue_shared = f.queue_shared;
+        first_shared = f.first_shared;
         at_home = f.at_home ∙ sym same;
         away = f.away;
         agrees = λ o. IfSome_then slot.side (f.agrees (still o)) (λ x it. home_same p h (e ∷ h) t (side x) record { fetched = ap (λ (x : Known). x.state.fetched) k; finished = ap (λ (x : Known). x.finished) k; greatest = ap (λ (x : Known). greatest x.tokens) k } it);
@@ -86,12 +93,20 @@ module _ {Side Note : Type 0} (side : Side → SideData) (table : Side → Table
 
   -- of a stream that is lost or closed little is owed
   pub over_slot : (h g : List Event) (home : Bool) (s : ℕ) (slot : SlotData Side Note) → is_open (standing_of p g s) ≡ false → Slot h home s slot → Slot g home s slot
-  over_slot h g home s slot over f = record { own = f.own; at_home = f.at_home; away = f.away; agrees = λ o. absurd (cc); notes = λ o. absurd (cc) }
+  over_slot h g home s slot over f = record {
+    own = f.own;
+    queue_shared = f.queue_shared;
+    first_shared = f.first_shared;
+    at_home = f.at_home;
+    away = f.away;
+    agrees = λ o. absurd (cc);
+    notes = λ o. absurd (cc);
+  }
 
   -- a note stands behind the others
   pub order_slot : (h : List Event) (home : Bool) (s n place : ℕ) (note : Note) (slot : SlotData Side Note) → IsLegal p h → is_open (standing_of p h s) ≡ true → slice_get (flush_places (plan_of p s).actions) (known p h s).ordered ≡ Some place
-      → mark note ≡ mark_of (plan_of p s) (known p h s).ordered → Slot h home s slot → Slot (Order s n place ∷ h) home s (record slot { notes = slot.notes ++ note ∷ [] })
-  order_slot h home s n place note slot legal open' there is f =
+      → mark note ≡ mark_of (plan_of p s) (known p h s).ordered → note_of note (tables s) → Slot h home s slot → Slot (Order s n place ∷ h) home s (record slot { notes = slot.notes ++ note ∷ [] })
+  order_slot h home s n place note slot legal open' there is shared f =
       let k = known_order p h s n place in
       let g = Order s n place ∷ h in
       let done : (known p g s).finished ≡ (known p h s).finished = ap (λ (x : Known). x.finished) k in
@@ -101,6 +116,8 @@ module _ {Side Note : Type 0} (side : Side → SideData) (table : Side → Table
       let low : begun_of (known p h s).finished slot.begun ≤ (known p h s).ordered = upto (known p h s).finished (known p h s).ordered slot.begun few.0 was.begun in
       record {
         own = f.own;
+        queue_shared = All-append (λ note. note_of note (tables s)) slot.notes (note ∷ []) f.queue_shared (All-cons (λ note. note_of note (tables s)) note [] shared (All-nil (λ note. note_of note (tables s))));
+        first_shared = f.first_shared;
         at_home = f.at_home;
         away = f.away;
         agrees = λ o. IfSome_then slot.side (f.agrees open') (λ x it. home_same p h g s (side x) record { fetched = ap (λ (x : Known). x.state.fetched) k; finished = done; greatest = ap (λ (x : Known). greatest x.tokens) k } it);
@@ -121,6 +138,8 @@ module _ {Side Note : Type 0} (side : Side → SideData) (table : Side → Table
   pub step_slot : (h : List Event) (s : ℕ) (words : List (ℕ × ℕ)) (slot : SlotData Side Note) → is_open (standing_of p h s) ≡ true → Slot h false s slot → Slot (Step s words ∷ h) false s slot
   step_slot h s words slot open' f = record {
     own = f.own;
+    queue_shared = f.queue_shared;
+    first_shared = f.first_shared;
     at_home = f.at_home;
     away = f.away;
     agrees = λ o. none_of (λ x. IsAtHome p (Step s words ∷ h) s (side x)) slot.side f.at_home;
@@ -133,19 +152,25 @@ module _ {Side Note : Type 0} (side : Side → SideData) (table : Side → Table
   pub left_fits : (h : List Event) (home : Bool) (s place : ℕ) (slot : SlotData Side Note) → (known p h s).finished < (known p h s).ordered → slice_get (flush_places (plan_of p s).actions) (known p h s).finished ≡ Some place → Slot h home s slot → Slot h false s (left_slot slot)
   left_fits h home s place slot less there f = record {
     own = tt;
+    queue_shared = rest slot.begun;
+    first_shared = tt;
     at_home = refl;
     away = λ e. refl;
     agrees = λ o. tt;
     notes = λ o. record { queued = by slot.begun refl (f.notes o); first = tt; begun = λ b. less; met = λ b n. tt };
   }
     where
-      by : (b : Bool) → slot.begun ≡ b → NotesFit side table mark p h s slot → map mark (cond b slot.notes (drop 1 slot.notes)) ≡ marks_between (plan_of p s) ((known p h s).finished + 1) (known p h s).ordered
+      rest : (b : Bool) → All (λ note. note_of note (tables s)) (cond b slot.notes (drop 1 slot.notes))
+      rest true = f.queue_shared
+      rest false = All-drop (λ note. note_of note (tables s)) 1 slot.notes f.queue_shared
+
+      by : (b : Bool) → slot.begun ≡ b → NotesFit side table mark note_of p h s slot → map mark (cond b slot.notes (drop 1 slot.notes)) ≡ marks_between (plan_of p s) ((known p h s).finished + 1) (known p h s).ordered
       by true e was = was.queued ∙ ap (λ (b : Bool). marks_between (plan_of p s) (begun_of (known p h s).finished b) (known p h s).ordered) e
       by false e was = (queue_first mark (plan_of p s) slot.notes (known p h s).finished (known p h s).ordered place less there (was.queued ∙ ap (λ (b : Bool). marks_between (plan_of p s) (begun_of (known p h s).finished b) (known p h s).ordered) e)).1
 
   module _ (books : ℕ → TableId) (run : RunData) where
     abbrev Run : Side → Option Note → Type 0
-    Run x note = RunFits side table mark p tables books run x note
+    Run x note = RunFits side table mark note_of p tables books run x note
 
     -- the mark of the flush of a run is one more than its place
     run_mark : (h : List Event) (x : Side) (left : Option Note) → Run x left → IsRunOf p h run → mark_of (plan_of p run.stream) (known p h run.stream).finished ≡ run.place + 1
@@ -157,6 +182,8 @@ module _ {Side Note : Type 0} (side : Side → SideData) (table : Side → Table
         → Slot h home run.stream slot → Slot h true run.stream (record slot { side = Some x; begun = true; first = left })
     back_fits h home x left slot fits shows f = record {
       own = (fits.plan, fits.shared);
+      queue_shared = f.queue_shared;
+      first_shared = fits.note_shared;
       at_home = refl;
       away = λ e. refl;
       agrees = λ o. let it = shows o in at_home_of o it.0 it.1;
@@ -182,7 +209,7 @@ module _ {Side Note : Type 0} (side : Side → SideData) (table : Side → Table
         met_of None it is e = record { met = it.noted.0 ∙ sym (run_mark h x None it is); reached = it.noted.1 }
         met_of (Some n) it is e = absurd (cc)
 
-        notes_of : is_open (standing_of p h run.stream) ≡ true → IsRunOf p h run → home ≡ false → NotesFit side table mark p h run.stream (record slot { side = Some x; begun = true; first = left })
+        notes_of : is_open (standing_of p h run.stream) ≡ true → IsRunOf p h run → home ≡ false → NotesFit side table mark note_of p h run.stream (record slot { side = Some x; begun = true; first = left })
         notes_of o is out =
             let begun : slot.begun ≡ true = f.away (is_none slot.side (f.at_home ∙ out)) in
             record {
@@ -221,6 +248,8 @@ module _ {Side Note : Type 0} (side : Side → SideData) (table : Side → Table
         let begun : slot.begun ≡ true = f.away (is_none slot.side (f.at_home ∙ out)) in
         record {
           own = (plan, same ∙ fits.shared);
+          queue_shared = f.queue_shared;
+          first_shared = tt;
           at_home = refl;
           away = λ e. absurd (cc);
           agrees = λ o. record {
@@ -260,6 +289,7 @@ module _ {Side Note : Type 0} (side : Side → SideData) (table : Side → Table
           book = book;
           plan = own.0;
           shared = own.1;
+          note_shared = subst (λ (o : Option Note). IfSome o (λ n. note_of n (tables s))) (sym note) (shared_ahead slot.begun);
           finished = agrees.finished ∙ sym is.finished;
           greatest = agrees.greatest ∙ sym is.greatest;
           list = omega (arith, whole);
@@ -269,7 +299,11 @@ module _ {Side Note : Type 0} (side : Side → SideData) (table : Side → Table
           noted = subst (λ (o : Option Note). Noted x o) (sym note) (by slot.begun refl notes at first.2 there);
         }
       where
-        begun_note : (o : Option Note) → slot.first ≡ o → NotesFit side table mark p h run.stream slot → mark_of (plan_of p run.stream) (known p h run.stream).finished ≡ run.place + 1 → slot.begun ≡ true → slot.side ≡ Some x → Noted x o
+        shared_ahead : (b : Bool) → IfSome (cond b slot.first (slice_get slot.notes 0)) (λ n. note_of n (tables run.stream))
+        shared_ahead true = f.first_shared
+        shared_ahead false = first_of (λ n. note_of n (tables run.stream)) slot.notes f.queue_shared
+
+        begun_note : (o : Option Note) → slot.first ≡ o → NotesFit side table mark note_of p h run.stream slot → mark_of (plan_of p run.stream) (known p h run.stream).finished ≡ run.place + 1 → slot.begun ≡ true → slot.side ≡ Some x → Noted x o
         begun_note None e notes at b there =
             let met = subst (λ (o : Option Side). IfSome o (λ x. HasMet (plan_of p run.stream) (known p h run.stream).finished (side x))) there (notes.met b e) in
             (met.met ∙ at, met.reached)
@@ -279,7 +313,7 @@ module _ {Side Note : Type 0} (side : Side → SideData) (table : Side → Table
         next_note None m = absurd m
         next_note (Some n) m = m
 
-        by : (b : Bool) → slot.begun ≡ b → NotesFit side table mark p h run.stream slot → mark_of (plan_of p run.stream) (known p h run.stream).finished ≡ run.place + 1 → (known p h run.stream).finished < (known p h run.stream).ordered → slot.side ≡ Some x → Noted x (cond b slot.first (slice_get slot.notes 0))
+        by : (b : Bool) → slot.begun ≡ b → NotesFit side table mark note_of p h run.stream slot → mark_of (plan_of p run.stream) (known p h run.stream).finished ≡ run.place + 1 → (known p h run.stream).finished < (known p h run.stream).ordered → slot.side ≡ Some x → Noted x (cond b slot.first (slice_get slot.notes 0))
         by true e notes at less there = begun_note slot.first refl notes at e there
         by false e notes at less there =
             let placed : slice_get (flush_places (plan_of p run.stream).actions) (known p h run.stream).finished ≡ Some run.place = ap (slice_get (flush_places (plan_of p run.stream).actions)) (sym is.finished) ∙ of_plans.place in

@@ -65,9 +65,9 @@ told_reach (WaitName name r) s = omega arith
 told_reach (Pixels op) s = omega arith
 told_reach (Results write) s = omega arith
 
-module _ {Side Note : Type 0} (side : Side → SideData) (table : Side → TableId) (mark : Note → ℕ) (p : PlansData) (tables books : ℕ → TableId) where
+module _ {Side Note : Type 0} (side : Side → SideData) (table : Side → TableId) (mark : Note → ℕ) (note_of : Note → TableId → Type 0) (p : PlansData) (tables books : ℕ → TableId) where
   abbrev Fits : RunData → Side → Option Note → Type 0
-  Fits run x left = RunFits side table mark p tables books run x left
+  Fits run x left = RunFits side table mark note_of p tables books run x left
 
   -- a note of a run can be met
   pub note_marked : (run : RunData) (x : Side) (left : Option Note) → Fits run x left → IfSome left (λ note. 1 ≤ mark note)
@@ -83,6 +83,7 @@ module _ {Side Note : Type 0} (side : Side → SideData) (table : Side → Table
         book = fits.book;
         plan = ap (λ (s : SideData). s.plan) told ∙ fits.plan;
         shared = same ∙ fits.shared;
+        note_shared = tt;
         finished = ap (λ (s : SideData). s.finished) told ∙ fits.finished;
         greatest = ap (λ (s : SideData). s.greatest) told ∙ fits.greatest;
         list = subst (λ (l : List (ℕ × ℕ)). run.facts.fetched ≤ length l) (sym list) fits.list;
@@ -95,7 +96,7 @@ module _ {Side Note : Type 0} (side : Side → SideData) (table : Side → Table
   -- the note is met, where it was not
   pub met_fits : (run : RunData) (x y : Side) (left : Option Note) → Fits run x left → side y ≡ met_by (option_map mark left) (side x) → IfSome left (λ note. (side y).met ≤ reach (side y)) → table y ≡ table x → Fits run y None
   met_fits run x y None fits told bounded same = same_again run x y fits told same
-  met_fits run x y (Some note) fits told bounded same = met_again side table mark p tables books run x y note fits told bounded same
+  met_fits run x y (Some note) fits told bounded same = met_again side table mark note_of p tables books run x y note fits told bounded same
 
   -- the words of a step are the last of the list
   list_is : (run : RunData) (x : Side) (left : Option Note) (words : List (ℕ × ℕ)) → Fits run x left → drop run.facts.fetched (side x).fetched ≡ words → length (side x).fetched ≡ run.facts.fetched + length words
@@ -131,6 +132,7 @@ module _ {Side Note : Type 0} (side : Side → SideData) (table : Side → Table
         book = moved.book ∙ fits.book ∙ ap books (sym here);
         plan = plan ∙ ap (plan_of p) (sym here);
         shared = same ∙ fits.shared ∙ ap tables (sym here);
+        note_shared = tt;
         finished = ap (λ (d : SideData). d.finished) told ∙ told_keeps (λ d. d.finished) (λ d token. refl) effect (side y) ∙ fits.finished ∙ sym moved.finished;
         greatest = ap (λ (d : SideData). d.greatest) told ∙ told_greatest effect (side y) (known p old s).tokens (fits.greatest ∙ was.greatest) ∙ ap greatest (sym tokens) ∙ sym is.greatest;
         list = omega (arith, count);

@@ -2,6 +2,7 @@
 use Rattle.std.proofs.Common.{◌≡◌, ℕ, zero, suc, ◌-◌, ◌<◌, eqb, Bool, true, false, cond, Option, Some, None, List, [], ◌∷◌, ◌++◌, length, refl, sym, ap, subst, ◌∙◌, arith}
 use Rattle.std.specs.Prelude.{IfSome, slice_get, slice_index_or, slice_set}
 use Rattle.std.proofs.lemmas.List.{append-nil}
+use Rattle.atomic_table.specs.Seated.{TableId}
 use Rattle.gpu_word.specs.Results.{Written}
 use Rattle.gpu_plan.specs.Plans.{PlansData}
 use Rattle.gpu_fetch.specs.Side.{told_more}
@@ -38,18 +39,20 @@ written_none p e h s none = written_then p e h s ∙ by (eqb (stream_in e) s)
 
 -- ---- the results of one stream
 
-module _ {Results : Type 0} (takes : Results → ℕ → Bool) (told : Results → Option (List Written)) where
+module _ {Results : Type 0} (takes : Results → ℕ → Bool) (told : Results → Option (List Written)) (results_of : Results → TableId → Type 0) (answers : ℕ → TableId) where
   -- where nothing was written they fit as they are
-  fit_still : (p : PlansData) (old new : List Event) (s : ℕ) (results : Results) → written p new s ≡ written p old s → ResultsFit takes told p old s results → ResultsFit takes told p new s results
+  fit_still : (p : PlansData) (old new : List Event) (s : ℕ) (results : Results) → written p new s ≡ written p old s → ResultsFit takes told results_of answers p old s results → ResultsFit takes told results_of answers p new s results
   fit_still p old new s results same fit = record {
+    shared = fit.shared;
     takes_all = fit.takes_all;
     are_written = subst (λ (l : List Written). IfSome (told results) (λ list. list ≡ l)) (sym same) fit.are_written;
   }
 
   -- where they were written to, they fit what has more
   fit_more : (p : PlansData) (old new : List Event) (s : ℕ) (results now : Results) (more : List Written) → written p new s ≡ written p old s ++ more
-      → told now ≡ told_more (told results) more → ((place : ℕ) → takes now place ≡ takes results place) → ResultsFit takes told p old s results → ResultsFit takes told p new s now
-  fit_more p old new s results now more grown tells same fit = record {
+      → told now ≡ told_more (told results) more → ((place : ℕ) → takes now place ≡ takes results place) → ((t : TableId) → results_of results t → results_of now t) → ResultsFit takes told results_of answers p old s results → ResultsFit takes told results_of answers p new s now
+  fit_more p old new s results now more grown tells same named fit = record {
+    shared = named (answers s) fit.shared;
     takes_all = λ place within. same place ∙ fit.takes_all place within;
     are_written = subst (λ (o : Option (List Written)). IfSome o (λ list. list ≡ written p new s)) (sym tells) (by (told results) fit.are_written);
   }
@@ -62,38 +65,39 @@ module _ {Results : Type 0} (takes : Results → ℕ → Bool) (told : Results �
 
   -- the results of each stream fit
   abbrev pub AllFit : PlansData → List Event → List Results → Type 0
-  AllFit p h results = (k : ℕ) (other : Results) → k < length results → ResultsFit takes told p h (suc k) (slice_index_or results k other)
+  AllFit p h results = (k : ℕ) (other : Results) → k < length results → ResultsFit takes told results_of answers p h (suc k) (slice_index_or results k other)
 
   -- an event that writes nothing leaves them as they are
   pub all_still : (p : PlansData) (e : Event) (h : List Event) (results : List Results) → ((s : ℕ) → written_by p h s e ≡ []) → AllFit p h results → AllFit p (e ∷ h) results
   all_still p e h results none fit = λ k other lt. fit_still p h (e ∷ h) (suc k) (slice_index_or results k other) (written_none p e h (suc k) (none (suc k))) (fit k other lt)
 
   -- those of a known stream, which were read there
-  pub at_stream : (p : PlansData) (h : List Event) (results : List Results) (s : ℕ) (old : Results) → IsKnown (length results) s → old ≡ slice_index_or results (s - 1) old → AllFit p h results → ResultsFit takes told p h s old
+  pub at_stream : (p : PlansData) (h : List Event) (results : List Results) (s : ℕ) (old : Results) → IsKnown (length results) s → old ≡ slice_index_or results (s - 1) old → AllFit p h results → ResultsFit takes told results_of answers p h s old
   at_stream p h results zero old known here fit = absurd (let some = known.0 in omega arith)
   at_stream p h results (suc k) old known here fit =
       let at : suc k - 1 ≡ k = omega arith in
-      subst (ResultsFit takes told p h (suc k)) (sym (here ∙ ap (λ (i : ℕ). slice_index_or results i old) at)) (fit k old (let within = known.1 in omega arith))
+      subst (ResultsFit takes told results_of answers p h (suc k)) (sym (here ∙ ap (λ (i : ℕ). slice_index_or results i old) at)) (fit k old (let within = known.1 in omega arith))
 
   -- the results of one stream alone are written to, by an event of that stream
   pub all_more : (p : PlansData) (e : Event) (h : List Event) (results : List Results) (t : ℕ) (now old : Results) → t ≡ stream_in e → IsKnown (length results) t → old ≡ slice_index_or results (t - 1) old
-      → told now ≡ told_more (told old) (written_by p h (stream_in e) e) → ((place : ℕ) → takes now place ≡ takes old place) → AllFit p h results → AllFit p (e ∷ h) (slice_set results (t - 1) now)
-  all_more p e h results t now old own known here tells same fit =
-      let was : ResultsFit takes told p h t old = at_stream p h results t old known here fit in
+      → told now ≡ told_more (told old) (written_by p h (stream_in e) e) → ((place : ℕ) → takes now place ≡ takes old place) → ((t : TableId) → results_of old t → results_of now t) → AllFit p h results → AllFit p (e ∷ h) (slice_set results (t - 1) now)
+  all_more p e h results t now old own known here tells same named fit =
+      let was : ResultsFit takes told results_of answers p h t old = at_stream p h results t old known here fit in
       let grown = subst (λ (s : ℕ). written p (e ∷ h) s ≡ written p h s ++ written_by p h (stream_in e) e) (sym own) (written_own p e h) in
-      each_set (ResultsFit takes told p h) (ResultsFit takes told p (e ∷ h)) results t now known (fit_more p h (e ∷ h) t old now (written_by p h (stream_in e) e) grown tells same was)
+      each_set (ResultsFit takes told results_of answers p h) (ResultsFit takes told results_of answers p (e ∷ h)) results t now known (fit_more p h (e ∷ h) t old now (written_by p h (stream_in e) e) grown tells same named was)
       (λ u other off was. fit_still p h (e ∷ h) u other (written_other p e h u (ap (λ (s : ℕ). eqb s u) (sym own) ∙ off)) was) fit
 
   -- the results of one stream tell and take what they did
   pub all_told : (p : PlansData) (h : List Event) (results : List Results) (s : ℕ) (now old : Results) → IsKnown (length results) s → old ≡ slice_index_or results (s - 1) old
-      → told now ≡ told old → ((place : ℕ) → takes now place ≡ takes old place) → AllFit p h results → AllFit p h (slice_set results (s - 1) now)
-  all_told p h results s now old known here tells same fit =
+      → told now ≡ told old → ((place : ℕ) → takes now place ≡ takes old place) → ((t : TableId) → results_of old t → results_of now t) → AllFit p h results → AllFit p h (slice_set results (s - 1) now)
+  all_told p h results s now old known here tells same named fit =
       let was = at_stream p h results s old known here fit in
-      let fits : ResultsFit takes told p h s now = record {
+      let fits : ResultsFit takes told results_of answers p h s now = record {
+        shared = named (answers s) was.shared;
         takes_all = λ place lt. same place ∙ was.takes_all place lt;
         are_written = subst (λ (o : Option (List Written)). IfSome o (λ list. list ≡ written p h s)) (sym tells) was.are_written;
       } in
-      each_set (ResultsFit takes told p h) (ResultsFit takes told p h) results s now known fits (λ u other off was. was) fit
+      each_set (ResultsFit takes told results_of answers p h) (ResultsFit takes told results_of answers p h) results s now known fits (λ u other off was. was) fit
 
 module _ {Results Words : Type 0} (results_belong : Words → Results → Type 0) where
   -- what is read of the results of a stream belongs with its words

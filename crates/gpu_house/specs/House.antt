@@ -33,20 +33,22 @@ pub record ReportData : Type 0 where
   pub base : ℕ
   pub past : List Event
 
-module _ {Results : Type 0} (takes : Results → ℕ → Bool) (told : Results → Option (List Written)) where
-  -- the results of stream s take each of its result places, and where they tell what was written, that is what the journal's steps wrote
+module _ {Results : Type 0} (takes : Results → ℕ → Bool) (told : Results → Option (List Written)) (results_of : Results → TableId → Type 0) (tables : ℕ → TableId) where
+  -- the results of stream s are of its result words and take each of its result places, and where they tell what was written, that
+  -- is what the journal's steps wrote
   pub record ResultsFit (p : PlansData) (h : List Event) (s : ℕ) (results : Results) : Type 0 where
+    pub shared : results_of results (tables s)
     pub takes_all : (place : ℕ) → place < words_in (plan_of p s).areas.results → takes results place ≡ true
     pub are_written : IfSome (told results) (λ list. list ≡ written p h s)
 
 -- all clauses of a house: those of its core, which `CoreInvariant` names one by one, and those of the parts beside it
-module _ {Side Note Results : Type 0} (side : Side → SideData) (table : Side → TableId) (mark : Note → ℕ) (takes : Results → ℕ → Bool) (told : Results → Option (List Written)) where
-  pub record HouseInvariant (p : PlansData) (base : ℕ) (words books : List TableId) (marks : Marks) (house : HouseData Side Note Results) : Type 0 where
+module _ {Side Note Results : Type 0} (side : Side → SideData) (table : Side → TableId) (mark : Note → ℕ) (note_of : Note → TableId → Type 0) (takes : Results → ℕ → Bool) (told : Results → Option (List Written)) (results_of : Results → TableId → Type 0) where
+  pub record HouseInvariant (p : PlansData) (base : ℕ) (words books result_words : List TableId) (marks : Marks) (house : HouseData Side Note Results) : Type 0 where
     pub core : IsCore house.core
     pub plans : house.core.plans ≡ p
     pub booked : house.core.books ≡ books
     pub slots : length house.slots ≡ length p.plans
-    pub homes : (k : ℕ) (other : SlotData Side Note) → k < length house.slots → SlotFits side table mark p (table_at words) house.core.past (is_home house.core.outs (suc k)) (suc k) (slice_index_or house.slots k other)
+    pub homes : (k : ℕ) (other : SlotData Side Note) → k < length house.slots → SlotFits side table mark note_of p (table_at words) house.core.past (is_home house.core.outs (suc k)) (suc k) (slice_index_or house.slots k other)
     pub marked : AreMarked p base house.core.past marks
     pub result_count : length house.results ≡ length p.plans
-    pub results : (k : ℕ) (other : Results) → k < length house.results → ResultsFit takes told p house.core.past (suc k) (slice_index_or house.results k other)
+    pub results : (k : ℕ) (other : Results) → k < length house.results → ResultsFit takes told results_of (table_at result_words) p house.core.past (suc k) (slice_index_or house.results k other)

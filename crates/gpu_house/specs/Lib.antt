@@ -6,5 +6,6 @@ pub mod Making
 pub mod Ending
 pub mod Changes
 pub mod Steps
+pub mod Drawing
 pub mod Laws
 pub mod Waiting

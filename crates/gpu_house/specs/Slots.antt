@@ -62,7 +62,7 @@ pub record IsAtHome (p : PlansData) (h : List Event) (s : ℕ) (side : SideData)
   pub greatest : side.greatest ≡ greatest (known p h s).tokens
   pub met : side.met ≤ mark_of (plan_of p s) (known p h s).finished
 
-module _ {Side Note : Type 0} (side : Side → SideData) (table : Side → TableId) (mark : Note → ℕ) where
+module _ {Side Note : Type 0} (side : Side → SideData) (table : Side → TableId) (mark : Note → ℕ) (note_of : Note → TableId → Type 0) where
   -- the notes of stream s: those in the queue are of its orders that are not begun, and one that was taken out and not met is of
   -- the first; where the first was met, the side at home has met it
   pub record NotesFit (p : PlansData) (h : List Event) (s : ℕ) (slot : SlotData Side Note) : Type 0 where
@@ -71,9 +71,12 @@ module _ {Side Note : Type 0} (side : Side → SideData) (table : Side → Table
     pub begun : slot.begun ≡ true → (known p h s).finished < (known p h s).ordered
     pub met : slot.begun ≡ true → slot.first ≡ None → IfSome slot.side (λ x. HasMet (plan_of p s) (known p h s).finished (side x))
 
-  -- the slot of stream s, of which a run is out or none; a side leaves with the note of its first order
+  -- the slot of stream s, of which a run is out or none; a side leaves with the note of its first order. Its side and its notes
+  -- are of the words of the stream, also once that is lost
   pub record SlotFits (p : PlansData) (tables : ℕ → TableId) (h : List Event) (home : Bool) (s : ℕ) (slot : SlotData Side Note) : Type 0 where
     pub own : IfSome slot.side (λ x. ((side x).plan ≡ plan_of p s) × (table x ≡ tables s))
+    pub queue_shared : All (λ note. note_of note (tables s)) slot.notes
+    pub first_shared : IfSome slot.first (λ note. note_of note (tables s))
     pub at_home : is_some slot.side ≡ home
     pub away : slot.side ≡ None → slot.begun ≡ true
     pub agrees : is_open (standing_of p h s) ≡ true → IfSome slot.side (λ x. IsAtHome p h s (side x))
@@ -87,6 +90,7 @@ module _ {Side Note : Type 0} (side : Side → SideData) (table : Side → Table
     pub book : run.book ≡ books run.stream
     pub plan : (side x).plan ≡ plan_of p run.stream
     pub shared : table x ≡ tables run.stream
+    pub note_shared : IfSome note (λ n. note_of n (tables run.stream))
     pub finished : (side x).finished ≡ run.finished
     pub greatest : (side x).greatest ≡ run.greatest
     pub list : run.facts.fetched ≤ length (side x).fetched

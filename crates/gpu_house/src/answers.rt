@@ -1,4 +1,7 @@
+ghost use Rattle.std.specs.Prelude.{◌≡◌, None};
+
 use gpu_cmd::CmdError;
+use gpu_store::Op;
 use sync_core::OrderFault;
 
 /// What a stream is doing.
@@ -29,6 +32,31 @@ pub enum Next {
     Lost,
     /// The stream was closed before. Nothing has changed.
     Closed,
+}
+
+/// How far a step has brought its run.
+#[derive(Drop)]
+pub struct Progress {
+    /// What the run goes on with.
+    pub next: Next,
+    /// The image operation of the step, where it has one and that was answered Done.
+    pub drawn: Option<Op>,
+}
+
+impl Progress {
+    // No step was executed.
+    pub(crate) fn without_step(next: Next) -> Progress
+        ensures { result ≡ record { next = next; drawn = None } }
+    {
+        Progress { next, drawn: None }
+    }
+
+    /// What the run goes on with, where no view follows the images.
+    pub fn into_next(self) -> Next
+        ensures { result ≡ self.next }
+    {
+        self.next
+    }
 }
 
 /// A flush that was not ordered, and why. Its note comes back.

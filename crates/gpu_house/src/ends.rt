@@ -22,7 +22,8 @@ impl<N: Naming, P: ServiceSide, H: Hook> House<N, P, H> {
     /// Loses a stream for want of memory, where it is neither lost nor closed. It takes no memory.
     pub fn lose_client(&mut self, stream: u32)
         requires known { IsKnown (length N.plans.plans) stream }
-        ensures event { is_open (standing_of N.plans self.old.core.past stream) ≡ true → Appends self.old self.new (Lost stream Memory []) }
+        ensures event { is_open (standing_of N.plans self.old.core.past stream) ≡ true
+            → Appends self.old self.new (Lost stream Memory []) }
         ensures over { is_open (standing_of N.plans self.old.core.past stream) ≡ false → Same self.old self.new }
     {
         let House { core, hooks, .. } = self;
@@ -36,9 +37,13 @@ impl<N: Naming, P: ServiceSide, H: Hook> House<N, P, H> {
         requires known { IsKnown (length N.plans.plans) stream }
         requires closes { is_closed (plan_of N.plans stream).actions ≡ true }
         ensures lost { (result ≡ Closing.Lost) ↔ ((standing_of N.plans self.old.core.past stream).lost ≡ true) }
-        ensures early { (result ≡ Closing.Early) ↔ ((is_open (standing_of N.plans self.old.core.past stream) ≡ true) × (MayClose N.plans self.old.core.past stream → ⊥)) }
-        ensures event { result ≡ Closing.Closed → is_open (standing_of N.plans self.old.core.past stream) ≡ true → Appends self.old self.new (Close stream) }
-        ensures same { (result ≡ Closing.Closed → is_open (standing_of N.plans self.old.core.past stream) ≡ true → ⊥) → Same self.old self.new }
+        ensures early { (result ≡ Closing.Early)
+            ↔ ((is_open (standing_of N.plans self.old.core.past stream) ≡ true)
+            × (MayClose N.plans self.old.core.past stream → ⊥)) }
+        ensures event { result ≡ Closing.Closed → is_open (standing_of N.plans self.old.core.past stream) ≡ true
+            → Appends self.old self.new (Close stream) }
+        ensures same { (result ≡ Closing.Closed → is_open (standing_of N.plans self.old.core.past stream) ≡ true
+            → ⊥) → Same self.old self.new }
     {
         let House { core, hooks, .. } = self;
         let closing = core.close(stream);
@@ -53,8 +58,10 @@ impl<N: Naming, P: ServiceSide, H: Hook> House<N, P, H> {
         requires known { IsKnown (length N.plans.plans) stream }
         requires results { ResultsBelong P.results_belong words.now self.old.results stream }
         requires reader { P.reader_belongs words.now reader }
-        ensures settled { IfSome (slice_get self.new.results (stream - 1)) (λ own. IfSome (P.written own) (λ list. Settles list (P.reads reader))) }
-        ensures told { IfSome (slice_get self.new.results (stream - 1)) (λ own. IfSome (P.written own) (λ list. list ≡ written N.plans self.old.core.past stream)) }
+        ensures settled { IfSome (slice_get self.new.results (stream - 1))
+            (λ own. IfSome (P.written own) (λ list. Settles list (P.reads reader))) }
+        ensures told { IfSome (slice_get self.new.results (stream - 1))
+            (λ own. IfSome (P.written own) (λ list. list ≡ written N.plans self.old.core.past stream)) }
         ensures core { self.new.core ≡ self.old.core }
         ensures slots { self.new.slots ≡ self.old.slots }
         ensures results { WroteResults P.results_belong words.now self.old.results self.new.results stream }

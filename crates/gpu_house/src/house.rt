@@ -11,6 +11,7 @@ ghost use Rattle.house_core.specs.Core.{names_of, IsFresh};
 ghost use Rattle.house_core.specs.Desks.{at_home};
 ghost use Rattle.gpu_house.specs.Making.{fresh_slots, AreFreshSides, AreFreshResults};
 ghost use Rattle.gpu_house.specs.Ending.{doing_of};
+ghost use Rattle.gpu_house.specs.Names.{table_at};
 ghost use Rattle.gpu_house.specs.Slots.{slot_at};
 
 use crate::answers::Doing;
@@ -52,7 +53,7 @@ impl<N: Naming, P: ServiceSide, H: Hook> Model for House<N, P, H> {
 
     ghost view = { λ h. record { core = h.core; slots = h.slots.items; results = h.results.items } };
 
-    ghost invariant = { λ h. HouseInvariant P.side P.table P.mark P.takes P.written N.plans N.base N.words N.books h.hooks record { core = h.core; slots = h.slots.items; results = h.results.items } };
+    ghost invariant = { λ h. HouseInvariant P.side P.table P.mark P.note_of P.takes P.written P.results_of N.plans N.base N.words N.books N.result_words h.hooks record { core = h.core; slots = h.slots.items; results = h.results.items } };
 }
 
 impl<N: Naming, P: ServiceSide, H: Hook> House<N, P, H> {
@@ -68,7 +69,8 @@ impl<N: Naming, P: ServiceSide, H: Hook> House<N, P, H> {
         requires plans { plans ≡ N.plans }
         requires base { H.base hook ≡ N.base }
         requires sides { AreFreshSides P.side P.table plans.plans N.words sides.items }
-        requires results { AreFreshResults P.takes P.written plans.plans results.items }
+        requires results { AreFreshResults P.takes P.written P.results_of (table_at N.result_words)
+            1 plans.plans results.items }
         requires books { (names_of books.items ≡ N.books) × (length books.items ≡ length plans.plans) }
         requires fresh { All IsFresh books.items }
         ensures past { IfOk result (λ house. house.core.past ≡ []) }
@@ -138,7 +140,8 @@ impl<N: Naming, P: ServiceSide, H: Hook> House<N, P, H> {
     pub fn finishes(&self, stream: u32) -> u32
         requires { IsKnown (length N.plans.plans) stream }
         ensures value { result ≡ (known N.plans self.now.core.past stream).finished }
-        ensures home { is_open (standing_of N.plans self.now.core.past stream) ≡ true → IfSome (slot_at self.now.slots stream).side (λ side. (P.side side).finished ≡ result) }
+        ensures home { is_open (standing_of N.plans self.now.core.past stream) ≡ true
+            → IfSome (slot_at self.now.slots stream).side (λ side. (P.side side).finished ≡ result) }
     {
         self.core.finishes(stream)
     }
@@ -147,7 +150,8 @@ impl<N: Naming, P: ServiceSide, H: Hook> House<N, P, H> {
     pub fn greatest(&self, stream: u32) -> u32
         requires { IsKnown (length N.plans.plans) stream }
         ensures value { result ≡ greatest (known N.plans self.now.core.past stream).tokens }
-        ensures home { is_open (standing_of N.plans self.now.core.past stream) ≡ true → IfSome (slot_at self.now.slots stream).side (λ side. (P.side side).greatest ≡ result) }
+        ensures home { is_open (standing_of N.plans self.now.core.past stream) ≡ true
+            → IfSome (slot_at self.now.slots stream).side (λ side. (P.side side).greatest ≡ result) }
     {
         self.core.greatest(stream)
     }

@@ -18,7 +18,7 @@ mod runs;
 mod slot;
 mod steps;
 
-pub use answers::{Doing, Next, OrderRefused};
+pub use answers::{Doing, Next, OrderRefused, Progress};
 pub use house::House;
 pub use house_core::Closing;
 pub use laws::none_is_taken_where_no_number_is_left;

@@ -18,6 +18,12 @@ pub trait Naming {
 
     // Of each stream, in order, its book.
     ghost books: { List TableId };
+
+    // Of each stream, in order, the queue of its flushes on their way to the house.
+    ghost queues: { List TableId };
+
+    // Of each stream, in order, the table of result words that it shares with its client.
+    ghost result_words: { List TableId };
 }
 
 impl Naming for Brand {
@@ -31,4 +37,8 @@ impl Naming for Brand {
     ghost words = { [] };
 
     ghost books = { [] };
+
+    ghost queues = { [] };
+
+    ghost result_words = { [] };
 }

@@ -7,6 +7,7 @@ ghost use Rattle.sync_core.specs.Standing.{IsKnown};
 ghost use Rattle.gpu_journal.specs.World.{known};
 ghost use Rattle.gpu_journal.specs.Waits.{standing_of, drawn};
 ghost use Rattle.gpu_journal.specs.Serial.{order_event};
+ghost use Rattle.gpu_house.specs.Names.{table_at};
 ghost use Rattle.gpu_house.specs.Changes.{Same, with_note};
 
 use crate::answers::OrderRefused;
@@ -22,7 +23,7 @@ const MOST_FENCES: usize = 16;
 
 impl<N: Naming, P: ServiceSide, H: Hook> House<N, P, H> {
     /// The first flush of a stream that has no order draws the next order number, and its fences are judged. The note is of this
-    /// flush.
+    /// flush, and of the words of the stream.
     ///
     /// # Errors
     ///
@@ -30,13 +31,17 @@ impl<N: Naming, P: ServiceSide, H: Hook> House<N, P, H> {
     pub fn order(&mut self, stream: u32, note: P::Note) -> Result<u32, OrderRefused<P::Note>>
         requires known { IsKnown (length N.plans.plans) stream }
         requires next { (known N.plans self.old.core.past stream).ordered < flushes (plan_of N.plans stream).actions }
-        requires note { P.mark note ≡ mark_of (plan_of N.plans stream) (known N.plans self.old.core.past stream).ordered }
+        requires note { P.mark note
+            ≡ mark_of (plan_of N.plans stream) (known N.plans self.old.core.past stream).ordered }
+        requires table { P.note_of note (table_at N.words stream) }
         ensures number { IfOk result (λ n. n ≡ drawn N.plans self.old.core.past + 1) }
-        ensures event { OnOk result (self.new.core.past ≡ order_event N.plans self.old.core.past stream ∷ self.old.core.past) }
+        ensures event { OnOk result (self.new.core.past
+            ≡ order_event N.plans self.old.core.past stream ∷ self.old.core.past) }
         ensures outs { self.new.core.outs ≡ self.old.core.outs }
         ensures slots { OnOk result (self.new.slots ≡ with_note self.old.slots stream note) }
         ensures results { self.new.results ≡ self.old.results }
-        ensures lost { IsErrAnd result (λ refused. refused.why ≡ OrderFault.Lost) ↔ ((standing_of N.plans self.old.core.past stream).lost ≡ true) }
+        ensures lost { IsErrAnd result (λ refused. refused.why ≡ OrderFault.Lost)
+            ↔ ((standing_of N.plans self.old.core.past stream).lost ≡ true) }
         ensures back { IfErr result (λ refused. refused.note ≡ note) }
         ensures err { OnErr result (Same self.old self.new) }
     {

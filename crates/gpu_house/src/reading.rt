@@ -1,7 +1,8 @@
 //! What is known of streams and of waits.
-ghost use Rattle.std.specs.Prelude.{◌≡◌, length};
+ghost use Rattle.std.specs.Prelude.{◌≡◌, ℕ, ◌-◌, length, slice_get, IfSome};
 ghost use Rattle.sync_core.specs.Standing.{IsKnown, is_open};
 ghost use Rattle.gpu_journal.specs.Waits.{standing_of};
+ghost use Rattle.gpu_house.specs.Names.{table_at};
 ghost use Rattle.gpu_house.specs.Waiting.{HaveTargets, FormNoCycle};
 
 use crate::house::House;
@@ -26,12 +27,15 @@ impl<N: Naming, P: ServiceSide, H: Hook> House<N, P, H> {
         self.core.is_open(stream)
     }
 
-    /// The law of the waits of a house: each pending wait names another stream, which is neither lost nor closed and has a lower
-    /// unprocessed number, and no waits form a cycle. It changes nothing.
+    /// What the type of a house keeps, for a house that comes out of a lock: each pending wait names another stream, which is neither
+    /// lost nor closed and has a lower unprocessed number, and no waits form a cycle; and the results of each stream are of its
+    /// result words. It changes nothing.
     #[tactic(auto, using(sync_core::proofs::Targets::waits_go_down, sync_core::proofs::Targets::no_cycle))]
     pub fn holds(&self)
         ensures targets { HaveTargets N.plans self.now.core.past }
         ensures no_cycle { FormNoCycle N.plans self.now.core.past }
+        ensures results { (stream : ℕ) → IsKnown (length N.plans.plans) stream
+            → IfSome (slice_get self.now.results (stream - 1)) (λ own. P.results_of own (table_at N.result_words stream)) }
     {
         let _ = &self.core;
     }

@@ -23,7 +23,8 @@ use wait_hooks::Hook;
 impl<N: Naming, P: ServiceSide, H: Hook> House<N, P, H> {
     /// A run of the stream that the scheduler chooses among those at home, with the stream's side; `None` where none of them can run.
     pub fn take(&mut self) -> Option<Run<N, P>>
-        ensures choice { option_map (λ (out : OutData P P.Note). out.run.stream) result ≡ choice_at_home N.plans self.old.core.past (is_home self.old.core.outs) }
+        ensures choice { option_map (λ (out : OutData P P.Note). out.run.stream) result
+            ≡ choice_at_home N.plans self.old.core.past (is_home self.old.core.outs) }
         ensures none { IfNone result (Same self.old self.new) }
         ensures past { self.new.core.past ≡ self.old.core.past }
         ensures results { self.new.results ≡ self.old.results }
@@ -32,8 +33,12 @@ impl<N: Naming, P: ServiceSide, H: Hook> House<N, P, H> {
         ensures side { IfSome result (λ out. Some out.side ≡ (slot_at self.old.slots out.run.stream).side) }
         ensures note { IfSome result (λ out. out.note ≡ note_ahead (slot_at self.old.slots out.run.stream)) }
         ensures list { IfSome result (λ out. length (P.side out.side).fetched ≡ out.run.facts.fetched) }
-        ensures outs { IfSome result (λ out. self.new.core.outs ≡ with_out self.old.core.outs out.run.stream record { order = out.run.order; paused = false }) }
-        ensures slots { IfSome result (λ out. self.new.slots ≡ with_slot self.old.slots out.run.stream (left_slot (slot_at self.old.slots out.run.stream))) }
+        ensures outs { IfSome result
+            (λ out. self.new.core.outs
+            ≡ with_out self.old.core.outs out.run.stream record { order = out.run.order; paused = false }) }
+        ensures slots { IfSome result
+            (λ out. self.new.slots
+            ≡ with_slot self.old.slots out.run.stream (left_slot (slot_at self.old.slots out.run.stream))) }
     {
         let House {
             alloc,
@@ -63,11 +68,15 @@ impl<N: Naming, P: ServiceSide, H: Hook> House<N, P, H> {
         requires belongs { P.belongs run.side words.now }
         requires note { IfSome run.note (P.note_belongs run.side words.now) }
         requires results { ResultsBelong P.results_belong words.now self.old.results run.run.stream }
-        ensures event { is_open (standing_of N.plans self.old.core.past run.run.stream) ≡ true → self.new.core.past ≡ Finish run.run.stream run.run.order ∷ self.old.core.past }
-        ensures over { is_open (standing_of N.plans self.old.core.past run.run.stream) ≡ false → self.new.core.past ≡ self.old.core.past }
+        ensures event { is_open (standing_of N.plans self.old.core.past run.run.stream) ≡ true
+            → self.new.core.past ≡ Finish run.run.stream run.run.order ∷ self.old.core.past }
+        ensures over { is_open (standing_of N.plans self.old.core.past run.run.stream) ≡ false
+            → self.new.core.past ≡ self.old.core.past }
         ensures outs { self.new.core.outs ≡ with_out self.old.core.outs run.run.stream at_home }
-        ensures done { is_open (standing_of N.plans self.old.core.past run.run.stream) ≡ true → CameDone P.side P.mark P.belongs P.note_belongs words.now self.old.slots self.new.slots run.run.stream run.side run.note }
-        ensures home { is_open (standing_of N.plans self.old.core.past run.run.stream) ≡ false → self.new.slots ≡ with_side self.old.slots run.run.stream run.side run.note }
+        ensures done { is_open (standing_of N.plans self.old.core.past run.run.stream) ≡ true
+            → CameDone P.side P.mark P.belongs P.note_belongs words.now self.old.slots self.new.slots run.run.stream run.side run.note }
+        ensures home { is_open (standing_of N.plans self.old.core.past run.run.stream) ≡ false
+            → self.new.slots ≡ with_side self.old.slots run.run.stream run.side run.note }
         ensures results { WroteResults P.results_belong words.now self.old.results self.new.results run.run.stream }
     {
         let Run {
@@ -95,14 +104,16 @@ impl<N: Naming, P: ServiceSide, H: Hook> House<N, P, H> {
         core.finish(carried);
         core.holds();
         follow(core, hooks);
-        P::count_finish(&mut results[stream as usize - 1], words);
-        side.publish_finish(words);
+        let own = &mut results[stream as usize - 1];
+        P::count_finish(own, words);
+        side.publish_finish(words, own);
         slot.finish(side);
     }
 
     /// Takes a run back, with its note where no fetch has met that. The journal stays.
     pub fn back(&mut self, run: Run<N, P>)
-        requires list { is_open (standing_of N.plans self.old.core.past run.run.stream) ≡ true → length (P.side run.side).fetched ≡ run.run.facts.fetched }
+        requires list { is_open (standing_of N.plans self.old.core.past run.run.stream) ≡ true
+            → length (P.side run.side).fetched ≡ run.run.facts.fetched }
         ensures past { self.new.core.past ≡ self.old.core.past }
         ensures outs { self.new.core.outs ≡ with_out self.old.core.outs run.run.stream at_home }
         ensures slots { self.new.slots ≡ with_side self.old.slots run.run.stream run.side run.note }
@@ -123,8 +134,10 @@ impl<N: Naming, P: ServiceSide, H: Hook> House<N, P, H> {
     /// Loses the stream of a run for want of memory, where it is neither lost nor closed, and takes the run back. It takes no
     /// memory.
     pub fn lose(&mut self, run: Run<N, P>)
-        ensures event { is_open (standing_of N.plans self.old.core.past run.run.stream) ≡ true → self.new.core.past ≡ Lost run.run.stream Memory [] ∷ self.old.core.past }
-        ensures over { is_open (standing_of N.plans self.old.core.past run.run.stream) ≡ false → self.new.core.past ≡ self.old.core.past }
+        ensures event { is_open (standing_of N.plans self.old.core.past run.run.stream) ≡ true
+            → self.new.core.past ≡ Lost run.run.stream Memory [] ∷ self.old.core.past }
+        ensures over { is_open (standing_of N.plans self.old.core.past run.run.stream) ≡ false
+            → self.new.core.past ≡ self.old.core.past }
         ensures outs { self.new.core.outs ≡ with_out self.old.core.outs run.run.stream at_home }
         ensures slots { self.new.slots ≡ with_side self.old.slots run.run.stream run.side run.note }
         ensures results { self.new.results ≡ self.old.results }

@@ -53,7 +53,8 @@ impl<S: Drop, T: Drop> Slot<S, T> {
 
     /// The last note comes back.
     pub fn pop_last(&mut self) -> Option<T>
-        ensures { (notes : List T) (note : T) → self.old.notes ≡ notes ++ note ∷ [] → (result ≡ Some note) × (self.new ≡ record self.old { notes = notes }) }
+        ensures { (notes : List T) (note : T) → self.old.notes ≡ notes ++ note ∷ []
+            → (result ≡ Some note) × (self.new ≡ record self.old { notes = notes }) }
     {
         self.notes.pop_back()
     }

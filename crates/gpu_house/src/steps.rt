@@ -1,19 +1,23 @@
 //! Steps of runs that are out, under the lock.
 ghost use Rattle.std.specs.Prelude.{◌≡◌, ◌≢◌, ℕ, false, drop, IsTrue, IfOk, IfSome, OnErr};
 ghost use Rattle.std.specs.List.{All};
+ghost use Rattle.atomic_table.specs.Seated.{TableId};
 ghost use Rattle.gpu_word.specs.Results.{writes_of};
 ghost use Rattle.gpu_fetch.specs.Side.{told_more};
 ghost use Rattle.stream_state.specs.Told.{writes_told};
+ghost use Rattle.gpu_journal.specs.World.{replay};
 ghost use Rattle.gpu_house.specs.Changes.{Same, ResultsBelong, WroteResults, StillBelongs};
 ghost use Rattle.gpu_house.specs.Steps.{Steps, next_of, told_side};
+ghost use Rattle.gpu_house.specs.Drawing.{drawn_of, drawn_at, drawn_if, Draws};
 
-use crate::answers::Next;
+use crate::answers::{Next, Progress};
 use crate::house::House;
 use crate::marking::{follow, take_room};
 use crate::meeting::meet;
 use crate::naming::Naming;
 use crate::run::Run;
 use gpu_fetch::{Fetched, ServiceSide};
+use gpu_store::{Answer, Op};
 use gpu_word::Memory;
 use house_core::Stepped;
 use step_parts::Acted;
@@ -28,8 +32,10 @@ fn tell<P: ServiceSide>(side: &mut P, results: &mut P::Results, words: &P::Words
     ensures side { P.side side.new ≡ told_side acted.now.effect (P.side side.old) }
     ensures still { StillBelongs P.belongs P.note_belongs words.now side.old side.new }
     ensures table { P.table side.new ≡ P.table side.old }
-    ensures written { P.written results.new ≡ told_more (P.written results.old) (writes_of (writes_told acted.now.effect)) }
+    ensures written { P.written results.new
+        ≡ told_more (P.written results.old) (writes_of (writes_told acted.now.effect)) }
     ensures takes { (place : ℕ) → P.takes results.new place ≡ P.takes results.old place }
+    ensures named { (t : TableId) → P.results_of results.old t → P.results_of results.new t }
     ensures belong { P.results_belong words.now results.new }
 {
     match &acted.effect {
@@ -41,7 +47,7 @@ fn tell<P: ServiceSide>(side: &mut P, results: &mut P::Results, words: &P::Words
 
 impl<N: Naming, P: ServiceSide, H: Hook> House<N, P, H> {
     /// The step of a run on what was fetched for it: its command is executed, and the client is told of its token or its results; or
-    /// the stream is lost by an error. Where it is lost or closed already, nothing changes.
+    /// the stream is lost by an error. Where it is lost or closed already, nothing changes. The operation that was drawn is told.
     ///
     /// # Errors
     ///
@@ -51,16 +57,22 @@ impl<N: Naming, P: ServiceSide, H: Hook> House<N, P, H> {
         run: &mut Run<N, P>,
         words: &P::Words,
         fetched: Fetched,
-    ) -> Result<Next, Memory>
+    ) -> Result<Progress, Memory>
         requires going { run.old.run.paused ≡ false }
         requires facts { fetched.facts ≡ run.old.run.facts }
         requires list { drop run.old.run.facts.fetched (P.side run.old.side).fetched ≡ fetched.words }
         requires belongs { P.belongs run.old.side words.now }
         requires note { IfSome run.old.note (P.note_belongs run.old.side words.now) }
         requires results { ResultsBelong P.results_belong words.now self.old.results run.old.run.stream }
-        ensures steps { IfOk result (Steps P.side P.mark N.plans self.old self.new run.old run.new fetched.words) }
-        ensures end { IfOk result (λ next. (next ≡ Next.FlushEnd → run.new.run.facts.get ≡ run.new.run.facts.put)
-            × (next ≡ Next.More → run.new.run.facts.get ≢ run.new.run.facts.put)) }
+        ensures steps { IfOk result
+            (λ progress. Steps P.side P.mark N.plans self.old self.new run.old run.new fetched.words progress.next) }
+        ensures end { IfOk result
+            (λ progress. (progress.next ≡ Next.FlushEnd → run.new.run.facts.get ≡ run.new.run.facts.put)
+            × (progress.next ≡ Next.More → run.new.run.facts.get ≢ run.new.run.facts.put)) }
+        ensures drawn { IfOk result (λ progress. progress.drawn
+            ≡ drawn_if progress.next (drawn_at N.plans self.old.core.past run.old.run.stream fetched.words)) }
+        ensures draws { IfOk result
+            (λ progress. Draws (replay N.plans self.old.core.past) (replay N.plans self.new.core.past) progress.drawn) }
         ensures slots { self.new.slots ≡ self.old.slots }
         ensures results { WroteResults P.results_belong words.now self.old.results self.new.results run.old.run.stream }
         ensures still { StillBelongs P.belongs P.note_belongs words.now run.old.side run.new.side }
@@ -82,13 +94,13 @@ impl<N: Naming, P: ServiceSide, H: Hook> House<N, P, H> {
             ..
         } = run;
         let acted = match core.step(carried, fetched)? {
-            Stepped::Lost => return Ok(Next::Lost),
-            Stepped::Closed => return Ok(Next::Closed),
+            Stepped::Lost => return Ok(Progress::without_step(Next::Lost)),
+            Stepped::Closed => return Ok(Progress::without_step(Next::Closed)),
             Stepped::Invalid(error) => {
                 meet(side, note, words);
                 core.holds();
                 follow(core, hooks);
-                return Ok(Next::Invalid(error));
+                return Ok(Progress::without_step(Next::Invalid(error)));
             }
             Stepped::Done(acted) => acted,
         };
@@ -97,7 +109,24 @@ impl<N: Naming, P: ServiceSide, H: Hook> House<N, P, H> {
         follow(core, hooks);
         let stream = carried.stream();
         tell(side, &mut results[stream as usize - 1], words, &acted);
-        Ok(next_of(acted.kept, carried.at_end()))
+        Ok(Progress {
+            next: next_of(acted.kept, carried.at_end()),
+            drawn: drawn_of(acted),
+        })
+    }
+}
+
+// The image operation of a step, where it was answered Done.
+fn drawn_of(acted: Acted) -> Option<Op>
+    ensures { result ≡ drawn_of acted.effect acted.answer }
+{
+    match acted {
+        Acted {
+            effect: Effect::Pixels(op),
+            answer: Answer::Done,
+            ..
+        } => Some(op),
+        _ => None,
     }
 }
 

@@ -5,6 +5,7 @@ use Rattle.std.proofs.lemmas.List.Elements.{All-nil, All-push}
 use Rattle.std.proofs.lemmas.Option.{get_or_from_slice_get, slice_get_within}
 use Rattle.std.specs.Prelude.{Bool, slice_get}
 use Rattle.std.specs.List.{All}
+use Rattle.atomic_table.specs.Seated.{TableId}
 use Rattle.gpu_word.specs.Results.{Written}
 use Rattle.gpu_plan.specs.Plans.{PlansData, PlanData, no_plan, plan_of}
 use Rattle.gpu_fetch.specs.Side.{SideData, fresh_side}
@@ -24,18 +25,21 @@ use Rattle.gpu_run.specs.Served.{PlainHouse, IsServedAt, IsAtHomeWith, IsServed}
 
 -- ---- what the house wants
 
--- plain results take every place, and tell nothing
+-- plain results take every place, tell nothing, and are of any table
 abbrev takes_each : Unit {0} → ℕ → Bool
 takes_each results place = true
 
 abbrev tells_none : Unit {0} → Option (List Written)
 tells_none results = None
 
-pub plain_results : (plans : List PlanData) (results : List (Unit {0})) → length results ≡ length plans → AreFreshResults takes_each tells_none plans results
-plain_results [] [] e = tt
-plain_results [] (r ∷ results) e = absurd (omega (arith, e))
-plain_results (plan ∷ plans) [] e = absurd (omega (arith, e))
-plain_results (plan ∷ plans) (r ∷ results) e = (((λ place lt. refl), (λ list q. absurd (cc))), plain_results plans results (omega (arith, e)))
+abbrev of_any : Unit {0} → TableId → Type 0
+of_any results table = Unit {0}
+
+pub plain_results : (tables : ℕ → TableId) (s : ℕ) (plans : List PlanData) (results : List (Unit {0})) → length results ≡ length plans → AreFreshResults takes_each tells_none of_any tables s plans results
+plain_results tables s [] [] e = tt
+plain_results tables s [] (r ∷ results) e = absurd (omega (arith, e))
+plain_results tables s (plan ∷ plans) [] e = absurd (omega (arith, e))
+plain_results tables s (plan ∷ plans) (r ∷ results) e = (record { shared = tt; takes_all = λ place lt. refl; none_written = λ list q. absurd (cc) }, plain_results tables (suc s) plans results (omega (arith, e)))
 
 -- ---- what is served
 

@@ -82,7 +82,8 @@ impl Client {
     /// Reads the next dump where it is of the next action, which passes.
     pub(crate) fn read(&mut self, plan: &Plan, state: &StreamState) -> Result<(), Memory>
         ensures words { self.new.words ≡ self.old.words }
-        ensures read { OnOk result (self.new.read ≡ self.old.read ++ read_with (slice_get plan.now.dumps (length self.old.read)) self.old.words.done (result_of state.now)) }
+        ensures read { OnOk result (self.new.read
+            ≡ self.old.read ++ read_with (slice_get plan.now.dumps (length self.old.read)) self.old.words.done (result_of state.now)) }
     {
         let Some(dump) = plan.dumps().get(self.dumps.as_slice().len()) else {
             return Ok(());
@@ -107,12 +108,16 @@ impl Client {
         requires passes { passes plan.now.actions self.old.words.done finishes (token ∷ []) ≡ true }
         ensures words { self.new.words ≡ one_further self.old.words }
         ensures read { self.new.read ≡ self.old.read }
-        ensures beside { (side : SideData) → finishes ≤ side.finished → token ≤ side.greatest → IsBeside side self.old.words → IsBeside side self.new.words }
-        ensures notes { (side : SideData) (mark : ℕ) → finishes ≤ side.finished → token ≤ side.greatest → IsNoteBeside side self.old.words mark → IsNoteBeside side self.new.words mark }
-        ensures quiet { IfNone result (flushes_to plan.now (self.old.words.done + 1) ≡ flushes_to plan.now self.old.words.done) }
+        ensures beside { (side : SideData) → finishes ≤ side.finished → token ≤ side.greatest
+            → IsBeside side self.old.words → IsBeside side self.new.words }
+        ensures notes { (side : SideData) (mark : ℕ) → finishes ≤ side.finished → token ≤ side.greatest
+            → IsNoteBeside side self.old.words mark → IsNoteBeside side self.new.words mark }
+        ensures quiet { IfNone result (flushes_to plan.now (self.old.words.done + 1)
+            ≡ flushes_to plan.now self.old.words.done) }
         ensures flush { IfSome result (λ note. IsNext IsFlush plan.now.actions self.old.words.done) }
         ensures mark { IfSome result (λ note. note ≡ self.old.words.done + 1) }
-        ensures noted { IfSome result (λ note. (side : SideData) → IsBeside side self.old.words → IsNoteBeside side self.new.words note) }
+        ensures noted { IfSome result
+            (λ note. (side : SideData) → IsBeside side self.old.words → IsNoteBeside side self.new.words note) }
     {
         let action = &plan.actions()[self.position as usize];
         self.position += 1;

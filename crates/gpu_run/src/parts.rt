@@ -34,7 +34,8 @@ impl Parts {
 
     // Those of one stream more.
     fn push(&mut self, alloc: Global, plan: &Plan) -> Result<(), Memory>
-        ensures { OnOk result ((plans : List PlanData) → AreFreshFor plans self.old → AreFreshFor (plans ++ plan.now ∷ []) self.new) }
+        ensures { OnOk result ((plans : List PlanData) → AreFreshFor plans self.old
+            → AreFreshFor (plans ++ plan.now ∷ []) self.new) }
     {
         let (client, side) = Client::make(alloc, plan)?;
         let book = gpu_books::make(alloc)?;

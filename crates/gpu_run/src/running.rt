@@ -29,10 +29,12 @@ fn turn<N: Naming, H: Hook>(
     requires out { IsOut N.plans house.old clients.now run }
     requires runs { is_runnable N.plans house.old.core.past run.run.stream ≡ true }
     requires there { done_at clients.now run.run.stream ≡ count N.plans house.old.core.past run.run.stream }
-    ensures event { OnOk result (house.new.core.past ≡ run_event N.plans house.old.core.past run.run.stream ∷ house.old.core.past) }
+    ensures event { OnOk result (house.new.core.past
+        ≡ run_event N.plans house.old.core.past run.run.stream ∷ house.old.core.past) }
     ensures goes { IfOk result (λ left. is_some left ≡ goes_on N.plans house.new.core.past run.run.stream) }
     ensures same { IfOk result (λ left. IfSome left (λ on. on.run.stream ≡ run.run.stream)) }
-    ensures served { IfOk result (λ left. MatchOption left (IsServed N.plans house.new clients.now) (IsOut N.plans house.new clients.now)) }
+    ensures served { IfOk result
+        (λ left. MatchOption left (IsServed N.plans house.new clients.now) (IsOut N.plans house.new clients.now)) }
 {
     let words = clients[run.stream() as usize - 1].words();
     if run.at_end() {
@@ -41,7 +43,7 @@ fn turn<N: Naming, H: Hook>(
     }
     let fetched = run.fetch(words)?;
     let _ = fetched.words();
-    match house.step(&mut run, words, fetched)? {
+    match house.step(&mut run, words, fetched)?.into_next() {
         Next::More => Ok(Some(run)),
         Next::FlushEnd => Ok(Some(run)),
         _ => {
@@ -72,7 +74,8 @@ fn run_out<N: Naming, H: Hook>(
     ensures served { OnOk result (IsServed N.plans house.new clients.now) }
     ensures read { OnOk result (HaveRead N.plans house.new.core.past clients.now) }
     ensures chosen { OnOk result (runner N.plans house.new.core.past ≡ choice N.plans house.new.core.past) }
-    ensures running { OnOk result (begins_round N.plans house.new.core.past ≡ false → IsRunning N.plans house.new.core.past (done_at clients.now)) }
+    ensures running { OnOk result (begins_round N.plans house.new.core.past ≡ false
+        → IsRunning N.plans house.new.core.past (done_at clients.now)) }
     ensures longer { OnOk result (length house.old.core.past < length house.new.core.past) }
 {
     let mut out = run;

@@ -150,7 +150,8 @@ impl Carried {
         requires ready { IsReady taken.now scene.old.sync desk.old.state }
         ensures executes { IfOk result (Executes taken.now scene.old scene.new desk.old.state desk.new.state) }
         ensures desk { IfOk result (λ acted. desk.new ≡ stepped_desk desk.new.state acted desk.old) }
-        ensures run { OnOk result (self.new ≡ run_of self.old.stream (areas_of taken.now) self.old.place self.old.facts.put desk.new) }
+        ensures run { OnOk result (self.new
+            ≡ run_of self.old.stream (areas_of taken.now) self.old.place self.old.facts.put desk.new) }
         ensures same_scene { OnErr result (scene.new ≡ scene.old) }
         ensures same_desk { OnErr result (desk.new ≡ desk.old) }
         ensures same_run { OnErr result (self.new ≡ self.old) }

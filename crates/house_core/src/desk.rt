@@ -48,7 +48,8 @@ impl Model for Desk {
 
 // The numbers of a book whose run that is out has this order, or none where it is 0.
 fn numbers(state: &StreamState, finished: u32, greatest: u32, order: u32, paused: bool) -> [u64; 6]
-    ensures { result ≡ book_numbers state.now.entries state.now.fetched finished greatest record { order = order; paused = paused } }
+    ensures { result
+        ≡ book_numbers state.now.entries state.now.fetched finished greatest record { order = order; paused = paused } }
 {
     [
         state.entries(),

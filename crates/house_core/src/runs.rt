@@ -18,7 +18,8 @@ use gpu_journal::{Event, put_at};
 impl Core {
     /// A run of the stream that the scheduler chooses among those at home, or `None` where none of them can run.
     pub fn take(&mut self) -> Option<Carried>
-        ensures choice { option_map (λ (run : RunData). run.stream) result ≡ choice_at_home self.old.plans self.old.past (is_home self.old.outs) }
+        ensures choice { option_map (λ (run : RunData). run.stream) result
+            ≡ choice_at_home self.old.plans self.old.past (is_home self.old.outs) }
         ensures none { IfNone result (Stays self.old self.new) }
         ensures same { Waits self.old self.new }
         ensures plan { IfSome result (IsOfPlans self.old.plans) }
@@ -26,8 +27,10 @@ impl Core {
         ensures book { IfSome result (λ run. run.book ≡ book_at self.old.books run.stream) }
         ensures going { IfSome result (λ run. run.paused ≡ false) }
         ensures home { IfSome result (λ run. out_at self.old.outs run.stream ≡ at_home) }
-        ensures outs { IfSome result (λ run. self.new.outs ≡ with_out self.old.outs run.stream record { order = run.order; paused = false }) }
-        ensures out { IfSome result (λ run. out_at self.new.outs run.stream ≡ record { order = run.order; paused = false }) }
+        ensures outs { IfSome result
+            (λ run. self.new.outs ≡ with_out self.old.outs run.stream record { order = run.order; paused = false }) }
+        ensures out { IfSome result
+            (λ run. out_at self.new.outs run.stream ≡ record { order = run.order; paused = false }) }
     {
         let Core {
             plans,
@@ -58,7 +61,8 @@ impl Core {
         ensures run { run.new ≡ run.old }
         ensures out { out_at self.old.outs run.old.stream ≡ record { order = run.old.order; paused = run.old.paused } }
         ensures positive { 0 < run.old.order }
-        ensures shows { is_open (standing_of self.old.plans self.old.past run.old.stream) ≡ true → IsRunOf self.old.plans self.old.past run.old }
+        ensures shows { is_open (standing_of self.old.plans self.old.past run.old.stream) ≡ true
+            → IsRunOf self.old.plans self.old.past run.old }
         ensures runs { MayGoOn self.old.plans self.old.past run.old.stream run.old.order run.old.paused }
         ensures lawful { AreLawfulPlans self.old.plans }
         ensures legal { IsLegal self.old.plans self.old.past }
@@ -75,7 +79,8 @@ impl Core {
         ensures outs { self.new.outs ≡ with_out self.old.outs run.stream at_home }
         ensures spare { self.old.spare ≤ self.new.spare }
         ensures out { out_at self.old.outs run.stream ≡ record { order = run.order; paused = run.paused } }
-        ensures shows { is_open (standing_of self.old.plans self.old.past run.stream) ≡ true → IsRunOf self.old.plans self.old.past run }
+        ensures shows { is_open (standing_of self.old.plans self.old.past run.stream) ≡ true
+            → IsRunOf self.old.plans self.old.past run }
     {
         self.meet(&mut run);
         let stream = run.stream();
@@ -125,11 +130,13 @@ impl Core {
         requires book { run.book ≡ book_at self.old.books run.stream }
         requires going { run.paused ≡ false }
         requires end { run.facts.get ≡ run.facts.put }
-        ensures event { is_open (standing_of self.old.plans self.old.past run.stream) ≡ true → Grows self.old self.new (Finish run.stream run.order) }
+        ensures event { is_open (standing_of self.old.plans self.old.past run.stream) ≡ true
+            → Grows self.old self.new (Finish run.stream run.order) }
         ensures over { is_open (standing_of self.old.plans self.old.past run.stream) ≡ false → Waits self.old self.new }
         ensures outs { self.new.outs ≡ with_out self.old.outs run.stream at_home }
         ensures out { out_at self.old.outs run.stream ≡ record { order = run.order; paused = false } }
-        ensures shows { is_open (standing_of self.old.plans self.old.past run.stream) ≡ true → IsRunOf self.old.plans self.old.past run }
+        ensures shows { is_open (standing_of self.old.plans self.old.past run.stream) ≡ true
+            → IsRunOf self.old.plans self.old.past run }
     {
         self.meet(&mut run);
         if self.is_open(run.stream()) {
@@ -144,11 +151,13 @@ impl Core {
     pub fn lose(&mut self, mut run: Carried)
         requires plan { IsOfPlans self.old.plans run }
         requires book { run.book ≡ book_at self.old.books run.stream }
-        ensures event { is_open (standing_of self.old.plans self.old.past run.stream) ≡ true → Grows self.old self.new (Lost run.stream Memory []) }
+        ensures event { is_open (standing_of self.old.plans self.old.past run.stream) ≡ true
+            → Grows self.old self.new (Lost run.stream Memory []) }
         ensures over { is_open (standing_of self.old.plans self.old.past run.stream) ≡ false → Waits self.old self.new }
         ensures outs { self.new.outs ≡ with_out self.old.outs run.stream at_home }
         ensures out { out_at self.old.outs run.stream ≡ record { order = run.order; paused = run.paused } }
-        ensures shows { is_open (standing_of self.old.plans self.old.past run.stream) ≡ true → IsRunOf self.old.plans self.old.past run }
+        ensures shows { is_open (standing_of self.old.plans self.old.past run.stream) ≡ true
+            → IsRunOf self.old.plans self.old.past run }
     {
         self.meet(&mut run);
         self.lose_client(run.stream());

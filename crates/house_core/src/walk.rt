@@ -51,7 +51,8 @@ impl Walk {
         requires few { length actions.now ≤ 1000000 }
         requires walked { HasWalked actions.now finished greatest self.old }
         ensures walked { HasWalked actions.now finished greatest self.new }
-        ensures close { IsTrue result ↔ (slice_get actions.now (bound actions.now finished (greatest ∷ [])) ≡ Some Close) }
+        ensures close { IsTrue result
+            ↔ (slice_get actions.now (bound actions.now finished (greatest ∷ [])) ≡ Some Close) }
     {
         while (self.upto as usize) < actions.len() {
             let action = &actions[self.upto as usize];

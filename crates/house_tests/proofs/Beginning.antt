@@ -50,8 +50,11 @@ pub fresh_sides : {Side : Type 0} (seen : Side → SideData) (table : Side → T
 fresh_sides seen table p words side one e w = (ap (λ (x : SideData). x ∷ []) e ∙ sym (ap (map fresh_side) (one_plan p one)), sym w)
 
 -- results of which nothing is told are fresh
-pub fresh_results : (p : PlansData) → length p.plans ≡ 1 → AreFreshResults (λ (results : Unit {0}) (place : ℕ). true) (λ (results : Unit {0}). None) p.plans (tt ∷ [])
-fresh_results p one = subst (λ (plans : List PlanData). AreFreshResults (λ (results : Unit {0}) (place : ℕ). true) (λ (results : Unit {0}). None) plans (tt ∷ [])) (sym (one_plan p one)) ((λ place lt. refl, λ list e. absurd (cc)), tt)
+pub fresh_results : (p : PlansData) (tables : ℕ → TableId) → length p.plans ≡ 1
+    → AreFreshResults (λ (results : Unit {0}) (place : ℕ). true) (λ (results : Unit {0}). None) (λ (results : Unit {0}) (table : TableId). Unit {0}) tables 1 p.plans (tt ∷ [])
+fresh_results p tables one =
+    subst (λ (plans : List PlanData). AreFreshResults (λ (results : Unit {0}) (place : ℕ). true) (λ (results : Unit {0}). None) (λ (results : Unit {0}) (table : TableId). Unit {0}) tables 1 plans (tt ∷ [])) (sym (one_plan p one))
+    (record { shared = tt; takes_all = λ place lt. refl; none_written = λ list e. absurd (cc) }, tt)
 
 -- a client that has done nothing
 fresh_client : (p : PlansData) (words : TableId) (client : ClientData) → client ≡ client_at words (plan_of p 1) → IsClientOf p [] words client

@@ -3,6 +3,7 @@ use Rattle.std.proofs.Common.{◌≡◌, ℕ, ◌<◌, Bool, true, false, cond, 
 use Rattle.std.proofs.lemmas.List.Elements.{All-push, All-nil, All-head}
 use Rattle.std.specs.Prelude.{slice_get, IfSome}
 use Rattle.std.specs.List.{All}
+use Rattle.atomic_table.specs.Seated.{TableId}
 use Rattle.gpu_plan.specs.Plans.{PlansData, PlanData, plan_of, no_plan}
 use Rattle.gpu_plan.specs.Passes.{flushes}
 use Rattle.gpu_plan.specs.Places.{mark_of}
@@ -31,8 +32,11 @@ two_plans : (p : PlansData) → length p.plans ≡ 2 → p.plans ≡ plan_of p 1
 two_plans p two = two_of p.plans two
 
 -- results of which nothing is told are fresh
-pub pair_results : {Results : Type 0} (p : PlansData) (a b : Results) → length p.plans ≡ 2 → AreFreshResults (λ (results : Results) (place : ℕ). true) (λ (results : Results). None) p.plans (a ∷ b ∷ [])
-pair_results {Results} p a b two = subst (λ (plans : List PlanData). AreFreshResults (λ (results : Results) (place : ℕ). true) (λ (results : Results). None) plans (a ∷ b ∷ [])) (sym (two_plans p two)) ((λ place lt. refl, λ list e. absurd (cc)), ((λ place lt. refl, λ list e. absurd (cc)), tt))
+pub pair_results : {Results : Type 0} (p : PlansData) (tables : ℕ → TableId) (a b : Results) → length p.plans ≡ 2
+    → AreFreshResults (λ (results : Results) (place : ℕ). true) (λ (results : Results). None) (λ (results : Results) (table : TableId). Unit {0}) tables 1 p.plans (a ∷ b ∷ [])
+pair_results {Results} p tables a b two =
+    subst (λ (plans : List PlanData). AreFreshResults (λ (results : Results) (place : ℕ). true) (λ (results : Results). None) (λ (results : Results) (table : TableId). Unit {0}) tables 1 plans (a ∷ b ∷ [])) (sym (two_plans p two))
+    (record { shared = tt; takes_all = λ place lt. refl; none_written = λ list e. absurd (cc) }, (record { shared = tt; takes_all = λ place lt. refl; none_written = λ list e. absurd (cc) }, tt))
 
 -- what is pushed one after the other
 pub two_pushed : {T : Type 0} (none one two : List T) (a b : T) → none ≡ [] → one ≡ none ++ a ∷ [] → two ≡ one ++ b ∷ [] → two ≡ a ∷ b ∷ []

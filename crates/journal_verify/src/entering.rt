@@ -19,7 +19,8 @@ fn draw(core: &mut SyncCore, s: u32, fences: &[(u32, u64)]) -> Result<(), Memory
     requires room { core.old.drawn + 1 < 2 ^ 32 }
     ensures drawn { OnOk result (core.new.drawn ≡ core.old.drawn + 1) }
     ensures count { length core.new.streams ≡ length core.old.streams }
-    ensures stands { OnOk result ((g : List SyncEvent) → StandsFor core.old g → StandsFor core.new ((s, Ordered fences.now) ∷ g)) }
+    ensures stands { OnOk result ((g : List SyncEvent) → StandsFor core.old g
+        → StandsFor core.new ((s, Ordered fences.now) ∷ g)) }
 {
     match core.order(s, fences) {
         Ok(_) => Ok(()),
@@ -33,7 +34,9 @@ impl Judge {
         requires fits { FitsPlans plans.now self.old }
         requires counted { HasCounted 4294967294 self.old }
         requires known { IsKnown (length plans.now.plans) s }
-        ensures turned { OnOk result (HasTurned s (Some (Ordered (fences_in (slice_get (plan_of plans.now s).actions place)))) (λ k. record k { ordered = k.ordered + 1 }) (self.old.drawn + 1) self.old.images self.old.states self.old self.new) }
+        ensures turned { OnOk result
+            (HasTurned s (Some (Ordered (fences_in (slice_get (plan_of plans.now s).actions place))))
+            (λ k. record k { ordered = k.ordered + 1 }) (self.old.drawn + 1) self.old.images self.old.states self.old self.new) }
         ensures fits { OnOk result (FitsPlans plans.now self.new) }
     {
         let fences = fences_at(plans.plan(s).actions(), place);
@@ -49,7 +52,8 @@ impl Judge {
         requires counted { HasCounted 4294967294 self.old }
         requires front { 0 < length (left_of self.old.core s) }
         requires free { blocked self.old.core s ≡ false }
-        ensures turned { OnOk result (HasTurned s (Some Finished) (λ k. record k { finished = k.finished + 1 }) self.old.drawn self.old.images self.old.states self.old self.new) }
+        ensures turned { OnOk result (HasTurned s (Some Finished)
+            (λ k. record k { finished = k.finished + 1 }) self.old.drawn self.old.images self.old.states self.old self.new) }
         ensures fits { OnOk result (FitsPlans plans.now self.new) }
     {
         self.scene.sync.finish(s);
@@ -61,7 +65,8 @@ impl Judge {
     pub(crate) fn enter_loss(&mut self, plans: &Plans, s: u32)
         requires fits { FitsPlans plans.now self.old }
         requires known { IsKnown (length plans.now.plans) s }
-        ensures turned { HasTurned s (Some WasLost) (λ k. record k { stays = false }) self.old.drawn self.old.images self.old.states self.old self.new }
+        ensures turned { HasTurned s (Some WasLost)
+            (λ k. record k { stays = false }) self.old.drawn self.old.images self.old.states self.old self.new }
         ensures fits { FitsPlans plans.now self.new }
     {
         self.scene.sync.lose(s);
@@ -72,7 +77,8 @@ impl Judge {
     pub(crate) fn enter_close(&mut self, plans: &Plans, s: u32)
         requires fits { FitsPlans plans.now self.old }
         requires known { IsKnown (length plans.now.plans) s }
-        ensures turned { HasTurned s (Some WasClosed) (λ k. record k { stays = false }) self.old.drawn self.old.images self.old.states self.old self.new }
+        ensures turned { HasTurned s (Some WasClosed)
+            (λ k. record k { stays = false }) self.old.drawn self.old.images self.old.states self.old self.new }
         ensures fits { FitsPlans plans.now self.new }
     {
         self.scene.sync.close(s);

@@ -46,7 +46,8 @@ impl Judge {
         requires fits { FitsPlans plans.now self.old }
         requires counted { HasCounted 4294967294 self.old }
         ensures fault { IfOk result (λ fault. fault ≡ order_fault self.old s n c) }
-        ensures entered { IfOk result (λ fault. fault ≡ None → HasEntered plans.now (Event.Order s n c) self.old self.new) }
+        ensures entered { IfOk result
+            (λ fault. fault ≡ None → HasEntered plans.now (Event.Order s n c) self.old self.new) }
         ensures fits { OnOk result (FitsPlans plans.now self.new) }
     {
         if let Some(rule) = self.order_fault(s, n, c) {
@@ -66,7 +67,8 @@ impl Judge {
     ) -> Result<Option<u32>, Memory>
         requires fits { FitsPlans plans.now self.old }
         ensures fault { IfOk result (λ fault. fault ≡ step_fault (fetch_outcome plans.now self.old s words.now)) }
-        ensures entered { IfOk result (λ fault. fault ≡ None → HasEntered plans.now (Event.Step s words.now) self.old self.new) }
+        ensures entered { IfOk result
+            (λ fault. fault ≡ None → HasEntered plans.now (Event.Step s words.now) self.old self.new) }
         ensures fits { OnOk result (FitsPlans plans.now self.new) }
     {
         match self.fetch_outcome(plans, s, words, values)? {
@@ -90,7 +92,9 @@ impl Judge {
     ) -> Result<Option<u32>, Memory>
         requires fits { FitsPlans plans.now self.old }
         ensures fault { IfOk result (λ fault. fault ≡ lost_fault error (fetch_outcome plans.now self.old s words.now)) }
-        ensures entered { IfOk result (λ fault. fault ≡ None → HasEntered plans.now (Event.Lost s (Why.Error error) words.now) self.old self.new) }
+        ensures entered { IfOk result
+            (λ fault. fault ≡ None
+            → HasEntered plans.now (Event.Lost s (Why.Error error) words.now) self.old self.new) }
         ensures fits { OnOk result (FitsPlans plans.now self.new) }
     {
         match self.fetch_outcome(plans, s, words, values)? {
@@ -111,7 +115,8 @@ impl Judge {
         requires fits { FitsPlans plans.now self.old }
         requires counted { HasCounted 4294967294 self.old }
         ensures fault { IfOk result (λ fault. fault ≡ finish_fault plans.now self.old s n) }
-        ensures entered { IfOk result (λ fault. fault ≡ None → HasEntered plans.now (Event.Finish s n) self.old self.new) }
+        ensures entered { IfOk result
+            (λ fault. fault ≡ None → HasEntered plans.now (Event.Finish s n) self.old self.new) }
         ensures fits { OnOk result (FitsPlans plans.now self.new) }
     {
         if let Some(rule) = self.finish_fault(plans, s, n) {

@@ -20,7 +20,8 @@ use stream_state::Effect;
 // What an effect tells the client.
 fn tell(watch: &mut Watch, plan: &Plan, effect: &Effect) -> Result<(), Memory>
     requires { IsWatch plan.now watch.old }
-    ensures counts { OnOk result (counts_of watch.new ≡ record (counts_of watch.old) { token = token_after effect.now watch.old.token }) }
+    ensures counts { OnOk result (counts_of watch.new
+        ≡ record (counts_of watch.old) { token = token_after effect.now watch.old.token }) }
     ensures watch { OnOk result (IsWatch plan.now watch.new) }
 {
     match effect {

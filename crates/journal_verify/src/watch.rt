@@ -55,7 +55,8 @@ fn go_on(
     requires before { (place : ℕ) → slice_get flushes.now finished ≡ Some place → client.old.held.done ≤ place }
     ensures client { OnOk result (IsClient plan.now.actions client.new) }
     ensures most { OnOk result (client.new.reached.upto ≡ bound plan.now.actions finished (token ∷ [])) }
-    ensures least { OnOk result ((place : ℕ) → slice_get flushes.now finished ≡ Some place → client.new.held.done ≡ place) }
+    ensures least { OnOk result ((place : ℕ) → slice_get flushes.now finished ≡ Some place
+        → client.new.held.done ≡ place) }
 {
     let actions = plan.actions();
     client.go_on(actions, finished, token)?;
@@ -69,7 +70,8 @@ fn go_on(
 impl Watch {
     /// Before any event.
     pub(crate) fn make(alloc: Global, plan: &Plan) -> Result<Watch, Memory>
-        ensures counts { IfOk result (λ watch. counts_of watch ≡ record { ordered = 0; finished = 0; token = 0; stays = true }) }
+        ensures counts { IfOk result
+            (λ watch. counts_of watch ≡ record { ordered = 0; finished = 0; token = 0; stays = true }) }
         ensures watch { IfOk result (λ watch. IsWatch plan.now watch) }
     {
         let actions = plan.actions();
@@ -153,7 +155,8 @@ impl Watch {
     /// Takes up a token.
     pub(crate) fn tell(&mut self, plan: &Plan, token: u32) -> Result<(), Memory>
         requires { IsWatch plan.now self.old }
-        ensures counts { OnOk result (counts_of self.new ≡ record (counts_of self.old) { token = max token self.old.token }) }
+        ensures counts { OnOk result (counts_of self.new
+            ≡ record (counts_of self.old) { token = max token self.old.token }) }
         ensures watch { OnOk result (IsWatch plan.now self.new) }
     {
         self.token = token.max(self.token);
@@ -164,7 +167,8 @@ impl Watch {
     pub(crate) fn finish(&mut self, plan: &Plan) -> Result<(), Memory>
         requires room { self.old.finished + 1 < 2 ^ 32 }
         requires watch { IsWatch plan.now self.old }
-        ensures counts { OnOk result (counts_of self.new ≡ record (counts_of self.old) { finished = self.old.finished + 1 }) }
+        ensures counts { OnOk result (counts_of self.new
+            ≡ record (counts_of self.old) { finished = self.old.finished + 1 }) }
         ensures watch { OnOk result (IsWatch plan.now self.new) }
     {
         self.finished += 1;

@@ -113,8 +113,9 @@ impl ServiceSide for PlainPass {
         self.greatest = self.greatest.max(token);
     }
 
-    fn publish_finish(&mut self, words: &PlainWords) {
+    fn publish_finish(&mut self, words: &PlainWords, results: &()) {
         let _ = words;
+        let () = *results;
         self.finished += 1;
     }
 

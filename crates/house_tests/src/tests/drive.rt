@@ -2,6 +2,7 @@ ghost use Rattle.std.specs.Prelude.{◌≡◌, ◌+◌, ◌<◌, length, IfOk, I
 ghost use Rattle.gpu_plan.specs.Plans.{plan_of};
 ghost use Rattle.gpu_plan.specs.Passes.{flushes};
 ghost use Rattle.gpu_plan.specs.Places.{mark_of};
+ghost use Rattle.gpu_house.specs.Names.{table_at};
 ghost use Rattle.gpu_house.specs.Slots.{slot_at};
 ghost use Rattle.house_tests.specs.Alone.{ordered, IsHome, IsOut};
 
@@ -26,6 +27,7 @@ pub fn order<N: Naming, P: ServiceSide, H: Hook>(
     requires next { ordered N.plans house.old.core.past < flushes (plan_of N.plans 1).actions }
     requires mark { P.mark note ≡ mark_of (plan_of N.plans 1) (ordered N.plans house.old.core.past) }
     requires belongs { IfSome (slot_at house.old.slots 1).side (λ side. P.note_belongs side words.now note) }
+    requires table { P.note_of note (table_at N.words 1) }
     ensures home { OnOk result (IsHome P.belongs P.note_belongs P.results_belong words.now house.new) }
     ensures ordered { OnOk result (ordered N.plans house.new.core.past ≡ ordered N.plans house.old.core.past + 1) }
 {
@@ -53,7 +55,7 @@ fn turn<N: Naming, P: ServiceSide, H: Hook>(
         return Ok(None);
     }
     let fetched = run.fetch(words)?;
-    match house.step(&mut run, words, fetched)? {
+    match house.step(&mut run, words, fetched)?.into_next() {
         Next::More => Ok(Some(run)),
         Next::FlushEnd => Ok(Some(run)),
         _ => {

@@ -9,6 +9,7 @@ ghost use Rattle.gpu_journal.specs.World.{known};
 ghost use Rattle.gpu_journal.specs.Serial.{order_event};
 ghost use Rattle.house_core.specs.Core.{IsFresh};
 ghost use Rattle.gpu_house.specs.Changes.{with_note};
+ghost use Rattle.gpu_house.specs.Names.{table_at};
 ghost use Rattle.gpu_house.specs.Making.{AreFreshResults};
 ghost use Rattle.house_tests.specs.Pair.{SecondIsHome};
 
@@ -130,8 +131,9 @@ impl ServiceSide for NotedPass {
         self.pass.publish_token(&words.words, token);
     }
 
-    fn publish_finish(&mut self, words: &NotedWords) {
-        self.pass.publish_finish(&words.words);
+    fn publish_finish(&mut self, words: &NotedWords, results: &NotedResults) {
+        let _ = results;
+        self.pass.publish_finish(&words.words, &());
     }
 
     fn publish_results(results: &mut NotedResults, words: &NotedWords, writes: &[(u32, u32)]) {
@@ -196,7 +198,9 @@ fn order<N: Naming, P: ServiceSide, H: Hook>(
     requires known { IsKnown (length N.plans.plans) stream }
     requires next { (known N.plans house.old.core.past stream).ordered < flushes (plan_of N.plans stream).actions }
     requires note { P.mark note ≡ mark_of (plan_of N.plans stream) (known N.plans house.old.core.past stream).ordered }
-    ensures event { OnOk result (house.new.core.past ≡ order_event N.plans house.old.core.past stream ∷ house.old.core.past) }
+    requires table { P.note_of note (table_at N.words stream) }
+    ensures event { OnOk result (house.new.core.past
+        ≡ order_event N.plans house.old.core.past stream ∷ house.old.core.past) }
     ensures slots { OnOk result (house.new.slots ≡ with_note house.old.slots stream note) }
     ensures results { OnOk result (house.new.results ≡ house.old.results) }
 {
@@ -223,10 +227,13 @@ fn open<N: Naming, P: ServiceSide>(
     requires first_flush { IsNext IsFlush (plan_of plans 1).actions 0 }
     requires first_side { P.side first.side ≡ fresh_side (plan_of plans 1) }
     requires first_note { P.mark first.note ≡ 1 }
+    requires first_named { P.note_of first.note (P.table first.side) }
     requires second_flush { IsNext IsFlush (plan_of plans 2).actions 0 }
     requires second_side { P.side second.side ≡ fresh_side (plan_of plans 2) }
     requires second_note { P.mark second.note ≡ 1 }
-    requires fresh { AreFreshResults P.takes P.written plans.plans (first.results ∷ second.results ∷ []) }
+    requires second_named { P.note_of second.note (P.table second.side) }
+    requires fresh { AreFreshResults P.takes P.written P.results_of (table_at N.result_words)
+        1 plans.plans (first.results ∷ second.results ∷ []) }
     requires belongs { P.belongs second.side words.now }
     requires note { P.note_belongs second.side words.now second.note }
     requires results { P.results_belong words.now second.results }

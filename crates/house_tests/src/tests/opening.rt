@@ -4,6 +4,7 @@ ghost use Rattle.gpu_plan.specs.Passes.{flushes};
 ghost use Rattle.gpu_plan.specs.Places.{mark_of};
 ghost use Rattle.gpu_fetch.specs.Side.{fresh_side};
 ghost use Rattle.house_core.specs.Core.{IsFresh};
+ghost use Rattle.gpu_house.specs.Names.{table_at};
 ghost use Rattle.gpu_house.specs.Making.{fresh_slots, AreFreshResults};
 ghost use Rattle.house_tests.specs.Alone.{IsHome};
 
@@ -51,7 +52,8 @@ pub fn open<N: Naming, P: ServiceSide>(
     requires table { N.words ≡ P.table side ∷ [] }
     requires book { (N.books ≡ book.0 ∷ []) × IsFresh book }
     requires side { P.side side ≡ fresh_side (plan_of plans 1) }
-    requires fresh { AreFreshResults P.takes P.written plans.plans (results ∷ []) }
+    requires fresh { AreFreshResults P.takes P.written P.results_of (table_at N.result_words)
+        1 plans.plans (results ∷ []) }
     requires belongs { P.belongs side words.now }
     requires results { P.results_belong words.now results }
     ensures past { IfOk result (λ house. house.core.past ≡ []) }
@@ -85,12 +87,14 @@ pub fn drive<N: Naming, P: ServiceSide>(
     requires table { N.words ≡ P.table side ∷ [] }
     requires book { (N.books ≡ book.0 ∷ []) × IsFresh book }
     requires side { P.side side ≡ fresh_side (plan_of plans 1) }
-    requires fresh { AreFreshResults P.takes P.written plans.plans (results ∷ []) }
+    requires fresh { AreFreshResults P.takes P.written P.results_of (table_at N.result_words)
+        1 plans.plans (results ∷ []) }
     requires results { P.results_belong words.now results }
     requires belongs { P.belongs side words.now }
     requires note { P.note_belongs side words.now note }
     requires flush { 0 < flushes (plan_of plans 1).actions }
     requires first { P.mark note ≡ mark_of (plan_of plans 1) 0 }
+    requires named { P.note_of note (P.table side) }
 {
     let mut house = open::<N, P>(alloc, plans, book, words, side, results)?;
     order(&mut house, words, note)?;

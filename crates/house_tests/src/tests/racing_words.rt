@@ -58,6 +58,7 @@ fn act_once<N: Naming>(
     requires one { length N.plans.plans ≡ 1 }
     requires home { IsHome IsOf IsNoteOf (λ w r. Unit {0}) words.now house.old }
     requires client { IsClientOf N.plans house.old.core.past words.now client.old }
+    requires table { N.words ≡ words.now ∷ [] }
     ensures home { OnOk result (IsHome IsOf IsNoteOf (λ w r. Unit {0}) words.now house.new) }
     ensures client { OnOk result (IsClientOf N.plans house.new.core.past words.now client.new) }
 {
@@ -91,6 +92,7 @@ fn act_on<N: Naming>(
     requires one { length N.plans.plans ≡ 1 }
     requires home { IsHome IsOf IsNoteOf (λ w r. Unit {0}) words.now house.old }
     requires client { IsClientOf N.plans house.old.core.past words.now client.old }
+    requires table { N.words ≡ words.now ∷ [] }
     ensures home { OnOk result (IsHome IsOf IsNoteOf (λ w r. Unit {0}) words.now house.new) }
     ensures client { OnOk result (IsClientOf N.plans house.new.core.past words.now client.new) }
 {
@@ -114,6 +116,7 @@ fn take_turns<N: Naming>(
     requires one { length N.plans.plans ≡ 1 }
     requires home { IsHome IsOf IsNoteOf (λ w r. Unit {0}) words.now house.old }
     requires client { IsClientOf N.plans house.old.core.past words.now client }
+    requires table { N.words ≡ words.now ∷ [] }
 {
     for _round in 0..MOST_ROUNDS {
         act_on(house, words, &mut client, acts)?;

@@ -35,7 +35,7 @@ returns-then-at_end-clause-served g c =
     let f = has_finished p c.args.house.now c.finish.new.self c.args.clients.now c.args.run w c.requires.lawful c.requires.played c.requires.out c.requires.runs its_words (c.at_end.ensures.0 c.if-at_end.true) c.finish.ensures.event c.finish.ensures.outs c.finish.ensures.done in
     f.served
 
-stepped-More : (g : Over) (c : goal.In-More g) → HasStepped g.N.Naming.plans c.args.house.now c.step.new.self c.args.clients.now c.fetch.new.self c.step.new.run (goes_further c.in_ok-step.field-0)
+stepped-More : (g : Over) (c : goal.In-More g) → HasStepped g.N.Naming.plans c.args.house.now c.step.new.self c.args.clients.now c.fetch.new.self c.step.new.run (goes_further c.in_ok-step.field-0.next)
 stepped-More g c =
     let p = g.N.Naming.plans in
     let w = c.words-words.result.now in
@@ -48,19 +48,19 @@ stepped-More g c =
     let here : w ≡ (client_at c.args.clients.now run.run.stream).words = its_words ∙ ap (λ (u : ℕ). (client_at c.args.clients.now u).words) (sym stream) in
     let t = c.in_ok-step.ensures in
     has_stepped p c.args.house.now c.step.new.self c.args.clients.now run c.step.new.run c.in_ok-fetched.fetched.words has (played_is_legal p c.args.house.now.core.past c.requires.lawful c.requires.played) (subst (λ (u : ℕ). is_runnable p c.args.house.now.core.past u ≡ true) (sym stream) c.requires.runs)
-    t.slots (stays_met _ _ p c.args.house.now c.step.new.self run c.step.new.run c.in_ok-fetched.fetched.words c.in_ok-step.field-0 e.met t.steps) (subst (IsBeside c.step.new.run.side) here t.still.beside) (λ n b. subst (λ (v : PlainData). IsNoteBeside c.step.new.run.side v n) here (t.still.notes n (subst (λ (v : PlainData). IsNoteBeside run.side v n) (sym here) b))) t.list
-    _ _ c.in_ok-step.field-0 t.steps
+    t.slots (stays_met _ _ p c.args.house.now c.step.new.self run c.step.new.run c.in_ok-fetched.fetched.words c.in_ok-step.field-0.next e.met t.steps) (subst (IsBeside c.step.new.run.side) here t.still.beside) (λ n b. subst (λ (v : PlainData). IsNoteBeside c.step.new.run.side v n) here (t.still.notes n (subst (λ (v : PlainData). IsNoteBeside run.side v n) (sym here) b))) t.list
+    _ _ c.in_ok-step.field-0.next t.steps
 
 pub returns-in-More-clause-event : goal.returns-in-More-clause-event
 returns-in-More-clause-event g c = (stepped-More g c).event ∙ ap (λ (r : RunData). run_event g.N.Naming.plans c.args.house.now.core.past r.stream ∷ c.args.house.now.core.past) c.in_ok-fetched.ensures.run
 
 pub returns-in-More-clause-goes : goal.returns-in-More-clause-goes
-returns-in-More-clause-goes g c = sym (ap goes_further c.in-More.is) ∙ (stepped-More g c).goes ∙ ap (λ (r : RunData). goes_on g.N.Naming.plans c.step.new.self.core.past r.stream) c.in_ok-fetched.ensures.run
+returns-in-More-clause-goes g c = sym (ap goes_further (sym c.into_next.ensures ∙ c.in-More.is)) ∙ (stepped-More g c).goes ∙ ap (λ (r : RunData). goes_on g.N.Naming.plans c.step.new.self.core.past r.stream) c.in_ok-fetched.ensures.run
 
 pub returns-in-More-clause-served : goal.returns-in-More-clause-served
-returns-in-More-clause-served g c = (stepped-More g c).on (ap goes_further c.in-More.is)
+returns-in-More-clause-served g c = (stepped-More g c).on (ap goes_further (sym c.into_next.ensures ∙ c.in-More.is))
 
-stepped-FlushEnd : (g : Over) (c : goal.In-FlushEnd g) → HasStepped g.N.Naming.plans c.args.house.now c.step.new.self c.args.clients.now c.fetch.new.self c.step.new.run (goes_further c.in_ok-step.field-0)
+stepped-FlushEnd : (g : Over) (c : goal.In-FlushEnd g) → HasStepped g.N.Naming.plans c.args.house.now c.step.new.self c.args.clients.now c.fetch.new.self c.step.new.run (goes_further c.in_ok-step.field-0.next)
 stepped-FlushEnd g c =
     let p = g.N.Naming.plans in
     let w = c.words-words.result.now in
@@ -73,17 +73,17 @@ stepped-FlushEnd g c =
     let here : w ≡ (client_at c.args.clients.now run.run.stream).words = its_words ∙ ap (λ (u : ℕ). (client_at c.args.clients.now u).words) (sym stream) in
     let t = c.in_ok-step.ensures in
     has_stepped p c.args.house.now c.step.new.self c.args.clients.now run c.step.new.run c.in_ok-fetched.fetched.words has (played_is_legal p c.args.house.now.core.past c.requires.lawful c.requires.played) (subst (λ (u : ℕ). is_runnable p c.args.house.now.core.past u ≡ true) (sym stream) c.requires.runs)
-    t.slots (stays_met _ _ p c.args.house.now c.step.new.self run c.step.new.run c.in_ok-fetched.fetched.words c.in_ok-step.field-0 e.met t.steps) (subst (IsBeside c.step.new.run.side) here t.still.beside) (λ n b. subst (λ (v : PlainData). IsNoteBeside c.step.new.run.side v n) here (t.still.notes n (subst (λ (v : PlainData). IsNoteBeside run.side v n) (sym here) b))) t.list
-    _ _ c.in_ok-step.field-0 t.steps
+    t.slots (stays_met _ _ p c.args.house.now c.step.new.self run c.step.new.run c.in_ok-fetched.fetched.words c.in_ok-step.field-0.next e.met t.steps) (subst (IsBeside c.step.new.run.side) here t.still.beside) (λ n b. subst (λ (v : PlainData). IsNoteBeside c.step.new.run.side v n) here (t.still.notes n (subst (λ (v : PlainData). IsNoteBeside run.side v n) (sym here) b))) t.list
+    _ _ c.in_ok-step.field-0.next t.steps
 
 pub returns-in-FlushEnd-clause-event : goal.returns-in-FlushEnd-clause-event
 returns-in-FlushEnd-clause-event g c = (stepped-FlushEnd g c).event ∙ ap (λ (r : RunData). run_event g.N.Naming.plans c.args.house.now.core.past r.stream ∷ c.args.house.now.core.past) c.in_ok-fetched.ensures.run
 
 pub returns-in-FlushEnd-clause-goes : goal.returns-in-FlushEnd-clause-goes
-returns-in-FlushEnd-clause-goes g c = sym (ap goes_further c.in-FlushEnd.is) ∙ (stepped-FlushEnd g c).goes ∙ ap (λ (r : RunData). goes_on g.N.Naming.plans c.step.new.self.core.past r.stream) c.in_ok-fetched.ensures.run
+returns-in-FlushEnd-clause-goes g c = sym (ap goes_further (sym c.into_next.ensures ∙ c.in-FlushEnd.is)) ∙ (stepped-FlushEnd g c).goes ∙ ap (λ (r : RunData). goes_on g.N.Naming.plans c.step.new.self.core.past r.stream) c.in_ok-fetched.ensures.run
 
 pub returns-in-FlushEnd-clause-served : goal.returns-in-FlushEnd-clause-served
-returns-in-FlushEnd-clause-served g c = (stepped-FlushEnd g c).on (ap goes_further c.in-FlushEnd.is)
+returns-in-FlushEnd-clause-served g c = (stepped-FlushEnd g c).on (ap goes_further (sym c.into_next.ensures ∙ c.in-FlushEnd.is))
 
 pub back-requires : goal.back-requires
 back-requires g c = record {
@@ -99,12 +99,12 @@ back-requires g c = record {
       let here : w ≡ (client_at c.args.clients.now run.run.stream).words = its_words ∙ ap (λ (u : ℕ). (client_at c.args.clients.now u).words) (sym stream) in
       let t = c.in_ok-step.ensures in
       has_stepped p c.args.house.now c.step.new.self c.args.clients.now run c.step.new.run c.in_ok-fetched.fetched.words has (played_is_legal p c.args.house.now.core.past c.requires.lawful c.requires.played) (subst (λ (u : ℕ). is_runnable p c.args.house.now.core.past u ≡ true) (sym stream) c.requires.runs)
-      t.slots (stays_met _ _ p c.args.house.now c.step.new.self run c.step.new.run c.in_ok-fetched.fetched.words c.in_ok-step.field-0 e.met t.steps) (subst (IsBeside c.step.new.run.side) here t.still.beside) (λ n b. subst (λ (v : PlainData). IsNoteBeside c.step.new.run.side v n) here (t.still.notes n (subst (λ (v : PlainData). IsNoteBeside run.side v n) (sym here) b))) t.list
-      _ _ c.in_ok-step.field-0 t.steps
+      t.slots (stays_met _ _ p c.args.house.now c.step.new.self run c.step.new.run c.in_ok-fetched.fetched.words c.in_ok-step.field-0.next e.met t.steps) (subst (IsBeside c.step.new.run.side) here t.still.beside) (λ n b. subst (λ (v : PlainData). IsNoteBeside c.step.new.run.side v n) here (t.still.notes n (subst (λ (v : PlainData). IsNoteBeside run.side v n) (sym here) b))) t.list
+      _ _ c.in_ok-step.field-0.next t.steps
       ).list;
 }
 
-stepped-back : (g : Over) (c : goal.After-back g) → HasStepped g.N.Naming.plans c.args.house.now c.step.new.self c.args.clients.now c.fetch.new.self c.step.new.run (goes_further c.in_ok-step.field-0)
+stepped-back : (g : Over) (c : goal.After-back g) → HasStepped g.N.Naming.plans c.args.house.now c.step.new.self c.args.clients.now c.fetch.new.self c.step.new.run (goes_further c.in_ok-step.field-0.next)
 stepped-back g c =
     let p = g.N.Naming.plans in
     let w = c.words-words.result.now in
@@ -117,15 +117,15 @@ stepped-back g c =
     let here : w ≡ (client_at c.args.clients.now run.run.stream).words = its_words ∙ ap (λ (u : ℕ). (client_at c.args.clients.now u).words) (sym stream) in
     let t = c.in_ok-step.ensures in
     has_stepped p c.args.house.now c.step.new.self c.args.clients.now run c.step.new.run c.in_ok-fetched.fetched.words has (played_is_legal p c.args.house.now.core.past c.requires.lawful c.requires.played) (subst (λ (u : ℕ). is_runnable p c.args.house.now.core.past u ≡ true) (sym stream) c.requires.runs)
-    t.slots (stays_met _ _ p c.args.house.now c.step.new.self run c.step.new.run c.in_ok-fetched.fetched.words c.in_ok-step.field-0 e.met t.steps) (subst (IsBeside c.step.new.run.side) here t.still.beside) (λ n b. subst (λ (v : PlainData). IsNoteBeside c.step.new.run.side v n) here (t.still.notes n (subst (λ (v : PlainData). IsNoteBeside run.side v n) (sym here) b))) t.list
-    _ _ c.in_ok-step.field-0 t.steps
+    t.slots (stays_met _ _ p c.args.house.now c.step.new.self run c.step.new.run c.in_ok-fetched.fetched.words c.in_ok-step.field-0.next e.met t.steps) (subst (IsBeside c.step.new.run.side) here t.still.beside) (λ n b. subst (λ (v : PlainData). IsNoteBeside c.step.new.run.side v n) here (t.still.notes n (subst (λ (v : PlainData). IsNoteBeside run.side v n) (sym here) b))) t.list
+    _ _ c.in_ok-step.field-0.next t.steps
 
 pub returns-in_default : goal.returns-in_default
 returns-in_default g c =
     let t = stepped-back g c in
     record {
       event = c.back.ensures.past ∙ t.event ∙ ap (λ (r : RunData). run_event g.N.Naming.plans c.args.house.now.core.past r.stream ∷ c.args.house.now.core.past) c.in_ok-fetched.ensures.run;
-      goes = sym (stops c.in_ok-step.field-0 c.in_default.not-More c.in_default.not-FlushEnd) ∙ t.goes ∙ ap (λ (r : RunData). goes_on g.N.Naming.plans c.step.new.self.core.past r.stream) c.in_ok-fetched.ensures.run ∙ ap (λ (h : List Event). goes_on g.N.Naming.plans h c.args.run.run.stream) (sym c.back.ensures.past);
+      goes = sym (stops c.in_ok-step.field-0.next (λ e. c.in_default.not-More (c.into_next.ensures ∙ e)) (λ e. c.in_default.not-FlushEnd (c.into_next.ensures ∙ e))) ∙ t.goes ∙ ap (λ (r : RunData). goes_on g.N.Naming.plans c.step.new.self.core.past r.stream) c.in_ok-fetched.ensures.run ∙ ap (λ (h : List Event). goes_on g.N.Naming.plans h c.args.run.run.stream) (sym c.back.ensures.past);
       same = tt;
       served = t.home c.back.new.self c.back.ensures.past c.back.ensures.outs c.back.ensures.slots;
     }

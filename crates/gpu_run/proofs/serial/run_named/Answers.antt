@@ -1,6 +1,7 @@
 use Rattle.std.proofs.Common.{length, replicate, sym, ap, subst, ◌∙◌}
 use Rattle.gpu_plan.specs.Plans.{PlansData}
 use Rattle.house_core.specs.Desks.{at_home}
+use Rattle.gpu_house.specs.Names.{table_at}
 use Rattle.gpu_run.specs.Clients.{done_at}
 use Rattle.gpu_run.specs.Rounds.{IsRising}
 use Rattle.gpu_run.proofs.AllFound.{found_fresh}
@@ -10,7 +11,7 @@ use Rattle.gpu_run.proofs.Turns.{begins}
 use Rattle.gpu_run.proofs.serial.run_named.Goals as goal
 
 pub make-requires-clause-results : goal.make-requires-clause-results
-make-requires-clause-results g c = plain_results c.args.plans.plans c.args.parts.results.items (c.requires.fresh.results ∙ ap (λ (p : PlansData). length p.plans) (sym c.requires.plans))
+make-requires-clause-results g c = plain_results (table_at g.N.Naming.result_words) 1 c.args.plans.plans c.args.parts.results.items (c.requires.fresh.results ∙ ap (λ (p : PlansData). length p.plans) (sym c.requires.plans))
 
 pub play-requires : goal.play-requires
 play-requires g c =

@@ -34,12 +34,12 @@ invariant_of-self g c =
       plans = waits.plans ∙ was.plans;
       booked = waits.books ∙ was.booked;
       slots = length-set slots (t - 1) c.come.new.self ∙ was.slots;
-      homes = came_back S.side S.table S.mark p (table_at g.N.Naming.words) (book_at g.N.Naming.books) run core now slots t c.index_mut.result.now c.come.new.self c.run.inside.side c.run.inside.note
+      homes = came_back S.side S.table S.mark S.note_of p (table_at g.N.Naming.words) (book_at g.N.Naming.books) run core now slots t c.index_mut.result.now c.come.new.self c.run.inside.side c.run.inside.note
           c.stream-stream.ensures there c.index_mut.ensures.value c.come.ensures c.run.invariant waits.past c.back.ensures.outs
           (λ o. (run_of o, whole o, is_out core.outs run.stream record { order = run.order; paused = run.paused } c.back.ensures.out (order_positive p core.past run (run_of o)))) was.homes;
       marked = subst (λ (h : List Event). AreMarked p g.N.Naming.base h c.self.inside.hooks) (sym waits.past) was.marked;
       result_count = was.result_count;
-      results = subst (λ (h : List Event). AllFit S.takes S.written p h results) (sym waits.past) was.results;
+      results = subst (λ (h : List Event). AllFit S.takes S.written S.results_of (table_at g.N.Naming.result_words) p h results) (sym waits.past) was.results;
     }
 
 pub returns-clause-slots : goal.returns-clause-slots

@@ -24,18 +24,20 @@ invariant_of-self g c =
     let p = g.N.Naming.plans in
     let takes = g.P.ServiceSide.takes in
     let told = g.P.ServiceSide.written in
+    let results_of = g.P.ServiceSide.results_of in
+    let answers = table_at g.N.Naming.result_words in
     let core = c.self.inside.core in
     let now = c.close-closing.new.self in
     let slots = c.self.inside.slots.items in
     let results = c.self.inside.results.items in
     let was = c.self.invariant in
     let came = closes core now c.args.stream c.close-closing.result c.close-closing.ensures.event c.close-closing.ensures.same in
-    kept g.P.ServiceSide.side g.P.ServiceSide.table g.P.ServiceSide.mark takes told p g.N.Naming.base g.N.Naming.words g.N.Naming.books c.self.inside.hooks c.follow.new.hooks
+    kept g.P.ServiceSide.side g.P.ServiceSide.table g.P.ServiceSide.mark g.P.ServiceSide.note_of takes told results_of p g.N.Naming.base g.N.Naming.words g.N.Naming.books g.N.Naming.result_words c.self.inside.hooks c.follow.new.hooks
     record { core = core; slots = slots; results = results } record { core = now; slots = slots; results = results } was
     c.holds.ensures (⊎_elim (λ grows. grows.plans) (λ stays. stays.plans) came) (⊎_elim (λ grows. grows.books) (λ stays. stays.books) came)
     c.follow.ensures refl
-    (⊎_elim (λ grows. ended_homes g.P.ServiceSide.side g.P.ServiceSide.table g.P.ServiceSide.mark p (table_at g.N.Naming.words) core now (Close c.args.stream) slots grows.past c.close-closing.ensures.outs (close_ends p core.past c.args.stream) was.homes)
-    (λ stays. still_homes g.P.ServiceSide.side g.P.ServiceSide.table g.P.ServiceSide.mark p (table_at g.N.Naming.words) core now slots stays.past stays.outs was.homes) came)
+    (⊎_elim (λ grows. ended_homes g.P.ServiceSide.side g.P.ServiceSide.table g.P.ServiceSide.mark g.P.ServiceSide.note_of p (table_at g.N.Naming.words) core now (Close c.args.stream) slots grows.past c.close-closing.ensures.outs (close_ends p core.past c.args.stream) was.homes)
+    (λ stays. still_homes g.P.ServiceSide.side g.P.ServiceSide.table g.P.ServiceSide.mark g.P.ServiceSide.note_of p (table_at g.N.Naming.words) core now slots stays.past stays.outs was.homes) came)
     refl
-    (⊎_elim (λ grows. subst (λ (h : List Event). AllFit takes told p h results) (sym grows.past) (all_still takes told p (Close c.args.stream) core.past results (λ s. refl) was.results))
-    (λ stays. subst (λ (h : List Event). AllFit takes told p h results) (sym stays.past) was.results) came)
+    (⊎_elim (λ grows. subst (λ (h : List Event). AllFit takes told results_of answers p h results) (sym grows.past) (all_still takes told results_of answers p (Close c.args.stream) core.past results (λ s. refl) was.results))
+    (λ stays. subst (λ (h : List Event). AllFit takes told results_of answers p h results) (sym stays.past) was.results) came)

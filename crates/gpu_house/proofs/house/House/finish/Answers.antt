@@ -1,10 +1,12 @@
-use Rattle.std.proofs.Common.{◌≡◌, ◌-◌, true, false, Some, None, List, refl, sym, ap, subst, ◌∙◌, length-set}
-use Rattle.std.specs.Prelude.{slice_set}
+use Rattle.std.proofs.Common.{◌≡◌, ℕ, ◌+◌, ◌-◌, true, false, Some, None, List, refl, sym, ap, subst, ◌∙◌, length-set}
+use Rattle.std.specs.Prelude.{slice_set, IfSome}
+use Rattle.gpu_word.specs.Results.{finishes_in}
 use Rattle.gpu_plan.specs.Plans.{PlansData}
 use Rattle.gpu_fetch.specs.Side.{with_finish}
 use Rattle.sync_core.specs.Standing.{is_open}
 use Rattle.gpu_journal.specs.declared.event.Event.{Event}
 use Rattle.gpu_journal.specs.declared.event.Event.TheVariants.{Finish}
+use Rattle.gpu_journal.specs.World.{known as known'}
 use Rattle.gpu_journal.specs.Waits.{standing_of}
 use Rattle.house_core.specs.Core.{IsRunOf, book_at}
 use Rattle.gpu_house.specs.Marks.{AreMarked}
@@ -16,7 +18,8 @@ use Rattle.gpu_house.proofs.Stepping.{note_marked}
 use Rattle.gpu_house.proofs.Homes.{came_back, came_done, is_out, order_positive}
 use Rattle.gpu_house.proofs.Cases.{open_here, known_here}
 use Rattle.gpu_house.proofs.Endings.{grown_quietly}
-use Rattle.gpu_house.proofs.Writings.{AllFit, all_more, read_belongs, wrote}
+use Rattle.gpu_house.proofs.Counting.{counted_next}
+use Rattle.gpu_house.proofs.Writings.{AllFit, all_more, at_stream, read_belongs, wrote}
 use Rattle.gpu_house.proofs.Keeping.{kept}
 use Rattle.gpu_house.proofs.house.House.finish.Goals as goal
 
@@ -26,6 +29,8 @@ invariant_of-self g c =
     let p = g.N.Naming.plans in
     let takes = g.P.ServiceSide.takes in
     let told = g.P.ServiceSide.written in
+    let results_of = g.P.ServiceSide.results_of in
+    let answers = table_at g.N.Naming.result_words in
     let results = c.self.inside.results.items in
     let was = c.self.invariant in
     let run = c.run.inside.carried in
@@ -38,12 +43,12 @@ invariant_of-self g c =
       plans = waits.plans ∙ was.plans;
       booked = waits.books ∙ was.booked;
       slots = length-set c.self.inside.slots.items (c.stream-stream.result - 1) c.come.new.self ∙ was.slots;
-      homes = came_back g.P.ServiceSide.side g.P.ServiceSide.table g.P.ServiceSide.mark p (table_at g.N.Naming.words) (book_at g.N.Naming.books) run c.self.inside.core c.finish.new.self slots t c.index_mut-slot.result.now c.come.new.self c.run.inside.side c.run.inside.note
+      homes = came_back g.P.ServiceSide.side g.P.ServiceSide.table g.P.ServiceSide.mark g.P.ServiceSide.note_of p (table_at g.N.Naming.words) (book_at g.N.Naming.books) run c.self.inside.core c.finish.new.self slots t c.index_mut-slot.result.now c.come.new.self c.run.inside.side c.run.inside.note
           c.stream-stream.ensures (known_here p slots t run.stream was.slots c.stream-stream.ensures c.run.invariant.of_plans.known) c.index_mut-slot.ensures.value c.come.ensures c.run.invariant waits.past c.finish.ensures.outs
           (λ o. let over' = ap (λ (q : PlansData). is_open (standing_of q c.self.inside.core.past run.stream)) (sym was.plans) ∙ over in absurd (cc)) was.homes;
       marked = subst (λ (h : List Event). AreMarked p g.N.Naming.base h c.self.inside.hooks) (sym waits.past) was.marked;
       result_count = was.result_count;
-      results = subst (λ (h : List Event). AllFit takes told p h results) (sym waits.past) was.results;
+      results = subst (λ (h : List Event). AllFit takes told results_of answers p h results) (sym waits.past) was.results;
     }
 
 pub follow-requires : goal.follow-requires
@@ -56,19 +61,21 @@ pub count_finish-requires : goal.count_finish-requires
 count_finish-requires g c =
     let t = c.stream-stream.result in
     record {
-      belongs = read_belongs g.P.ServiceSide.results_belong c.args.words.now c.args.self.now.results c.self.inside.results.items c.args.run.run.stream t c.index_mut.result.now
+      belongs = read_belongs g.P.ServiceSide.results_belong c.args.words.now c.args.self.now.results c.self.inside.results.items c.args.run.run.stream t c.index_mut-own.result.now
           (ap (λ h. h.results) c.self.view_is) (c.stream-stream.ensures ∙ ap (λ r. r.run.stream) c.run.view_is)
-          (known_here g.N.Naming.plans c.self.inside.results.items t c.run.inside.carried.stream c.self.invariant.result_count c.stream-stream.ensures c.run.invariant.of_plans.known) c.index_mut.ensures.value c.requires.results;
+          (known_here g.N.Naming.plans c.self.inside.results.items t c.run.inside.carried.stream c.self.invariant.result_count c.stream-stream.ensures c.run.invariant.of_plans.known) c.index_mut-own.ensures.value c.requires.results;
     }
 
 pub meet-requires-clause-flush : goal.meet-requires-clause-flush
-meet-requires-clause-flush g c = note_marked g.P.ServiceSide.side g.P.ServiceSide.table g.P.ServiceSide.mark g.N.Naming.plans (table_at g.N.Naming.words) (book_at g.N.Naming.books) c.run.inside.carried c.run.inside.side c.run.inside.note c.run.invariant
+meet-requires-clause-flush g c = note_marked g.P.ServiceSide.side g.P.ServiceSide.table g.P.ServiceSide.mark g.P.ServiceSide.note_of g.N.Naming.plans (table_at g.N.Naming.words) (book_at g.N.Naming.books) c.run.inside.carried c.run.inside.side c.run.inside.note c.run.invariant
 
 pub invariant_of-self-2 : goal.invariant_of-self-2
 invariant_of-self-2 g c =
     let p = g.N.Naming.plans in
     let takes = g.P.ServiceSide.takes in
     let told = g.P.ServiceSide.written in
+    let results_of = g.P.ServiceSide.results_of in
+    let answers = table_at g.N.Naming.result_words in
     let core = c.self.inside.core in
     let run = c.run.inside.carried in
     let t = c.stream-stream.result in
@@ -83,17 +90,17 @@ invariant_of-self-2 g c =
     let end : run.facts.get ≡ run.facts.put = subst (λ (o : OutData g.row.P.Denot g.row.P-Note.Denot). o.run.facts.get ≡ o.run.facts.put) (sym c.run.view_is) c.requires.end in
     let there = known_here p slots t run.stream was.slots c.stream-stream.ensures c.run.invariant.of_plans.known in
     let met = c.meet.ensures in
-    kept g.P.ServiceSide.side g.P.ServiceSide.table g.P.ServiceSide.mark takes told p g.N.Naming.base g.N.Naming.words g.N.Naming.books c.self.inside.hooks c.follow.new.hooks
+    kept g.P.ServiceSide.side g.P.ServiceSide.table g.P.ServiceSide.mark g.P.ServiceSide.note_of takes told results_of p g.N.Naming.base g.N.Naming.words g.N.Naming.books g.N.Naming.result_words c.self.inside.hooks c.follow.new.hooks
     record { core = core; slots = slots; results = results } record { core = c.finish-2.new.self; slots = slots'; results = results' } was
     c.holds-2.ensures grows.plans grows.books c.follow.ensures (length-set slots (t - 1) c.finish-3.new.self)
-    (came_done g.P.ServiceSide.side g.P.ServiceSide.table g.P.ServiceSide.mark p (table_at g.N.Naming.words) (book_at g.N.Naming.books) run core c.finish-2.new.self slots t c.index_mut-slot.result.now c.finish-3.new.self c.run.inside.side c.publish_finish.new.self c.run.inside.note
+    (came_done g.P.ServiceSide.side g.P.ServiceSide.table g.P.ServiceSide.mark g.P.ServiceSide.note_of p (table_at g.N.Naming.words) (book_at g.N.Naming.books) run core c.finish-2.new.self slots t c.index_mut-slot.result.now c.finish-3.new.self c.run.inside.side c.publish_finish.new.self c.run.inside.note
     c.stream-stream.ensures there c.index_mut-slot.ensures.value c.finish-3.ensures c.run.invariant grows.past c.finish-2.ensures.outs (subst (λ (q : PlansData). is_open (standing_of q core.past run.stream) ≡ true) was.plans still_open) run_of end
     (is_out core.outs run.stream record { order = run.order; paused = false } c.finish-2.ensures.out (order_positive p core.past run run_of))
     (c.publish_finish.ensures.finished ∙ ap with_finish met.told) (c.publish_finish.ensures.table ∙ met.table) was.homes)
     (length-set results (t - 1) c.count_finish.new.results)
-    (subst (λ (h : List Event). AllFit takes told p h results') (sym grows.past)
-    (all_more takes told p (Finish run.stream run.order) core.past results t c.count_finish.new.results c.index_mut.result.now c.stream-stream.ensures
-    (known_here p results t run.stream was.result_count c.stream-stream.ensures c.run.invariant.of_plans.known) c.index_mut.ensures.value c.count_finish.ensures.written c.count_finish.ensures.takes was.results))
+    (subst (λ (h : List Event). AllFit takes told results_of answers p h results') (sym grows.past)
+    (all_more takes told results_of answers p (Finish run.stream run.order) core.past results t c.count_finish.new.results c.index_mut-own.result.now c.stream-stream.ensures
+    (known_here p results t run.stream was.result_count c.stream-stream.ensures c.run.invariant.of_plans.known) c.index_mut-own.ensures.value c.count_finish.ensures.written c.count_finish.ensures.takes c.count_finish.ensures.named was.results))
 
 pub returns-clause-done : goal.returns-clause-done
 returns-clause-done g c o =
@@ -119,3 +126,22 @@ returns-clause-results g c =
     wrote g.P.ServiceSide.results_belong c.args.words.now c.args.self.now.results c.self.inside.results.items c.args.run.run.stream t c.count_finish.new.results
     (ap (λ h. h.results) c.self.view_is) (c.stream-stream.ensures ∙ ap (λ r. r.run.stream) c.run.view_is)
     (known_here g.N.Naming.plans c.self.inside.results.items t c.run.inside.carried.stream c.self.invariant.result_count c.stream-stream.ensures c.run.invariant.of_plans.known) c.count_finish.ensures.belongs
+
+-- the finish that is published was counted before
+pub publish_finish-requires-clause-counted : goal.publish_finish-requires-clause-counted
+publish_finish-requires-clause-counted g c =
+    let S = g.P.ServiceSide in
+    let p = g.N.Naming.plans in
+    let core = c.self.inside.core in
+    let run = c.run.inside.carried in
+    let t = c.stream-stream.result in
+    let results = c.self.inside.results.items in
+    let was = c.self.invariant in
+    let still_open = open_here core t run.stream c.is_open.result true c.stream-stream.ensures c.is_open.ensures c.if-not-is_open.false in
+    let run_of : IsRunOf p core.past run = subst (λ (q : PlansData). IsRunOf q core.past run) was.plans (c.finish-2.ensures.shows still_open) in
+    let known = known_here p results t run.stream was.result_count c.stream-stream.ensures c.run.invariant.of_plans.known in
+    let fit = at_stream S.takes S.written S.results_of (table_at g.N.Naming.result_words) p core.past results t c.index_mut-own.result.now known c.index_mut-own.ensures.value was.results in
+    let next = counted_next p core.past t (S.written c.index_mut-own.result.now) (S.written c.count_finish.new.results) fit.are_written c.count_finish.ensures.written in
+    let same : (known' p core.past t).finished ≡ (S.side c.meet.new.side).finished =
+    ap (λ (s : ℕ). (known' p core.past s).finished) c.stream-stream.ensures ∙ sym run_of.finished ∙ sym c.run.invariant.finished ∙ sym c.meet.ensures.finished in
+    subst (λ (n : ℕ). IfSome (S.written c.count_finish.new.results) (λ list. finishes_in list ≡ n + 1)) same next

@@ -29,6 +29,8 @@ pub invariant_of-self : goal.invariant_of-self
 invariant_of-self g c =
     let takes = g.P.ServiceSide.takes in
     let told = g.P.ServiceSide.written in
+    let results_of = g.P.ServiceSide.results_of in
+    let answers = table_at g.N.Naming.result_words in
     let core = c.self.inside.core in
     let now = c.lose.new.self in
     let slots = c.self.inside.slots.items in
@@ -39,17 +41,17 @@ invariant_of-self g c =
     let t = c.stream-stream.result in
     let there = known_here g.N.Naming.plans slots t run.stream was.slots c.stream-stream.ensures c.run.invariant.of_plans.known in
     let came = loses_run core now c.run.inside.carried.stream c.lose.ensures.event c.lose.ensures.over in
-    kept g.P.ServiceSide.side g.P.ServiceSide.table g.P.ServiceSide.mark takes told g.N.Naming.plans g.N.Naming.base g.N.Naming.words g.N.Naming.books c.self.inside.hooks c.follow.new.hooks
+    kept g.P.ServiceSide.side g.P.ServiceSide.table g.P.ServiceSide.mark g.P.ServiceSide.note_of takes told results_of g.N.Naming.plans g.N.Naming.base g.N.Naming.words g.N.Naming.books g.N.Naming.result_words c.self.inside.hooks c.follow.new.hooks
     record { core = core; slots = slots; results = results } record { core = now; slots = slots'; results = results } was
     c.holds.ensures (⊎_elim (λ grows. grows.plans) (λ waits. waits.1.plans) came) (⊎_elim (λ grows. grows.books) (λ waits. waits.1.books) came)
     c.follow.ensures (length-set slots (c.stream-stream.result - 1) c.come.new.self)
-    (⊎_elim (λ grows. came_lost g.P.ServiceSide.side g.P.ServiceSide.table g.P.ServiceSide.mark g.N.Naming.plans (table_at g.N.Naming.words) (book_at g.N.Naming.books) run core now slots t c.index_mut.result.now c.come.new.self c.run.inside.side c.run.inside.note Memory []
+    (⊎_elim (λ grows. came_lost g.P.ServiceSide.side g.P.ServiceSide.table g.P.ServiceSide.mark g.P.ServiceSide.note_of g.N.Naming.plans (table_at g.N.Naming.words) (book_at g.N.Naming.books) run core now slots t c.index_mut.result.now c.come.new.self c.run.inside.side c.run.inside.note Memory []
     c.stream-stream.ensures there c.index_mut.ensures.value c.come.ensures c.run.invariant grows.past c.lose.ensures.outs was.homes)
-    (λ waits. came_back g.P.ServiceSide.side g.P.ServiceSide.table g.P.ServiceSide.mark g.N.Naming.plans (table_at g.N.Naming.words) (book_at g.N.Naming.books) run core now slots t c.index_mut.result.now c.come.new.self c.run.inside.side c.run.inside.note
+    (λ waits. came_back g.P.ServiceSide.side g.P.ServiceSide.table g.P.ServiceSide.mark g.P.ServiceSide.note_of g.N.Naming.plans (table_at g.N.Naming.words) (book_at g.N.Naming.books) run core now slots t c.index_mut.result.now c.come.new.self c.run.inside.side c.run.inside.note
     c.stream-stream.ensures there c.index_mut.ensures.value c.come.ensures c.run.invariant waits.1.past c.lose.ensures.outs
     (λ o. let over = ap (λ (q : PlansData). is_open (standing_of q core.past run.stream)) (sym was.plans) ∙ waits.0 in absurd (cc)) was.homes) came) refl
-    (⊎_elim (λ grows. subst (λ (h : List Event). AllFit takes told g.N.Naming.plans h results) (sym grows.past) (all_still takes told g.N.Naming.plans (Lost c.run.inside.carried.stream Memory []) core.past results (λ s. refl) was.results))
-    (λ waits. subst (λ (h : List Event). AllFit takes told g.N.Naming.plans h results) (sym waits.1.past) was.results) came)
+    (⊎_elim (λ grows. subst (λ (h : List Event). AllFit takes told results_of answers g.N.Naming.plans h results) (sym grows.past) (all_still takes told results_of answers g.N.Naming.plans (Lost c.run.inside.carried.stream Memory []) core.past results (λ s. refl) was.results))
+    (λ waits. subst (λ (h : List Event). AllFit takes told results_of answers g.N.Naming.plans h results) (sym waits.1.past) was.results) came)
 
 pub returns-clause-slots : goal.returns-clause-slots
 returns-clause-slots g c =

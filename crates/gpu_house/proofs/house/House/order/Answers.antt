@@ -30,7 +30,7 @@ invariant_of-self-in-Err g c =
     let i = c.args.stream - 1 in
     let room = c.take_room.ensures in
     let back : slice_set slots i c.push.new.self ≡ slots = ap (slice_set slots i) c.in-Err.ensures.same ∙ set_back slots i c.index_mut-slot.result.now c.index_mut-slot.ensures.value in
-    kept_still g.P.ServiceSide.side g.P.ServiceSide.table g.P.ServiceSide.mark g.P.ServiceSide.takes g.P.ServiceSide.written g.N.Naming.plans g.N.Naming.base g.N.Naming.words g.N.Naming.books c.self.inside.hooks c.take_room.new.hooks
+    kept_still g.P.ServiceSide.side g.P.ServiceSide.table g.P.ServiceSide.mark g.P.ServiceSide.note_of g.P.ServiceSide.takes g.P.ServiceSide.written g.P.ServiceSide.results_of g.N.Naming.plans g.N.Naming.base g.N.Naming.words g.N.Naming.books g.N.Naming.result_words c.self.inside.hooks c.take_room.new.hooks
     record { core = core; slots = slots; results = results } record { core = core; slots = slice_set slots i c.push.new.self; results = results } c.self.invariant
     record { plans = refl; past = refl; books = refl; outs = refl; spare = omega arith } back refl room.base room.marks room.grows
 
@@ -51,7 +51,7 @@ invariant_of-self-in-Err-order g c =
     let slot = c.index_mut-slot.result.now in
     let popped = pushed_back slot c.push.new.self c.pop_last.new.self c.args.note _ c.in_default.ensures.ok c.in-Some.ensures in
     let back : slice_set slots i c.pop_last.new.self ≡ slots = ap (slice_set slots i) popped ∙ set_back slots i slot c.index_mut-slot.ensures.value in
-    kept_still g.P.ServiceSide.side g.P.ServiceSide.table g.P.ServiceSide.mark g.P.ServiceSide.takes g.P.ServiceSide.written g.N.Naming.plans g.N.Naming.base g.N.Naming.words g.N.Naming.books c.self.inside.hooks c.take_room.new.hooks
+    kept_still g.P.ServiceSide.side g.P.ServiceSide.table g.P.ServiceSide.mark g.P.ServiceSide.note_of g.P.ServiceSide.takes g.P.ServiceSide.written g.P.ServiceSide.results_of g.N.Naming.plans g.N.Naming.base g.N.Naming.words g.N.Naming.books g.N.Naming.result_words c.self.inside.hooks c.take_room.new.hooks
     record { core = c.self.inside.core; slots = slots; results = results } record { core = c.order.new.self; slots = slice_set slots i c.pop_last.new.self; results = results } c.self.invariant
     c.in-Err-order.ensures.err back refl room.base room.marks room.grows
 
@@ -89,8 +89,11 @@ invariant_of-self-2 g c =
     let side = g.P.ServiceSide.side in
     let table = g.P.ServiceSide.table in
     let mark = g.P.ServiceSide.mark in
+    let note_of = g.P.ServiceSide.note_of in
     let takes = g.P.ServiceSide.takes in
     let told = g.P.ServiceSide.written in
+    let results_of = g.P.ServiceSide.results_of in
+    let answers = table_at g.N.Naming.result_words in
     let core = c.self.inside.core in
     let now = c.order.new.self in
     let s = c.args.stream in
@@ -100,15 +103,15 @@ invariant_of-self-2 g c =
     let grows = c.in-Ok.ensures.event in
     let view = sym (ap (λ house. house.core.past) c.self.view_is) in
     let past : now.past ≡ order_event p core.past s ∷ core.past = subst (λ (q : PlansData). now.past ≡ order_event q core.past s ∷ core.past) was.plans grows.past in
-    kept side table mark takes told p g.N.Naming.base g.N.Naming.words g.N.Naming.books c.self.inside.hooks c.follow.new.hooks
+    kept side table mark note_of takes told results_of p g.N.Naming.base g.N.Naming.words g.N.Naming.books g.N.Naming.result_words c.self.inside.hooks c.follow.new.hooks
     record { core = core; slots = slots; results = results } record { core = now; slots = slice_set slots (s - 1) c.push.new.self; results = results } was
     c.holds.ensures grows.plans grows.books (subst (λ (b : ℕ). AreMarked now.plans b now.past c.follow.new.hooks) c.take_room.ensures.base c.follow.ensures) (length-set slots (s - 1) c.push.new.self)
-    (ordered_homes side table mark p (table_at g.N.Naming.words) core now slots s c.args.note c.index_mut-slot.result.now c.push.new.self
+    (ordered_homes side table mark note_of p (table_at g.N.Naming.words) core now slots s c.args.note c.index_mut-slot.result.now c.push.new.self
     (subst (λ (q : PlansData). IsLegal q core.past) was.plans (core_legal core was.core))
     (subst (λ (n : ℕ). IsKnown n s) (sym was.slots) c.requires.known)
     (subst (λ (q : PlansData). (standing_of q core.past s).lost ≡ false) was.plans (sym c.is_lost.ensures ∙ c.if-is_lost.false))
     (subst (λ (h : List Event). (known p h s).ordered < flushes (plan_of p s).actions) view c.requires.next)
-    (subst (λ (h : List Event). mark c.args.note ≡ mark_of (plan_of p s) (known p h s).ordered) view c.requires.note)
+    (subst (λ (h : List Event). mark c.args.note ≡ mark_of (plan_of p s) (known p h s).ordered) view c.requires.note) c.requires.table
     past c.order.ensures.outs c.index_mut-slot.ensures.value c.in_default.ensures.ok was.homes)
     refl
-    (subst (λ (h : List Event). AllFit takes told p h results) (sym past) (all_still takes told p (order_event p core.past s) core.past results (λ s. refl) was.results))
+    (subst (λ (h : List Event). AllFit takes told results_of answers p h results) (sym past) (all_still takes told results_of answers p (order_event p core.past s) core.past results (λ s. refl) was.results))

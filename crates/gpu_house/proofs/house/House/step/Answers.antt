@@ -1,4 +1,4 @@
-use Rattle.std.proofs.Common.{◌≡◌, ℕ, ◌-◌, Bool, false, true, List, drop, option_map, length, refl, sym, ap, subst, ◌∙◌, arith, length-set}
+use Rattle.std.proofs.Common.{◌≡◌, ℕ, ◌-◌, Bool, false, true, List, ◌∷◌, drop, option_map, length, refl, sym, ap, subst, ◌∙◌, arith, length-set}
 use Rattle.std.specs.Prelude.{slice_set, slice_index_or}
 use Rattle.std.specs.List.{All}
 use Rattle.gpu_word.specs.Results.{writes_of}
@@ -9,13 +9,14 @@ use Rattle.stream_state.specs.declared.effect.Effect.{Effect}
 use Rattle.stream_state.specs.Steps.{writes}
 use Rattle.stream_state.specs.Told.{writes_told}
 use Rattle.sync_core.specs.Standing.{is_open}
-use Rattle.gpu_journal.specs.World.{world, asked_by, state_of}
+use Rattle.gpu_journal.specs.World.{world, asked_by, state_of, replay}
 use Rattle.gpu_journal.specs.declared.event.Event.{Event}
 use Rattle.gpu_journal.specs.declared.event.Event.TheVariants.{Step, Lost}
 use Rattle.gpu_journal.specs.declared.event.Why.TheVariants.{Error}
 use Rattle.gpu_journal.specs.Waits.{standing_of, pending_in}
 use Rattle.run_laws.specs.Going.{keeps}
 use Rattle.house_core.specs.Core.{IsRunOf, MayHavePut, is_home, book_at}
+use Rattle.house_core.specs.Answers.{WasExecuted}
 use Rattle.run_laws.proofs.Going.{lost_ends}
 use Rattle.house_core.specs.Desks.{Out}
 use Rattle.gpu_house.specs.Names.{table_at}
@@ -31,6 +32,9 @@ use Rattle.gpu_house.specs.Slots.{RunFits}
 use Rattle.gpu_house.specs.House.{HouseData, OutData}
 use Rattle.gpu_house.specs.Changes.{StillBelongs, met_by}
 use Rattle.gpu_house.specs.Steps.{told_side, IsDone, Steps}
+use Rattle.gpu_house.specs.declared.answers.Progress.{Progress}
+use Rattle.gpu_house.specs.Drawing.{drawn_if, Draws}
+use Rattle.gpu_house.proofs.Drawings.{told_drawn, draws_step, draws_lost, drawn_where}
 use Rattle.gpu_house.proofs.Stepping.{note_marked, met_fits, stepped_fits, told_list, ends}
 use Rattle.gpu_house.proofs.house.House.step.Given.{Over}
 use Rattle.gpu_house.proofs.house.House.step.Goals as goal
@@ -49,7 +53,7 @@ invariant_of-self-in_err-step g c =
     let slots = c.self.inside.slots.items in
     let results = c.self.inside.results.items in
     let room = c.take_room.ensures in
-    kept_still g.P.ServiceSide.side g.P.ServiceSide.table g.P.ServiceSide.mark g.P.ServiceSide.takes g.P.ServiceSide.written g.N.Naming.plans g.N.Naming.base g.N.Naming.words g.N.Naming.books c.self.inside.hooks c.take_room.new.hooks
+    kept_still g.P.ServiceSide.side g.P.ServiceSide.table g.P.ServiceSide.mark g.P.ServiceSide.note_of g.P.ServiceSide.takes g.P.ServiceSide.written g.P.ServiceSide.results_of g.N.Naming.plans g.N.Naming.base g.N.Naming.words g.N.Naming.books g.N.Naming.result_words c.self.inside.hooks c.take_room.new.hooks
     record { core = c.self.inside.core; slots = slots; results = results } record { core = c.step.new.self; slots = slots; results = results } c.self.invariant
     c.in_err-step.ensures.err refl refl room.base room.marks room.grows
 
@@ -58,7 +62,7 @@ invariant_of-self-in-Lost g c =
     let slots = c.self.inside.slots.items in
     let results = c.self.inside.results.items in
     let room = c.take_room.ensures in
-    kept_still g.P.ServiceSide.side g.P.ServiceSide.table g.P.ServiceSide.mark g.P.ServiceSide.takes g.P.ServiceSide.written g.N.Naming.plans g.N.Naming.base g.N.Naming.words g.N.Naming.books c.self.inside.hooks c.take_room.new.hooks
+    kept_still g.P.ServiceSide.side g.P.ServiceSide.table g.P.ServiceSide.mark g.P.ServiceSide.note_of g.P.ServiceSide.takes g.P.ServiceSide.written g.P.ServiceSide.results_of g.N.Naming.plans g.N.Naming.base g.N.Naming.words g.N.Naming.books g.N.Naming.result_words c.self.inside.hooks c.take_room.new.hooks
     record { core = c.self.inside.core; slots = slots; results = results } record { core = c.step.new.self; slots = slots; results = results } c.self.invariant
     (of_lost _ _ _ _ _ c.in_ok-step.field-0 c.in_ok-step.ensures.steps c.in-Lost.is).stays refl refl room.base room.marks room.grows
 
@@ -67,7 +71,7 @@ invariant_of-self-in-Closed g c =
     let slots = c.self.inside.slots.items in
     let results = c.self.inside.results.items in
     let room = c.take_room.ensures in
-    kept_still g.P.ServiceSide.side g.P.ServiceSide.table g.P.ServiceSide.mark g.P.ServiceSide.takes g.P.ServiceSide.written g.N.Naming.plans g.N.Naming.base g.N.Naming.words g.N.Naming.books c.self.inside.hooks c.take_room.new.hooks
+    kept_still g.P.ServiceSide.side g.P.ServiceSide.table g.P.ServiceSide.mark g.P.ServiceSide.note_of g.P.ServiceSide.takes g.P.ServiceSide.written g.P.ServiceSide.results_of g.N.Naming.plans g.N.Naming.base g.N.Naming.words g.N.Naming.books g.N.Naming.result_words c.self.inside.hooks c.take_room.new.hooks
     record { core = c.self.inside.core; slots = slots; results = results } record { core = c.step.new.self; slots = slots; results = results } c.self.invariant
     (of_closed _ _ _ _ _ c.in_ok-step.field-0 c.in_ok-step.ensures.steps c.in-Closed.is).stays refl refl room.base room.marks room.grows
 
@@ -118,7 +122,7 @@ tell-requires-clause-takes g c =
     let acted = (of_done _ _ _ _ _ c.in_ok-step.field-0 c.in_ok-step.ensures.steps c.in-Done.acted c.in-Done.is).stepped.acted in
     let at : t ≡ run.stream = c.stream-stream.ensures ∙ moved.stream in
     let known = known_here p results t run.stream was.result_count at c.run.invariant.of_plans.known in
-    let fit = at_stream g.P.ServiceSide.takes g.P.ServiceSide.written p core.past results t c.index_mut.result.now known c.index_mut.ensures.value was.results in
+    let fit = at_stream g.P.ServiceSide.takes g.P.ServiceSide.written g.P.ServiceSide.results_of (table_at g.N.Naming.result_words) p core.past results t c.index_mut.result.now known c.index_mut.ensures.value was.results in
     let few : words_in (plan_of core.plans run.stream).areas.results ≡ words_in (plan_of p t).areas.results = ap (λ (q : PlansData). words_in (plan_of q run.stream).areas.results) was.plans ∙ ap (λ (s : ℕ). words_in (plan_of p s).areas.results) (sym at) in
     λ k d lt. fit.takes_all (slice_index_or (writes_told c.in-Done.acted.effect) k d).0 (let low = acted.places k d lt in omega (arith, low, few))
 
@@ -127,6 +131,8 @@ invariant_of-self-in-Invalid g c =
     let p = g.N.Naming.plans in
     let takes = g.P.ServiceSide.takes in
     let told = g.P.ServiceSide.written in
+    let results_of = g.P.ServiceSide.results_of in
+    let answers = table_at g.N.Naming.result_words in
     let core = c.self.inside.core in
     let now = c.step.new.self in
     let s = c.run.inside.carried.stream in
@@ -137,18 +143,20 @@ invariant_of-self-in-Invalid g c =
     let was = c.self.invariant in
     let grows = (of_invalid _ _ _ _ _ c.in_ok-step.field-0 c.in_ok-step.ensures.steps c.in-Invalid.error c.in-Invalid.is).event in
     let outs = (of_invalid _ _ _ _ _ c.in_ok-step.field-0 c.in_ok-step.ensures.steps c.in-Invalid.error c.in-Invalid.is).outs in
-    kept g.P.ServiceSide.side g.P.ServiceSide.table g.P.ServiceSide.mark takes told p g.N.Naming.base g.N.Naming.words g.N.Naming.books c.self.inside.hooks c.follow.new.hooks
+    kept g.P.ServiceSide.side g.P.ServiceSide.table g.P.ServiceSide.mark g.P.ServiceSide.note_of takes told results_of p g.N.Naming.base g.N.Naming.words g.N.Naming.books g.N.Naming.result_words c.self.inside.hooks c.follow.new.hooks
     record { core = core; slots = slots; results = results } record { core = now; slots = slots; results = results } was
     c.holds.ensures grows.plans grows.books (subst (λ (b : ℕ). AreMarked now.plans b now.past c.follow.new.hooks) c.take_room.ensures.base c.follow.ensures) refl
-    (ended_homes g.P.ServiceSide.side g.P.ServiceSide.table g.P.ServiceSide.mark p (table_at g.N.Naming.words) core now (Lost s why words) slots grows.past outs (lost_ends p core.past s why words) was.homes)
+    (ended_homes g.P.ServiceSide.side g.P.ServiceSide.table g.P.ServiceSide.mark g.P.ServiceSide.note_of p (table_at g.N.Naming.words) core now (Lost s why words) slots grows.past outs (lost_ends p core.past s why words) was.homes)
     refl
-    (subst (λ (h : List Event). AllFit takes told p h results) (sym grows.past) (all_still takes told p (Lost s why words) core.past results (λ s. refl) was.results))
+    (subst (λ (h : List Event). AllFit takes told results_of answers p h results) (sym grows.past) (all_still takes told results_of answers p (Lost s why words) core.past results (λ s. refl) was.results))
 
 pub invariant_of-self-2 : goal.invariant_of-self-2
 invariant_of-self-2 g c =
     let p = g.N.Naming.plans in
     let takes = g.P.ServiceSide.takes in
     let told = g.P.ServiceSide.written in
+    let results_of = g.P.ServiceSide.results_of in
+    let answers = table_at g.N.Naming.result_words in
     let core = c.self.inside.core in
     let now = c.step.new.self in
     let run = c.run.inside.carried in
@@ -167,16 +175,16 @@ invariant_of-self-2 g c =
     let positive = order_positive core.plans core.past run (c.in_ok-step.ensures.shows open') in
     let at : t ≡ s = c.stream-stream.ensures ∙ moved.stream in
     let wrote : writes_told c.in-Done.acted.effect ≡ writes (plan_of p s).areas words (state_of p core.past s) = subst (λ (q : PlansData). writes_told c.in-Done.acted.effect ≡ writes (plan_of q s).areas words (state_of q core.past s)) was.plans acted.writes in
-    kept g.P.ServiceSide.side g.P.ServiceSide.table g.P.ServiceSide.mark takes told p g.N.Naming.base g.N.Naming.words g.N.Naming.books c.self.inside.hooks c.follow-2.new.hooks
+    kept g.P.ServiceSide.side g.P.ServiceSide.table g.P.ServiceSide.mark g.P.ServiceSide.note_of takes told results_of p g.N.Naming.base g.N.Naming.words g.N.Naming.books g.N.Naming.result_words c.self.inside.hooks c.follow-2.new.hooks
     record { core = core; slots = slots; results = results } record { core = now; slots = slots; results = results' } was
     c.holds-2.ensures grows.plans grows.books (subst (λ (b : ℕ). AreMarked now.plans b now.past c.follow-2.new.hooks) c.take_room.ensures.base c.follow-2.ensures) refl
-    (stepped_homes g.P.ServiceSide.side g.P.ServiceSide.table g.P.ServiceSide.mark p (table_at g.N.Naming.words) core now slots s words record { order = run.order; paused = c.in-Done.acted.kept } c.run.invariant.of_plans.known.0 grows.past outs
+    (stepped_homes g.P.ServiceSide.side g.P.ServiceSide.table g.P.ServiceSide.mark g.P.ServiceSide.note_of p (table_at g.N.Naming.words) core now slots s words record { order = run.order; paused = c.in-Done.acted.kept } c.run.invariant.of_plans.known.0 grows.past outs
     (ap (λ (q : PlansData). is_open (standing_of q core.past s)) (sym was.plans) ∙ open') (is_out core.outs s record { order = run.order; paused = false } c.in_ok-step.ensures.out positive)
     (ap (λ (row : List Out). is_home row s) outs ∙ stays_out core.outs s run.order false c.in-Done.acted.kept c.in_ok-step.ensures.out positive) was.homes)
     (length-set results (t - 1) c.tell.new.results)
-    (subst (λ (h : List Event). AllFit takes told p h results') (sym grows.past)
-    (all_more takes told p (Step s words) core.past results t c.tell.new.results c.index_mut.result.now at (known_here p results t s was.result_count at c.run.invariant.of_plans.known) c.index_mut.ensures.value
-    (c.tell.ensures.written ∙ ap (λ list. told_more (told c.index_mut.result.now) (writes_of list)) wrote) c.tell.ensures.takes was.results))
+    (subst (λ (h : List Event). AllFit takes told results_of answers p h results') (sym grows.past)
+    (all_more takes told results_of answers p (Step s words) core.past results t c.tell.new.results c.index_mut.result.now at (known_here p results t s was.result_count at c.run.invariant.of_plans.known) c.index_mut.ensures.value
+    (c.tell.ensures.written ∙ ap (λ list. told_more (told c.index_mut.result.now) (writes_of list)) wrote) c.tell.ensures.takes c.tell.ensures.named was.results))
 
 pub returns-clause-results : goal.returns-clause-results
 returns-clause-results g c =
@@ -191,7 +199,7 @@ returns-clause-results g c =
 -- ---- the run
 
 pub meet-requires-2-clause-flush : goal.meet-requires-2-clause-flush
-meet-requires-2-clause-flush g c = note_marked g.P.ServiceSide.side g.P.ServiceSide.table g.P.ServiceSide.mark g.N.Naming.plans (table_at g.N.Naming.words) (book_at g.N.Naming.books) c.run.inside.carried c.run.inside.side c.run.inside.note c.run.invariant
+meet-requires-2-clause-flush g c = note_marked g.P.ServiceSide.side g.P.ServiceSide.table g.P.ServiceSide.mark g.P.ServiceSide.note_of g.N.Naming.plans (table_at g.N.Naming.words) (book_at g.N.Naming.books) c.run.inside.carried c.run.inside.side c.run.inside.note c.run.invariant
 
 pub invariant_of-run-in-Invalid : goal.invariant_of-run-in-Invalid
 invariant_of-run-in-Invalid g c =
@@ -200,9 +208,9 @@ invariant_of-run-in-Invalid g c =
     let tables = table_at g.N.Naming.words in
     let books = book_at g.N.Naming.books in
     let same = (of_invalid _ _ _ _ _ c.in_ok-step.field-0 c.in_ok-step.ensures.steps c.in-Invalid.error c.in-Invalid.is).run in
-    let met = met_fits S.side S.table S.mark p tables books c.run.inside.carried c.run.inside.side c.meet.new.side c.run.inside.note c.run.invariant c.meet.ensures.told c.meet.ensures.bounded c.meet.ensures.table in
-    subst (λ (run : RunData). RunFits S.side S.table S.mark p tables books run c.meet.new.side c.meet.new.note) (sym same)
-    (subst (RunFits S.side S.table S.mark p tables books c.run.inside.carried c.meet.new.side) (sym c.meet.ensures.met) met)
+    let met = met_fits S.side S.table S.mark S.note_of p tables books c.run.inside.carried c.run.inside.side c.meet.new.side c.run.inside.note c.run.invariant c.meet.ensures.told c.meet.ensures.bounded c.meet.ensures.table in
+    subst (λ (run : RunData). RunFits S.side S.table S.mark S.note_of p tables books run c.meet.new.side c.meet.new.note) (sym same)
+    (subst (RunFits S.side S.table S.mark S.note_of p tables books c.run.inside.carried c.meet.new.side) (sym c.meet.ensures.met) met)
 
 pub invariant_of-run-2 : goal.invariant_of-run-2
 invariant_of-run-2 g c =
@@ -222,10 +230,10 @@ invariant_of-run-2 g c =
     let run_of : IsRunOf p core.past run = subst (λ (q : PlansData). IsRunOf q core.past run) was.plans (c.in_ok-step.ensures.shows open') in
     let now_of : IsRunOf p now.past c.step.new.run = subst (λ (q : PlansData). IsRunOf q now.past c.step.new.run) (grows.plans ∙ was.plans) own.run in
     let asked : c.in-Done.acted.effect ≡ asked_by p run.stream words (world p core.past) = subst (λ (q : PlansData). c.in-Done.acted.effect ≡ asked_by q run.stream words (world q core.past)) was.plans acted.effect in
-    let met = met_fits S.side S.table S.mark p tables books run c.run.inside.side c.meet-2.new.side c.run.inside.note c.run.invariant c.meet-2.ensures.told c.meet-2.ensures.bounded c.meet-2.ensures.table in
+    let met = met_fits S.side S.table S.mark S.note_of p tables books run c.run.inside.side c.meet-2.new.side c.run.inside.note c.run.invariant c.meet-2.ensures.told c.meet-2.ensures.bounded c.meet-2.ensures.table in
     let last : drop run.facts.fetched (S.side c.meet-2.new.side).fetched ≡ words = ap (drop run.facts.fetched) c.meet-2.ensures.list ∙ ap (λ o. drop o.run.facts.fetched (S.side o.side).fetched) c.run.view_is ∙ c.requires.list in
-    subst (RunFits S.side S.table S.mark p tables books c.step.new.run c.tell.new.side) (sym c.meet-2.ensures.met)
-    (stepped_fits S.side S.table S.mark p tables books run c.step.new.run c.meet-2.new.side c.tell.new.side words c.in-Done.acted.effect c.in-Done.acted.kept core.past now.past met last c.tell.ensures.side c.tell.ensures.table grows.past asked run_of own.moved now_of)
+    subst (RunFits S.side S.table S.mark S.note_of p tables books c.step.new.run c.tell.new.side) (sym c.meet-2.ensures.met)
+    (stepped_fits S.side S.table S.mark S.note_of p tables books run c.step.new.run c.meet-2.new.side c.tell.new.side words c.in-Done.acted.effect c.in-Done.acted.kept core.past now.past met last c.tell.ensures.side c.tell.ensures.table grows.past asked run_of own.moved now_of)
 
 -- ---- what is answered
 
@@ -248,7 +256,7 @@ pub returns-clause-end : goal.returns-clause-end
 returns-clause-end g c = ends c.next_of.result c.in-Done.acted.kept c.at_end.result c.step.new.run.facts.get c.step.new.run.facts.put c.next_of.ensures c.at_end.ensures.value
 
 -- the house and the run after a step
-module _ (g : Over) (c : goal.Joined-acted g) where
+module _ (g : Over) (c : goal.After-drawn_of g) where
   abbrev house : HouseData g.row.P.Denot g.row.P-Note.Denot g.row.P-Results.Denot
   house = record { core = c.step.new.self; slots = c.self.inside.slots.items; results = slice_set c.self.inside.results.items (c.stream-stream.result - 1) c.tell.new.results }
 
@@ -292,3 +300,38 @@ returns-clause-steps g c =
     let done_by : (b : Bool) → c.in-Done.acted.kept ≡ b → IsDone side mark p c.args.self.now (house g c) c.args.run.now (left g c) c.args.fetched.words b =
     λ b e. subst (IsDone side mark p c.args.self.now (house g c) c.args.run.now (left g c) c.args.fetched.words) e (done g c) in
     goes_on (Steps side mark p c.args.self.now (house g c) c.args.run.now (left g c) c.args.fetched.words) c.next_of.result c.in-Done.acted.kept c.at_end.result c.next_of.ensures (done_by true) (done_by false) (done_by false)
+
+-- ---- what is drawn
+
+-- the step was executed, as contracts see the house and the run
+executed : (g : Over) (c : goal.After-drawn_of g) → WasExecuted g.N.Naming.plans c.args.self.now.core.past c.args.run.now.run.stream c.args.fetched.words c.in-Done.acted
+executed g c =
+    let words = c.args.fetched.words in
+    let acted = c.in-Done.acted in
+    let was = (of_done _ _ _ _ _ c.in_ok-step.field-0 c.in_ok-step.ensures.steps acted c.in-Done.is).stepped.acted in
+    subst (λ (h : HouseData g.row.P.Denot g.row.P-Note.Denot g.row.P-Results.Denot). WasExecuted g.N.Naming.plans h.core.past c.args.run.now.run.stream words acted) c.self.view_is
+    (subst (λ (o : OutData g.row.P.Denot g.row.P-Note.Denot). WasExecuted g.N.Naming.plans c.self.inside.core.past o.run.stream words acted) c.run.view_is
+    (subst (λ (q : PlansData). WasExecuted q c.self.inside.core.past c.run.inside.carried.stream words acted) c.self.invariant.plans was))
+
+pub returns-clause-drawn : goal.returns-clause-drawn
+returns-clause-drawn g c =
+    let drawn = c.drawn_of.result in
+    let told = c.drawn_of.ensures ∙ told_drawn g.N.Naming.plans c.args.self.now.core.past c.args.run.now.run.stream c.args.fetched.words c.in-Done.acted (executed g c) in
+    drawn_where c.next_of.result c.in-Done.acted.kept c.at_end.result drawn c.next_of.ensures ∙ ap (drawn_if c.next_of.result) told
+
+pub returns-clause-draws : goal.returns-clause-draws
+returns-clause-draws g c =
+    let p = g.N.Naming.plans in
+    let old = c.args.self.now.core.past in
+    let s = c.args.run.now.run.stream in
+    let is = (done g c) in
+    subst (λ (h : List Event). Draws (replay p old) (replay p h) c.drawn_of.result) (sym is.event)
+    (subst (Draws (replay p old) (replay p (Step s c.args.fetched.words ∷ old))) (sym c.drawn_of.ensures) (draws_step p old s c.args.fetched.words c.in-Done.acted (executed g c)))
+
+pub returns-in-Invalid-clause-draws : goal.returns-in-Invalid-clause-draws
+returns-in-Invalid-clause-draws g c =
+    let p = g.N.Naming.plans in
+    let grows = (of_invalid _ _ _ _ _ c.in_ok-step.field-0 c.in_ok-step.ensures.steps c.in-Invalid.error c.in-Invalid.is).event in
+    subst (Draws (replay p c.args.self.now.core.past) (replay p c.step.new.self.past)) (sym (ap (λ (progress : Progress). progress.drawn) c.without_step-in-Invalid.ensures))
+    (draws_lost p c.args.self.now.core.past c.step.new.self.past c.run.inside.carried.stream (Error c.in-Invalid.error) c.args.fetched.words
+    (grows.past ∙ ap (λ h. Lost c.run.inside.carried.stream (Error c.in-Invalid.error) c.args.fetched.words ∷ h.core.past) c.self.view_is))

@@ -8,7 +8,7 @@ use Rattle.gpu_house.proofs.Stepping.{note_marked, met_fits}
 use Rattle.gpu_house.proofs.run.Run.fetch.Goals as goal
 
 pub meet-requires-clause-flush : goal.meet-requires-clause-flush
-meet-requires-clause-flush g c = note_marked g.P.ServiceSide.side g.P.ServiceSide.table g.P.ServiceSide.mark g.N.Naming.plans (table_at g.N.Naming.words) (book_at g.N.Naming.books) c.self.inside.carried c.self.inside.side c.self.inside.note c.self.invariant
+meet-requires-clause-flush g c = note_marked g.P.ServiceSide.side g.P.ServiceSide.table g.P.ServiceSide.mark g.P.ServiceSide.note_of g.N.Naming.plans (table_at g.N.Naming.words) (book_at g.N.Naming.books) c.self.inside.carried c.self.inside.side c.self.inside.note c.self.invariant
 
 -- the note is met first, where none was met
 pub invariant_of-self : goal.invariant_of-self
@@ -19,6 +19,6 @@ invariant_of-self g c =
     let run = c.self.inside.carried in
     let view = c.self.view_is in
     let going : run.facts.get ≢ run.facts.put = λ end. c.requires.more (ap (λ (out : OutData g.row.P.Denot g.row.P-Note.Denot). out.run.facts.get) (sym view) ∙ end ∙ ap (λ (out : OutData g.row.P.Denot g.row.P-Note.Denot). out.run.facts.put) view) in
-    let met = met_fits S.side S.table S.mark g.N.Naming.plans tables books run c.self.inside.side c.meet.new.side c.self.inside.note c.self.invariant c.meet.ensures.told c.meet.ensures.bounded c.meet.ensures.table in
-    subst (RunFits S.side S.table S.mark g.N.Naming.plans tables books run c.fetch_command.new.side) (sym c.meet.ensures.met)
-    (command_fetched S.side S.table S.mark g.N.Naming.plans tables books run c.meet.new.side c.fetch_command.new.side c.facts.result.now c.fetch_command.result going met c.fetch_command.ensures.table c.fetch_command.ensures.fetches c.fetch_command.ensures.some)
+    let met = met_fits S.side S.table S.mark S.note_of g.N.Naming.plans tables books run c.self.inside.side c.meet.new.side c.self.inside.note c.self.invariant c.meet.ensures.told c.meet.ensures.bounded c.meet.ensures.table in
+    subst (RunFits S.side S.table S.mark S.note_of g.N.Naming.plans tables books run c.fetch_command.new.side) (sym c.meet.ensures.met)
+    (command_fetched S.side S.table S.mark S.note_of g.N.Naming.plans tables books run c.meet.new.side c.fetch_command.new.side c.facts.result.now c.fetch_command.result going met c.fetch_command.ensures.table c.fetch_command.ensures.fetches c.fetch_command.ensures.some)

@@ -1,3 +1,6 @@
+use Rattle.std.proofs.Common.{List, subst, sym}
+use Rattle.atomic_table.specs.Seated.{TableId}
+use Rattle.gpu_house.specs.Names.{table_at}
 use Rattle.house_tests.proofs.Pairing.{two_pushed, begins, marked, begins_behind, marked_behind, both_ordered}
 use Rattle.house_tests.proofs.tests.losses.open.Goals as goal
 
@@ -21,3 +24,9 @@ returns g c =
       home = both_ordered g.P.ServiceSide.belongs g.P.ServiceSide.note_belongs g.P.ServiceSide.results_belong c.args.words.now c.order-2.new.house c.push-2.new.self.items c.push-4.new.self.items c.in_ok-house.house.results c.order.new.house.results c.args.first.side c.args.second.side c.args.first.note c.args.second.note c.args.first.results c.args.second.results
           c.in_ok-house.house.slots c.order.new.house.slots c.requires.belongs c.requires.note c.requires.results sides results c.in_ok-house.ensures.slots c.in_ok-order.ensures.slots c.in_ok-order-2.ensures.slots c.in_ok-house.ensures.results c.in_ok-order.ensures.results c.in_ok-order-2.ensures.results;
     }
+
+pub order-requires-clause-table : goal.order-requires-clause-table
+order-requires-clause-table g c = subst (λ (words : List TableId). g.P.ServiceSide.note_of c.args.first.note (table_at words 1)) (sym c.requires.tables) c.requires.first_named
+
+pub order-requires-2-clause-table : goal.order-requires-2-clause-table
+order-requires-2-clause-table g c = subst (λ (words : List TableId). g.P.ServiceSide.note_of c.args.second.note (table_at words 2)) (sym c.requires.tables) c.requires.second_named

@@ -1,3 +1,6 @@
+use Rattle.std.proofs.Common.{List, subst, sym}
+use Rattle.atomic_table.specs.Seated.{TableId}
+use Rattle.gpu_house.specs.Names.{table_at}
 use Rattle.house_tests.proofs.Beginning.{first_next, first_marked}
 use Rattle.house_tests.proofs.tests.opening.drive.Goals as goal
 
@@ -6,3 +9,6 @@ order-requires-clause-next g c = first_next g.N.Naming.plans c.args.plans c.in_o
 
 pub order-requires-clause-mark : goal.order-requires-clause-mark
 order-requires-clause-mark g c = first_marked g.N.Naming.plans c.args.plans c.in_ok-house.house.core.past (g.P.ServiceSide.mark c.args.note) c.requires.plans c.in_ok-house.ensures.past c.requires.first
+
+pub order-requires-clause-table : goal.order-requires-clause-table
+order-requires-clause-table g c = subst (λ (words : List TableId). g.P.ServiceSide.note_of c.args.note (table_at words 1)) (sym c.requires.table) c.requires.named

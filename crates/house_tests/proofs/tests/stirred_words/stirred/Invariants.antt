@@ -3,4 +3,4 @@ use Rattle.gpu_fetch.specs.Side.{no_table}
 use Rattle.house_tests.proofs.tests.stirred_words.stirred.Given as goal
 
 abbrev pub ghosts-drive : goal.ghosts-drive
-ghosts-drive a = record { plans = a.plans; base = 0; words = no_table ∷ []; books = a.book.0 ∷ [] }
+ghosts-drive a = record { plans = a.plans; base = 0; words = no_table ∷ []; books = a.book.0 ∷ []; queues = []; result_words = [] }
