@@ -1,5 +1,5 @@
 -- Each kind of step keeps the rule of a queue.
-use Rattle.std.proofs.Common.{◌≡◌, ℕ, zero, suc, ◌+◌, ◌<◌, List, [], ◌∷◌, ◌++◌, length, set, sym, refl, ap, ◌∙◌, subst}
+use Rattle.std.proofs.Common.{◌≡◌, ℕ, zero, suc, ◌+◌, ◌<◌, List, [], ◌∷◌, ◌++◌, length, set, sym, refl, ap, subst}
 use mathlib.Core.Option.{some, some-injective, some-ne-none}
 use lib.ListN.{get_elem?}
 use Rattle.std.specs.Prelude.{Ok, Err}
@@ -10,8 +10,8 @@ use Rattle.gpu_plan.specs.Passes.{flushes}
 use Rattle.shm_words.specs.Seen.{ClientData}
 use Rattle.flush_queue.specs.declared.view.View.{View}
 use Rattle.flush_queue.specs.declared.view.View.TheVariants.{Fresh, Told, Whole, Poster, Taker}
-use Rattle.flush_queue.specs.Views.{Item, note_at, pass_in, pass_of, count_of, next_note, HasNext, tells, learns, poster_part, taker_part, posts, takes}
-use Rattle.flush_queue.specs.Rule.{AreFlushes, AreWhole, AreBetween, Keeps, HasPosted, HasTaken}
+use Rattle.flush_queue.specs.Views.{Item, note_at, pass_of, count_of, next_note, HasNext, tells, learns, poster_part, taker_part, posts, takes}
+use Rattle.flush_queue.specs.Rule.{AreFlushes, AreWhole, AreBetween, Keeps, AreLatestOf, AreNextOf}
 
 -- ---- what the rule says of the queue at which an end with this view stands
 
@@ -103,32 +103,38 @@ pub posted : (n id : ℕ) (v : View) (item : Item) → v ≡ Poster (pass_of v) 
 posted n id v item is note there items views room keeps at =
     let s = subst (Stands items views id) is (stands items views id v keeps at) in
     let pass = pass_of v in
-    let w : View = Poster pass (count_of v + 1) in
-    (w, moved (items ++ item ∷ []) views (Poster pass (count_of v) ∷ Taker pass s.1 ∷ []) id 0 w s.0 s.2 record {
-      pass = pass;
-      posted = count_of v + 1;
-      taken = s.1;
-      poster = refl;
-      taker = refl;
-      between = subst (λ (x : Item). AreFlushes pass.table pass.plan s.1 (items ++ x ∷ []) (count_of v + 1)) (sym note) (next_behind pass.table pass.plan s.1 (count_of v) items s.3 there);
-    }, refl)
+    let w : View = Poster pass (count_of v + 1) in (
+      w,
+      moved (items ++ item ∷ []) views (Poster pass (count_of v) ∷ Taker pass s.1 ∷ []) id 0 w s.0 s.2 record {
+        pass = pass;
+        posted = count_of v + 1;
+        taken = s.1;
+        poster = refl;
+        taker = refl;
+        between = subst (λ (x : Item). AreFlushes pass.table pass.plan s.1 (items ++ x ∷ []) (count_of v + 1)) (sym note) (next_behind pass.table pass.plan s.1 (count_of v) items s.3 there);
+      },
+      refl,
+    )
 
-pub are_latest : (id : ℕ) (v : View) → v ≡ Poster (pass_of v) (count_of v) → Learns Keeps id v (HasPosted v)
+pub are_latest : (id : ℕ) (v : View) → v ≡ Poster (pass_of v) (count_of v) → Learns Keeps id v (AreLatestOf v)
 are_latest id v is items views keeps at = let s = subst (Stands items views id) is (stands items views id v keeps at) in (s.1, s.3)
 
 pub taken : (id : ℕ) (v : View) → v ≡ Taker (pass_of v) (count_of v) → Pops Keeps id v (takes v)
 taken id v is item items views keeps at =
     let s = subst (Stands (item ∷ items) views id) is (stands (item ∷ items) views id v keeps at) in
     let pass = pass_of v in
-    let w : View = Taker pass (count_of v + 1) in
-    (w, moved items views (Poster pass s.1 ∷ Taker pass (count_of v) ∷ []) id 1 w s.0 s.2 record {
-      pass = pass;
-      posted = s.1;
-      taken = count_of v + 1;
-      poster = refl;
-      taker = refl;
-      between = s.3.2;
-    }, (refl, s.3.0, s.3.1))
+    let w : View = Taker pass (count_of v + 1) in (
+      w,
+      moved items views (Poster pass s.1 ∷ Taker pass (count_of v) ∷ []) id 1 w s.0 s.2 record {
+        pass = pass;
+        posted = s.1;
+        taken = count_of v + 1;
+        poster = refl;
+        taker = refl;
+        between = s.3.2;
+      },
+      (refl, s.3.0, s.3.1),
+    )
 
-pub are_next : (id : ℕ) (v : View) → v ≡ Taker (pass_of v) (count_of v) → Learns Keeps id v (HasTaken v)
+pub are_next : (id : ℕ) (v : View) → v ≡ Taker (pass_of v) (count_of v) → Learns Keeps id v (AreNextOf v)
 are_next id v is items views keeps at = let s = subst (Stands items views id) is (stands items views id v keeps at) in (s.1, s.3)

@@ -2,11 +2,10 @@
 use Rattle.std.proofs.Common.{◌≡◌, ℕ, zero, suc, ◌+◌, ◌<◌, ◌≤◌, Bool, true, false, cond, List, [], ◌∷◌, length, take, Option, Some, None, refl, sym, ap, subst, ◌∙◌, arith, option_map, unwrap_or}
 use Rattle.std.specs.Prelude.{slice_get, IsTrue}
 use Rattle.std.specs.Option.{IsSomeAnd}
-use Rattle.atomic_table.specs.Seated.{TableId}
 use Rattle.gpu_plan.specs.declared.plan.Action.{Action}
 use Rattle.gpu_plan.specs.declared.plan.Action.TheVariants.{Put, Flush, Finish, Token, Close}
 use Rattle.gpu_plan.specs.Plans.{PlanData, is_flush}
-use Rattle.gpu_plan.specs.Passes.{flush_count, flushes, passes_if_there}
+use Rattle.gpu_plan.specs.Passes.{flush_count, flushes}
 use Rattle.gpu_plan.specs.Places.{flush_places_from, mark_of}
 use Rattle.gpu_plan.proofs.Passing.{flushes_one_further}
 use Rattle.shm_words.specs.declared.client.Acted.{Acted}
@@ -33,11 +32,13 @@ flush_stands i (x ∷ xs) zero a e is =
     let same : x ≡ a = cc in
     subst (λ (b : Bool). slice_get (cond b (i ∷ flush_places_from (i + 1) xs) (flush_places_from (i + 1) xs)) 0 ≡ Some (i + 0)) (sym (ap is_flush same ∙ is)) (ap Some (omega arith))
 flush_stands i (x ∷ xs) (suc k) a e is =
-    let rest = flush_stands (i + 1) xs k a e is ∙ ap Some (omega arith) in
+    let further : i + 1 + k ≡ i + suc k = omega arith in
     let places = flush_places_from (i + 1) xs in
+    let one_more : 1 + flushes (take k xs) ≡ suc (flushes (take k xs)) = omega arith in
+    let none_more : 0 + flushes (take k xs) ≡ flushes (take k xs) = omega arith in
+    let rest : slice_get places (flushes (take k xs)) ≡ Some (i + suc k) = flush_stands (i + 1) xs k a e is ∙ ap Some further in
     by_flush (λ b n. slice_get (cond b (i ∷ places) places) (n + flushes (take k xs)) ≡ Some (i + suc k)) x
-        (let n : 1 + flushes (take k xs) ≡ suc (flushes (take k xs)) = omega arith in ap (slice_get (i ∷ places)) n ∙ rest)
-        (let n : 0 + flushes (take k xs) ≡ flushes (take k xs) = omega arith in ap (slice_get places) n ∙ rest)
+    (ap (slice_get (i ∷ places)) one_more ∙ rest) (ap (slice_get places) none_more ∙ rest)
 
 flushes_among : (xs : List Action) (k : ℕ) → flushes (take k xs) ≤ flushes xs
 flushes_among [] zero = omega arith

@@ -37,10 +37,10 @@ Keeps items (one ∷ []) = AreWhole items one
 Keeps items (one ∷ other ∷ []) = AreBetween items one other
 Keeps items (one ∷ other ∷ more ∷ views) = ⊥
 
--- what a poster knows of the items: they are the latest flushes that it posted
-abbrev pub HasPosted : View → List Item → Type 0
-HasPosted view items = (taken : ℕ) × AreFlushes (pass_of view).table (pass_of view).plan taken items (count_of view)
+-- what a poster knows of the items: they are the latest flushes that were posted
+abbrev pub AreLatestOf : View → List Item → Type 0
+AreLatestOf view items = (taken : ℕ) × AreFlushes (pass_of view).table (pass_of view).plan taken items (count_of view)
 
 -- what a taker knows of the items: they are the next flushes to be taken
-abbrev pub HasTaken : View → List Item → Type 0
-HasTaken view items = (posted : ℕ) × AreFlushes (pass_of view).table (pass_of view).plan (count_of view) items posted
+abbrev pub AreNextOf : View → List Item → Type 0
+AreNextOf view items = (posted : ℕ) × AreFlushes (pass_of view).table (pass_of view).plan (count_of view) items posted

@@ -39,7 +39,7 @@ AreLatest end items = (taken : ℕ) × AreFlushes end.words end.plan taken items
 abbrev pub AreNext : EndData → List Item → Type 0
 AreNext end items = (posted : ℕ) × AreFlushes end.words end.plan end.count items posted
 
--- the queue in which items lie, with the rule Q
+-- the ruled queue of the library in which the items lie
 abbrev pub Ring : Type 0 → Type 0 → Type 0
 Ring Q A = Slotted (Option Item) (Doing Item View) Q A
 
@@ -47,7 +47,7 @@ Ring Q A = Slotted (Option Item) (Doing Item View) Q A
 abbrev pub name_of : {Q A : Type 0} → Ring Q A → TableId
 name_of ring = ring.table.shared.table_id
 
--- the queue holds 16 items at most
+-- it holds 16 items at most
 abbrev pub IsQueue : {Q A : Type 0} → Ring Q A → Type 0
 IsQueue ring = ring.cap ≡ 16
 

@@ -124,7 +124,8 @@ impl FlushQueue {
         ensures back { IfErr result (λ full. full.note ≡ note) }
         ensures full { IfErr result (λ full. Held 16 (AreLatest poster.old)) }
     {
-        match self.ring.push_as::<Posts, R>(rt, &mut poster.pass, Ok(note)) {
+        let ring = &self.ring;
+        match ring.push_as::<Posts, R>(rt, &mut poster.pass, Ok(note)) {
             Ok(()) => Ok(()),
             Err(Ok(note)) => Err(Full { note }),
             Err(Err(_)) => unreachable!(),
@@ -141,7 +142,8 @@ impl FlushQueue {
         ensures stays { IfNone result (taker.new ≡ taker.old) }
         ensures empty { IfNone result (Held 0 (AreNext taker.old)) }
     {
-        match self.ring.pop_as::<Takes, R>(rt, &mut taker.pass)? {
+        let ring = &self.ring;
+        match ring.pop_as::<Takes, R>(rt, &mut taker.pass)? {
             Ok(note) => Some(note),
             Err(_) => unreachable!(),
         }

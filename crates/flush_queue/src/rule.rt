@@ -2,7 +2,7 @@
 ghost use Rattle.std.specs.Prelude.{◌≡◌, [], length};
 ghost use Rattle.flush_queue.specs.declared.view.View.TheVariants.{Fresh};
 ghost use Rattle.flush_queue.specs.Views.{tells, learns, poster_part, taker_part, posts, takes};
-ghost use Rattle.flush_queue.specs.Rule.{Keeps, HasPosted, HasTaken};
+ghost use Rattle.flush_queue.specs.Rule.{Keeps, AreLatestOf, AreNextOf};
 
 use crate::view::View;
 use crossbeam_queue::protocol::{Lesson, Outcome, Protocol, Split};
@@ -59,7 +59,7 @@ impl Outcome<Item, View> for Posts {
 }
 
 impl Lesson<Item, View> for Posts {
-    ghost fact = { HasPosted };
+    ghost fact = { AreLatestOf };
 }
 
 // The next flush is taken.
@@ -70,5 +70,5 @@ impl Outcome<Item, View> for Takes {
 }
 
 impl Lesson<Item, View> for Takes {
-    ghost fact = { HasTaken };
+    ghost fact = { AreNextOf };
 }

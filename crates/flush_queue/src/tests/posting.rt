@@ -265,8 +265,13 @@ fn each_flush_comes_to_the_other_thread(rt: HostRuntime) -> Result<(), Fail> {
     let (words, client, service) = made(rt.alloc(), FLUSHES)?;
     let made = make(&rt, rt.alloc(), client).ok();
     let (queue, poster, taker, client) = made.ok_or("memory is ample")?;
-    let (posted, (taken, mut taker)) =
-        hand_over(&rt, &words, &queue, (client, poster), (service, taker));
+    let (posted, (taken, mut taker)) = hand_over(
+        &rt,
+        &words,
+        &queue,
+        (client, poster),
+        (service, taker),
+    );
     assert_eq!(rt; posted, FLUSHES);
     assert_eq!(rt; taken, FLUSHES);
     assert!(rt; queue.take_next(&rt, &mut taker).is_none());

@@ -1,4 +1,4 @@
-use Rattle.std.proofs.Common.{◌≡◌, ◌<◌, Ok, ap, ◌∙◌, sym, subst}
+use Rattle.std.proofs.Common.{◌<◌, Ok, ap, ◌∙◌, sym, subst}
 use Rattle.gpu_plan.specs.Passes.{flushes}
 use Rattle.flush_queue.specs.Seen.{EndData, note_of}
 use Rattle.flush_queue.proofs.Keeping.{posted, are_latest}

@@ -1,4 +1,3 @@
-use Rattle.flush_queue.specs.Clients.{HasPostedAll}
 use Rattle.flush_queue.proofs.Posting.{acted, next_flush, next_note, posted}
 use Rattle.flush_queue.proofs.tests.posting.next_note.Goals as goal
 

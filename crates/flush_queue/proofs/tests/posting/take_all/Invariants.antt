@@ -1,4 +1,4 @@
-use Rattle.std.proofs.Common.{◌≡◌, ◌+◌, ◌<◌, ◌≤◌}
+use Rattle.std.proofs.Common.{◌≡◌, ◌+◌, ◌<◌}
 use Rattle.gpu_cmd.specs.Lawful.{places_of}
 use Rattle.flush_queue.proofs.tests.posting.take_all.Given as goal
 
