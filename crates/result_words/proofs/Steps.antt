@@ -2,7 +2,7 @@
 use Rattle.std.proofs.Common.{◌≡◌, ◌≢◌, ℕ, zero, suc, ◌+◌, ◌-◌, ◌<◌, ◌≤◌, ◌^◌, min, List, [], ◌∷◌, ◌++◌, length, set, get_or, replicate, ⊎_elim, refl, sym, ap, ◌∙◌, subst, arith, length-set, get_or-set_same}
 use Rattle.std.specs.List.{All}
 use Rattle.std.proofs.lemmas.List.{get_or-set_other, get_or-replicate, get_or_past, set-get_or, length-replicate}
-use Rattle.std.proofs.lemmas.List.Elements.{All-nil, All-push, All-pop, All-weaker}
+use Rattle.std.proofs.lemmas.List.Elements.{All-nil, All-push, All-pop}
 use mathlib.Core.Option.{none, some, some-ne-none}
 use mathlib.Core.Logic.{dite}
 use native.Mathlib.Decide.{dec_le}
@@ -10,7 +10,7 @@ use lib.ListN.{get_elem?}
 use Rattle.atomic_table.proofs.Lists.{at_snoc, at_longer, set_else, set_again}
 use Rattle.atomic_table.specs.Table.{step, Allows, Splits, Joins}
 use Rattle.std.specs.Prelude.{Some}
-use Rattle.gpu_word.specs.Results.{Written, Write, Finish, finishes_in, last_written, WasLast, Settles}
+use Rattle.gpu_word.specs.Results.{Written, Write, Finish, finishes_in, WasLast, Settles}
 use Rattle.result_words.specs.declared.view.WriterView.{WriterView}
 use Rattle.result_words.specs.declared.view.ReaderView.{ReaderView}
 use Rattle.result_words.specs.declared.view.View.{View}

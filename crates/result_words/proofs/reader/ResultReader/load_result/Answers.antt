@@ -1,8 +1,5 @@
 use Rattle.std.proofs.Common.{◌≡◌, sym, ap, ◌∙◌, subst, arith}
-use Rattle.atomic_table.specs.Table.{step, Allows}
-use mathlib.Core.Option.{none}
-use Rattle.result_words.specs.Views.{reader_of, loads_result}
-use Rattle.result_words.specs.Rule.{Keeps}
+use Rattle.result_words.specs.Views.{reader_of}
 use Rattle.result_words.specs.Seen.{ReaderData, HasCounted}
 use Rattle.result_words.proofs.Steps.{reads}
 use Rattle.result_words.proofs.reader.ResultReader.load_result.Goals as goal
