@@ -16,32 +16,32 @@ returns-then-at_end-clause-ordered g c =
     finish_orders p past c.finish.new.self.core.past run.stream run.order (is_open (standing_of p past run.stream)) c.requires.stream c.finish.ensures.event c.finish.ensures.over
 
 -- a run that goes on
-has-More : (g : Over) (c : goal.In-More g) → HasStepped g.P.ServiceSide.belongs g.P.ServiceSide.note_belongs g.P.ServiceSide.results_belong g.P.ServiceSide.side c.args.words.now g.N.Naming.plans c.args.house.now c.step.new.self c.step.new.run (goes_further c.in_ok-step.field-0)
+has-More : (g : Over) (c : goal.In-More g) → HasStepped g.P.ServiceSide.belongs g.P.ServiceSide.note_belongs g.P.ServiceSide.results_belong g.P.ServiceSide.side c.args.words.now g.N.Naming.plans c.args.house.now c.step.new.self c.step.new.run (goes_further c.in_ok-step.field-0.next)
 has-More g c =
     let e = c.in_ok-fetched.ensures in
     let t = c.in_ok-step.ensures in
     let found = c.in_ok-fetched.fetched.words in
     let has = fetched g.P.ServiceSide.belongs g.P.ServiceSide.note_belongs g.P.ServiceSide.results_belong g.P.ServiceSide.side c.args.words.now c.args.house.now c.args.run c.fetch.new.self found c.requires e.run e.met e.grows e.belongs e.notes in
     stepped g.P.ServiceSide.belongs g.P.ServiceSide.note_belongs g.P.ServiceSide.results_belong g.P.ServiceSide.side c.args.words.now g.N.Naming.plans c.args.house.now c.step.new.self c.fetch.new.self c.step.new.run found has t.slots t.results t.still t.list
-    _ c.in_ok-step.field-0 t.steps
+    _ c.in_ok-step.field-0.next t.steps
 
 pub returns-in-More-clause-left : goal.returns-in-More-clause-left
-returns-in-More-clause-left g c = (has-More g c).on (ap goes_further c.in-More.is)
+returns-in-More-clause-left g c = (has-More g c).on (ap goes_further (sym c.into_next.ensures ∙ c.in-More.is))
 
 pub returns-in-More-clause-ordered : goal.returns-in-More-clause-ordered
 returns-in-More-clause-ordered g c = (has-More g c).same
 
-has-FlushEnd : (g : Over) (c : goal.In-FlushEnd g) → HasStepped g.P.ServiceSide.belongs g.P.ServiceSide.note_belongs g.P.ServiceSide.results_belong g.P.ServiceSide.side c.args.words.now g.N.Naming.plans c.args.house.now c.step.new.self c.step.new.run (goes_further c.in_ok-step.field-0)
+has-FlushEnd : (g : Over) (c : goal.In-FlushEnd g) → HasStepped g.P.ServiceSide.belongs g.P.ServiceSide.note_belongs g.P.ServiceSide.results_belong g.P.ServiceSide.side c.args.words.now g.N.Naming.plans c.args.house.now c.step.new.self c.step.new.run (goes_further c.in_ok-step.field-0.next)
 has-FlushEnd g c =
     let e = c.in_ok-fetched.ensures in
     let t = c.in_ok-step.ensures in
     let found = c.in_ok-fetched.fetched.words in
     let has = fetched g.P.ServiceSide.belongs g.P.ServiceSide.note_belongs g.P.ServiceSide.results_belong g.P.ServiceSide.side c.args.words.now c.args.house.now c.args.run c.fetch.new.self found c.requires e.run e.met e.grows e.belongs e.notes in
     stepped g.P.ServiceSide.belongs g.P.ServiceSide.note_belongs g.P.ServiceSide.results_belong g.P.ServiceSide.side c.args.words.now g.N.Naming.plans c.args.house.now c.step.new.self c.fetch.new.self c.step.new.run found has t.slots t.results t.still t.list
-    _ c.in_ok-step.field-0 t.steps
+    _ c.in_ok-step.field-0.next t.steps
 
 pub returns-in-FlushEnd-clause-left : goal.returns-in-FlushEnd-clause-left
-returns-in-FlushEnd-clause-left g c = (has-FlushEnd g c).on (ap goes_further c.in-FlushEnd.is)
+returns-in-FlushEnd-clause-left g c = (has-FlushEnd g c).on (ap goes_further (sym c.into_next.ensures ∙ c.in-FlushEnd.is))
 
 pub returns-in-FlushEnd-clause-ordered : goal.returns-in-FlushEnd-clause-ordered
 returns-in-FlushEnd-clause-ordered g c = (has-FlushEnd g c).same
@@ -55,7 +55,7 @@ back-requires g c = record {
       let found = c.in_ok-fetched.fetched.words in
       let has = fetched g.P.ServiceSide.belongs g.P.ServiceSide.note_belongs g.P.ServiceSide.results_belong g.P.ServiceSide.side c.args.words.now c.args.house.now c.args.run c.fetch.new.self found c.requires e.run e.met e.grows e.belongs e.notes in
       (stepped g.P.ServiceSide.belongs g.P.ServiceSide.note_belongs g.P.ServiceSide.results_belong g.P.ServiceSide.side c.args.words.now g.N.Naming.plans c.args.house.now c.step.new.self c.fetch.new.self c.step.new.run found has t.slots t.results t.still t.list
-      _ c.in_ok-step.field-0 t.steps).list);
+      _ c.in_ok-step.field-0.next t.steps).list);
 }
 
 pub returns-in_default : goal.returns-in_default
@@ -65,7 +65,7 @@ returns-in_default g c =
     let found = c.in_ok-fetched.fetched.words in
     let has = fetched g.P.ServiceSide.belongs g.P.ServiceSide.note_belongs g.P.ServiceSide.results_belong g.P.ServiceSide.side c.args.words.now c.args.house.now c.args.run c.fetch.new.self found c.requires e.run e.met e.grows e.belongs e.notes in
     let left = stepped g.P.ServiceSide.belongs g.P.ServiceSide.note_belongs g.P.ServiceSide.results_belong g.P.ServiceSide.side c.args.words.now g.N.Naming.plans c.args.house.now c.step.new.self c.fetch.new.self c.step.new.run found has t.slots t.results t.still t.list
-    _ c.in_ok-step.field-0 t.steps in
+    _ c.in_ok-step.field-0.next t.steps in
     let b = c.back.ensures in
     record {
       left = back_home g.P.ServiceSide.belongs g.P.ServiceSide.note_belongs g.P.ServiceSide.results_belong c.args.words.now c.step.new.self c.back.new.self c.step.new.run.run.stream c.step.new.run.side c.step.new.run.note left.stream left.all
