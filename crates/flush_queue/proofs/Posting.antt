@@ -2,6 +2,7 @@
 use Rattle.std.proofs.Common.{◌≡◌, ℕ, zero, suc, ◌+◌, ◌<◌, ◌≤◌, Bool, true, false, cond, List, [], ◌∷◌, length, take, Option, Some, None, refl, sym, ap, subst, ◌∙◌, arith, option_map, unwrap_or}
 use Rattle.std.specs.Prelude.{slice_get, IsTrue}
 use Rattle.std.specs.Option.{IsSomeAnd}
+use Rattle.atomic_table.specs.Seated.{TableId}
 use Rattle.gpu_plan.specs.declared.plan.Action.{Action}
 use Rattle.gpu_plan.specs.declared.plan.Action.TheVariants.{Put, Flush, Finish, Token, Close}
 use Rattle.gpu_plan.specs.Plans.{PlanData, is_flush}
@@ -11,8 +12,10 @@ use Rattle.gpu_plan.proofs.Passing.{flushes_one_further}
 use Rattle.shm_words.specs.declared.client.Acted.{Acted}
 use Rattle.shm_words.specs.Seen.{ClientData, NoteData, next_action, flushes_before}
 use Rattle.shm_words.specs.Acts.{Acts, IsAtFlush, answer_for, counts}
-use Rattle.flush_queue.specs.Views.{note_at}
-use Rattle.flush_queue.specs.Seen.{EndData, one_more, note_of}
+use Rattle.crossbeam_queue.specs.Fifo.{Held}
+use Rattle.flush_queue.specs.Views.{Item, note_at}
+use Rattle.flush_queue.specs.Rule.{AreFlushes}
+use Rattle.flush_queue.specs.Seen.{EndData, one_more, note_of, AreLatest}
 use Rattle.flush_queue.specs.Clients.{HasPostedAll}
 
 -- ---- flushes among actions
@@ -45,6 +48,17 @@ flushes_among [] zero = omega arith
 flushes_among [] (suc k) = omega arith
 flushes_among (x ∷ xs) zero = omega arith
 flushes_among (x ∷ xs) (suc k) = let rest = flushes_among xs k in omega (arith, rest)
+
+-- ---- a full queue
+
+-- as many flushes lie there as were posted and not taken
+lie_between : (words : TableId) (plan : PlanData) (taken posted : ℕ) (items : List Item) → AreFlushes words plan taken items posted → taken + length items ≡ posted
+lie_between words plan taken posted [] are = omega (arith, are)
+lie_between words plan taken posted (item ∷ items) are = let rest = lie_between words plan (taken + 1) posted items are.2 in omega (arith, rest)
+
+-- so where so many lie there, no fewer were posted
+pub as_many_posted : (poster : EndData) (n : ℕ) → Held n (AreLatest poster) → n ≤ poster.count
+as_many_posted poster n (items, many, (taken, are)) = let all = lie_between poster.words poster.plan taken poster.count items are in omega (arith, many, all)
 
 -- ---- a client and its poster
 

@@ -4,7 +4,7 @@ use Rattle.atomic_table.specs.Seated.{TableId}
 use Rattle.atomic_table.specs.Table.{Me}
 use Rattle.crossbeam_queue.specs.declared.array_queue.Doing.{Doing}
 use Rattle.crossbeam_queue.specs.declared.array_queue.Slotted.{Slotted}
-use Rattle.crossbeam_queue.specs.Passes.{Pass, view}
+use Rattle.crossbeam_queue.specs.Passes.{Pass, view, ruled_capacity}
 use Rattle.gpu_plan.specs.Plans.{PlanData}
 use Rattle.shm_words.specs.Seen.{NoteData}
 use Rattle.flush_queue.specs.declared.view.View.{View}
@@ -49,7 +49,7 @@ name_of ring = ring.table.shared.table_id
 
 -- it holds 16 items at most
 abbrev pub IsQueue : {Q A : Type 0} → Ring Q A → Type 0
-IsQueue ring = ring.cap ≡ 16
+IsQueue ring = ruled_capacity ring ≡ 16
 
 -- what the pass of an end tells
 abbrev pub end_of : Pass Item View → EndData

@@ -73,7 +73,21 @@ fn next_note(words: &SharedWords, client: &mut ClientPass, poster: &Poster) -> O
     }
 }
 
-// Posts the next flushes, so many, where there is room for each.
+// Posts a note where fewer than 16 were posted: a queue is full behind 16 posts at the earliest.
+fn post_early<R: Wait>(rt: &R, queue: &FlushQueue, poster: &mut Poster, note: Note)
+    requires queue { queue.now ≡ poster.old.queue }
+    requires note { note ≡ note_of poster.old }
+    requires flush { poster.old.count < flushes poster.old.plan.actions }
+    requires early { poster.old.count < 16 }
+    ensures { poster.new ≡ one_more poster.old }
+{
+    match queue.post(rt, poster, note) {
+        Ok(()) => {}
+        Err(_) => unreachable!(),
+    }
+}
+
+// Posts the client's next flushes, so many, all among the first 16.
 fn post_each<R: Wait>(
     rt: &R,
     words: &SharedWords,
@@ -85,6 +99,7 @@ fn post_each<R: Wait>(
     requires words { words.now ≡ client.old.table }
     requires queue { queue.now ≡ poster.old.queue }
     requires all { HasPostedAll client.old poster.old }
+    requires early { poster.old.count + count ≤ 16 }
     ensures words { words.now ≡ client.new.table }
     ensures queue { queue.now ≡ poster.new.queue }
     ensures all { IsTrue result → HasPostedAll client.new poster.new }
@@ -92,11 +107,7 @@ fn post_each<R: Wait>(
     for _ in 0..count {
         match next_note(words, client, poster) {
             None => return false,
-            Some(note) => {
-                if queue.post(rt, poster, note).is_err() {
-                    return false;
-                }
-            }
+            Some(note) => post_early(rt, queue, poster, note),
         }
     }
     true
@@ -122,7 +133,7 @@ fn a_full_queue_gives_the_note_back(rt: HostRuntime) -> Result<(), Fail> {
     let (queue, mut poster, mut taker, mut client) = made.ok_or("memory is ample")?;
     assert!(rt; !take_each(&rt, &queue, &mut taker, 1));
     if !post_each(&rt, &words, &queue, &mut client, &mut poster, ROOM) {
-        return Err("room for sixteen".into());
+        return Err("sixteen flushes".into());
     }
     let note = next_note(&words, &mut client, &poster).ok_or("a flush")?;
     let Err(full) = queue.post(&rt, &mut poster, note) else {
