@@ -1,5 +1,6 @@
 pub mod Rows
 pub mod Places
+pub mod Parts
 pub mod Behind
 pub mod Sides
 pub mod Running
@@ -15,4 +16,8 @@ pub mod Fresh
 pub mod Idle
 pub mod Counting
 pub mod Drawings
+pub mod Members
+pub mod Chains
+pub mod Quiet
+pub mod Committed
 mod Applied

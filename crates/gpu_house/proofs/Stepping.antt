@@ -1,15 +1,17 @@
 -- What a run keeps after a step: its note is met, and its client is told.
-use Rattle.std.proofs.Common.{◌≡◌, ◌≢◌, ℕ, ◌+◌, ◌≤◌, max, eqb, Bool, true, false, List, ◌∷◌, length, drop, Option, Some, None, refl, sym, ap, subst, ◌∙◌, arith, length-drop, option_map}
+use Rattle.std.proofs.Common.{◌≡◌, ◌≢◌, ℕ, ◌+◌, ◌≤◌, max, eqb, Bool, true, false, List, [], ◌∷◌, length, drop, Option, Some, None, refl, sym, ap, subst, ◌∙◌, arith, length-drop, length-append, option_map}
 use Rattle.std.specs.Prelude.{IfSome, slice_get}
 use Rattle.std.specs.List.{All}
 use Rattle.std.proofs.Math.Nat.{max_comm, le-max_left}
 use Rattle.std.proofs.lemmas.Bool.Decides.{nat_tests}
-use Rattle.std.proofs.lemmas.List.{drop_all}
-use Rattle.std.proofs.lemmas.List.Elements.{All-nil}
+use Rattle.gpu_house.proofs.Parts.{drop-drop}
+use Rattle.std.proofs.lemmas.List.Elements.{All-drop, All-weaker}
 use Rattle.atomic_table.specs.Seated.{TableId}
 use Rattle.gpu_plan.specs.Plans.{PlansData, plan_of}
 use Rattle.gpu_plan.specs.Places.{flush_places}
-use Rattle.gpu_plan.specs.Passes.{greatest}
+use Rattle.gpu_plan.specs.Passes.{bound, greatest}
+use Rattle.gpu_plan.specs.MayHold.{MayHold}
+use Rattle.gpu_plan.proofs.Holding.{may_hold_between}
 use Rattle.gpu_plan.proofs.Passing.{bound_grows_by_greatest}
 use Rattle.gpu_fetch.specs.Side.{SideData, reach, with_token}
 use Rattle.stream_state.specs.declared.effect.Effect.{Effect}
@@ -26,6 +28,7 @@ use Rattle.house_core.specs.Answers.{IsMovedBy}
 use Rattle.house_core.specs.Desks.{RunData}
 use Rattle.gpu_house.specs.Slots.{RunFits}
 use Rattle.gpu_house.specs.Changes.{met_by}
+use Rattle.gpu_house.specs.Batches.{AreNext}
 use Rattle.gpu_house.specs.declared.answers.Next.{Next}
 use Rattle.gpu_house.specs.declared.answers.Next.TheVariants.{More, FlushEnd}
 use Rattle.gpu_house.specs.Steps.{told_side, next_of}
@@ -54,6 +57,16 @@ told_greatest (Results write) s tokens is = is
 
 pub told_list : (effect : Effect) (s : SideData) → (told_side effect s).fetched ≡ s.fetched
 told_list effect s = told_keeps (λ d. d.fetched) (λ d token. refl) effect s
+
+-- it is no less than it was
+told_no_less : (effect : Effect) (s : SideData) → s.greatest ≤ (told_side effect s).greatest
+told_no_less Nothing s = omega arith
+told_no_less (Token token) s = le-max_left s.greatest token
+told_no_less (Release r) s = omega arith
+told_no_less (Wait t r) s = omega arith
+told_no_less (WaitName name r) s = omega arith
+told_no_less (Pixels op) s = omega arith
+told_no_less (Results write) s = omega arith
 
 -- its client can come no less far
 told_reach : (effect : Effect) (s : SideData) → reach s ≤ reach (told_side effect s)
@@ -98,22 +111,35 @@ module _ {Side Note : Type 0} (side : Side → SideData) (table : Side → Table
   met_fits run x y None fits told bounded same = same_again run x y fits told same
   met_fits run x y (Some note) fits told bounded same = met_again side table mark note_of p tables books run x y note fits told bounded same
 
-  -- the words of a step are the last of the list
-  list_is : (run : RunData) (x : Side) (left : Option Note) (words : List (ℕ × ℕ)) → Fits run x left → drop run.facts.fetched (side x).fetched ≡ words → length (side x).fetched ≡ run.facts.fetched + length words
-  list_is run x left words fits last =
+  -- how many words were fetched: those of the facts, those of the step, and those behind them
+  list_is : (run : RunData) (x : Side) (words : List (ℕ × ℕ)) → Fits run x None → (next : AreNext run.facts (side x).fetched words) → length (side x).fetched ≡ run.facts.fetched + length words + length next.rest
+  list_is run x words fits next =
       let n = length-drop run.facts.fetched (side x).fetched in
-      let k = ap length last in
+      let k = ap length next.next in
+      let m = length-append words next.rest in
       let low = fits.list in
-      omega (arith, n, k, low)
+      omega (arith, n, k, m, low)
+
+  -- the words behind those of a step may have been put, where the greatest token is no less
+  behind_may : (run now : RunData) (list : List (ℕ × ℕ)) (count : ℕ) → now.stream ≡ run.stream → now.place ≡ run.place → now.finished ≡ run.finished → run.greatest ≤ now.greatest → All (MayHavePut p run) (drop run.facts.fetched list)
+      → All (MayHavePut p now) (drop (run.facts.fetched + count) list)
+  behind_may run now list count stream place finished more may =
+      let wider : (word : ℕ × ℕ) → MayHavePut p run word → MayHavePut p now word = λ word was.
+      subst (λ (t : ℕ). MayHold (plan_of p t).actions now.place (bound (plan_of p t).actions now.finished (now.greatest ∷ [])) word.0 word.1) (sym stream)
+      (subst (λ (k : ℕ). MayHold (plan_of p run.stream).actions k (bound (plan_of p run.stream).actions now.finished (now.greatest ∷ [])) word.0 word.1) (sym place)
+      (may_hold_between (plan_of p run.stream).actions run.place run.place (bound (plan_of p run.stream).actions run.finished (run.greatest ∷ [])) (bound (plan_of p run.stream).actions now.finished (now.greatest ∷ [])) word.0 word.1
+      (omega arith) (bound_grows_by_greatest (plan_of p run.stream).actions run.finished now.finished run.greatest now.greatest (omega (arith, finished)) more) was)) in
+      subst (All (MayHavePut p now)) (drop-drop run.facts.fetched count list) (All-drop (MayHavePut p now) count (drop run.facts.fetched list) (All-weaker (MayHavePut p run) (MayHavePut p now) wider (drop run.facts.fetched list) may))
 
   -- a step was executed
-  pub stepped_fits : (run now : RunData) (y z : Side) (words : List (ℕ × ℕ)) (effect : Effect) (kept : Bool) (old new : List Event) → Fits run y None → drop run.facts.fetched (side y).fetched ≡ words → side z ≡ told_side effect (side y) → table z ≡ table y
+  pub stepped_fits : (run now : RunData) (y z : Side) (words : List (ℕ × ℕ)) (effect : Effect) (kept : Bool) (old new : List Event) → Fits run y None → AreNext run.facts (side y).fetched words → side z ≡ told_side effect (side y) → table z ≡ table y
       → new ≡ Step run.stream words ∷ old → effect ≡ asked_by p run.stream words (world p old) → IsRunOf p old run → IsMovedBy run now words kept → IsRunOf p new now → Fits now z None
-  stepped_fits run now y z words effect kept old new fits last told same past asked was moved is =
+  stepped_fits run now y z words effect kept old new fits next told same past asked was moved is =
       let s = run.stream in
       let here = moved.stream in
       let list : (side z).fetched ≡ (side y).fetched = ap (λ (d : SideData). d.fetched) told ∙ told_list effect (side y) in
-      let count : length (side z).fetched ≡ now.facts.fetched = ap length list ∙ list_is run y None words fits last ∙ sym moved.fetched in
+      let long : length (side z).fetched ≡ run.facts.fetched + length words + length next.rest = ap length list ∙ list_is run y words fits next in
+      let further = moved.fetched in
       let met : (side z).met ≡ (side y).met = ap (λ (d : SideData). d.met) told ∙ told_keeps (λ d. d.met) (λ d token. refl) effect (side y) in
       let place = moved.place in
       let plan : (side z).plan ≡ plan_of p s = ap (λ (d : SideData). d.plan) told ∙ told_keeps (λ d. d.plan) (λ d token. refl) effect (side y) ∙ fits.plan in
@@ -122,6 +148,9 @@ module _ {Side Note : Type 0} (side : Side → SideData) (table : Side → Table
       let at = fits.noted.0 in
       let tokens : (known p new now.stream).tokens ≡ worlds.with_token effect (known p old s).tokens =
       ap (λ (h : List Event). (known p h now.stream).tokens) past ∙ ap (λ (t : ℕ). (known p (Step s words ∷ old) t).tokens) here ∙ step_tokens p old s words ∙ ap (λ (e : Effect). worlds.with_token e (known p old s).tokens) (sym asked) in
+      let greater : (side z).greatest ≡ now.greatest = ap (λ (d : SideData). d.greatest) told ∙ told_greatest effect (side y) (known p old s).tokens (fits.greatest ∙ was.greatest) ∙ ap greatest (sym tokens) ∙ sym is.greatest in
+      let no_less : (side y).greatest ≤ (side z).greatest = subst (λ (d : SideData). (side y).greatest ≤ d.greatest) (sym told) (told_no_less effect (side y)) in
+      let had = fits.greatest in
       record {
         of_plans = record {
           known = subst (λ (t : ℕ). IsKnown (length p.plans) t) (sym here) fits.of_plans.known;
@@ -134,10 +163,11 @@ module _ {Side Note : Type 0} (side : Side → SideData) (table : Side → Table
         shared = same ∙ fits.shared ∙ ap tables (sym here);
         note_shared = tt;
         finished = ap (λ (d : SideData). d.finished) told ∙ told_keeps (λ d. d.finished) (λ d token. refl) effect (side y) ∙ fits.finished ∙ sym moved.finished;
-        greatest = ap (λ (d : SideData). d.greatest) told ∙ told_greatest effect (side y) (known p old s).tokens (fits.greatest ∙ was.greatest) ∙ ap greatest (sym tokens) ∙ sym is.greatest;
-        list = omega (arith, count);
-        may = subst (All (MayHavePut p now)) (sym (drop_all now.facts.fetched (side z).fetched (omega (arith, count)))) (All-nil (MayHavePut p now));
-        whole = λ end. count;
+        greatest = greater;
+        list = omega (arith, long, further);
+        may = subst (λ (n : ℕ). All (MayHavePut p now) (drop n (side z).fetched)) (sym further)
+            (behind_may run now (side z).fetched (length words) here place moved.finished (omega (arith, greater, no_less, had)) (subst (λ (l : List (ℕ × ℕ)). All (MayHavePut p run) (drop run.facts.fetched l)) (sym list) fits.may));
+        whole = λ end. (let none = ap length (next.ended (sym moved.get ∙ end ∙ moved.put)) in omega (arith, long, further, none));
         behind = (let low = fits.behind in omega (arith, met, place, low));
         noted = (omega (arith, met, at, place), omega (arith, met, reached, farther));
       }

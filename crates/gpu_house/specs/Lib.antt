@@ -9,3 +9,5 @@ pub mod Steps
 pub mod Drawing
 pub mod Laws
 pub mod Waiting
+pub mod Batches
+pub mod Committing

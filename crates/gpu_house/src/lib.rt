@@ -2,6 +2,8 @@
 #![tactic(auto)]
 
 mod answers;
+mod batch;
+mod batching;
 mod doing;
 mod ends;
 mod house;
@@ -19,6 +21,7 @@ mod slot;
 mod steps;
 
 pub use answers::{Doing, Next, OrderRefused, Progress};
+pub use batch::Batch;
 pub use house::House;
 pub use house_core::Closing;
 pub use laws::none_is_taken_where_no_number_is_left;

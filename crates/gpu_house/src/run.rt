@@ -3,12 +3,14 @@ ghost use Rattle.std.specs.List.{All};
 ghost use Rattle.gpu_cmd.specs.Copied.{copied, fetched_places, places_listed};
 ghost use Rattle.gpu_cmd.specs.Lawful.{IsLawfulFacts};
 ghost use Rattle.gpu_fetch.specs.Side.{Fetches};
-ghost use Rattle.gpu_fetch.specs.Fetched.{FetchesSome};
+ghost use Rattle.gpu_fetch.specs.Fetched.{IsFetched, FetchesSome};
 ghost use Rattle.house_core.specs.Core.{book_at};
 ghost use Rattle.gpu_house.specs.Names.{table_at};
 ghost use Rattle.gpu_house.specs.Slots.{RunFits};
 ghost use Rattle.gpu_house.specs.Changes.{met_by};
+ghost use Rattle.gpu_house.specs.Batches.{batch_words, AreChained, EndsExactly, FetchesInPart};
 
+use crate::batch::Batch;
 use crate::meeting::meet;
 use crate::naming::Naming;
 use gpu_cmd::StreamFacts;
@@ -127,5 +129,41 @@ impl<N: Naming, P: ServiceSide> Run<N, P> {
         } = self;
         meet(side, note, words);
         fetch_command(*alloc, side, words, carried.facts())
+    }
+
+    /// Fetches commands one after the other up to the end of a batch, without the lock. The first fetch of an order meets its note.
+    ///
+    /// # Errors
+    ///
+    /// `Memory`: the side has fetched the first of the places that were to be fetched. The run can then only be lost.
+    pub fn fetch_batch(&mut self, words: &P::Words) -> Result<Batch, Memory>
+        requires belongs { P.belongs self.old.side words.now }
+        requires note { IfSome self.old.note (P.note_belongs self.old.side words.now) }
+        requires more { self.old.run.facts.get ≢ self.old.run.facts.put }
+        requires going { self.old.run.paused ≡ false }
+        requires list { length (P.side self.old.side).fetched ≡ self.old.run.facts.fetched }
+        ensures run { self.new.run ≡ self.old.run }
+        ensures met { self.new.note ≡ None }
+        ensures chained { IfOk result (AreChained self.old.run.facts) }
+        ensures copies { IfOk result (All IsFetched) }
+        ensures end { IfOk result EndsExactly }
+        ensures grows { IfOk result (λ batch. (P.side self.new.side).fetched ≡ (P.side self.old.side).fetched ++ batch_words batch) }
+        ensures fetches { IfOk result (λ batch. Fetches (met_by (option_map P.mark self.old.note) (P.side self.old.side))
+            (P.side self.new.side) (batch_words batch)) }
+        ensures shows { IfOk result (λ batch. All (P.shows words.now) (batch_words batch)) }
+        ensures some { IfErr result (λ _. FetchesInPart (met_by (option_map P.mark self.old.note) (P.side self.old.side))
+            (P.side self.new.side) self.old.run.facts) }
+        ensures belongs { P.belongs self.new.side words.now }
+        ensures notes { (n : P.Note) → P.note_belongs self.old.side words.now n → P.note_belongs self.new.side words.now n }
+    {
+        let Run {
+            alloc,
+            carried,
+            side,
+            note,
+            ..
+        } = self;
+        meet(side, note, words);
+        Batch::fetch(*alloc, side, words, carried.facts())
     }
 }

@@ -8,6 +8,7 @@ ghost use Rattle.stream_state.specs.Told.{writes_told};
 ghost use Rattle.gpu_journal.specs.World.{replay};
 ghost use Rattle.gpu_house.specs.Changes.{Same, ResultsBelong, WroteResults, StillBelongs};
 ghost use Rattle.gpu_house.specs.Steps.{Steps, next_of, told_side};
+ghost use Rattle.gpu_house.specs.Batches.{AreNext};
 ghost use Rattle.gpu_house.specs.Drawing.{drawn_of, drawn_at, drawn_if, Draws};
 
 use crate::answers::{Next, Progress};
@@ -46,13 +47,8 @@ fn tell<P: ServiceSide>(side: &mut P, results: &mut P::Results, words: &P::Words
 }
 
 impl<N: Naming, P: ServiceSide, H: Hook> House<N, P, H> {
-    /// The step of a run on what was fetched for it: its command is executed, and the client is told of its token or its results; or
-    /// the stream is lost by an error. Where it is lost or closed already, nothing changes. The operation that was drawn is told.
-    ///
-    /// # Errors
-    ///
-    /// `Memory`: nothing has changed.
-    pub fn step(
+    // The step of a run on the first of what was fetched for it.
+    pub(crate) fn step_first(
         &mut self,
         run: &mut Run<N, P>,
         words: &P::Words,
@@ -60,7 +56,7 @@ impl<N: Naming, P: ServiceSide, H: Hook> House<N, P, H> {
     ) -> Result<Progress, Memory>
         requires going { run.old.run.paused ≡ false }
         requires facts { fetched.facts ≡ run.old.run.facts }
-        requires list { drop run.old.run.facts.fetched (P.side run.old.side).fetched ≡ fetched.words }
+        requires list { AreNext run.old.run.facts (P.side run.old.side).fetched fetched.words }
         requires belongs { P.belongs run.old.side words.now }
         requires note { IfSome run.old.note (P.note_belongs run.old.side words.now) }
         requires results { ResultsBelong P.results_belong words.now self.old.results run.old.run.stream }
@@ -113,6 +109,43 @@ impl<N: Naming, P: ServiceSide, H: Hook> House<N, P, H> {
             next: next_of(acted.kept, carried.at_end()),
             drawn: drawn_of(acted),
         })
+    }
+
+    /// The step of a run on what was fetched for it: its command is executed, and the client is told of its token or its results; or
+    /// the stream is lost by an error. Where it is lost or closed already, nothing changes. The operation that was drawn is told.
+    ///
+    /// # Errors
+    ///
+    /// `Memory`: nothing has changed.
+    pub fn step(
+        &mut self,
+        run: &mut Run<N, P>,
+        words: &P::Words,
+        fetched: Fetched,
+    ) -> Result<Progress, Memory>
+        requires going { run.old.run.paused ≡ false }
+        requires facts { fetched.facts ≡ run.old.run.facts }
+        requires list { drop run.old.run.facts.fetched (P.side run.old.side).fetched ≡ fetched.words }
+        requires belongs { P.belongs run.old.side words.now }
+        requires note { IfSome run.old.note (P.note_belongs run.old.side words.now) }
+        requires results { ResultsBelong P.results_belong words.now self.old.results run.old.run.stream }
+        ensures steps { IfOk result
+            (λ progress. Steps P.side P.mark N.plans self.old self.new run.old run.new fetched.words progress.next) }
+        ensures end { IfOk result
+            (λ progress. (progress.next ≡ Next.FlushEnd → run.new.run.facts.get ≡ run.new.run.facts.put)
+            × (progress.next ≡ Next.More → run.new.run.facts.get ≢ run.new.run.facts.put)) }
+        ensures drawn { IfOk result (λ progress. progress.drawn
+            ≡ drawn_if progress.next (drawn_at N.plans self.old.core.past run.old.run.stream fetched.words)) }
+        ensures draws { IfOk result
+            (λ progress. Draws (replay N.plans self.old.core.past) (replay N.plans self.new.core.past) progress.drawn) }
+        ensures slots { self.new.slots ≡ self.old.slots }
+        ensures results { WroteResults P.results_belong words.now self.old.results self.new.results run.old.run.stream }
+        ensures still { StillBelongs P.belongs P.note_belongs words.now run.old.side run.new.side }
+        ensures list { (P.side run.new.side).fetched ≡ (P.side run.old.side).fetched }
+        ensures err { OnErr result (Same self.old self.new) }
+        ensures same { OnErr result (run.new ≡ run.old) }
+    {
+        self.step_first(run, words, fetched)
     }
 }
 

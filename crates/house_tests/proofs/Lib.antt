@@ -1,3 +1,4 @@
+pub mod Batching
 pub mod Flushing
 pub mod Belonging
 pub mod Turning

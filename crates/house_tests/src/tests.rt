@@ -1,3 +1,4 @@
+mod batches;
 mod drive;
 mod losses;
 mod opening;

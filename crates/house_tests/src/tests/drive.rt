@@ -8,12 +8,33 @@ ghost use Rattle.house_tests.specs.Alone.{ordered, IsHome, IsOut};
 
 use gpu_fetch::ServiceSide;
 use gpu_house::{House, Naming, Next, Run};
+use gpu_store::Op;
 use gpu_word::Memory;
+use std::alloc::Global;
 use std::test::Fail;
 use wait_hooks::Hook;
 
 /// A flush of these tests has fewer commands.
-const MOST_TURNS: u32 = 16;
+const MOST_TURNS: u32 = 80;
+
+/// How a run takes the commands of its flush, and what is told of that.
+#[derive(Drop)]
+pub enum Pace {
+    /// One by one.
+    Single,
+    /// In batches: of how many commands each was, and what they drew.
+    Batched { sizes: Vec<usize>, drawn: Vec<Op> },
+}
+
+impl Pace {
+    // In batches.
+    pub fn batched(alloc: Global) -> Pace {
+        Pace::Batched {
+            sizes: Vec::new(alloc),
+            drawn: Vec::new(alloc),
+        }
+    }
+}
 
 // A flush of the one stream is ordered, with its note.
 #[tactic(auto, using(crate::proofs::Turning::order_orders))]
@@ -65,11 +86,62 @@ fn turn<N: Naming, P: ServiceSide, H: Hook>(
     }
 }
 
+// A run takes a batch of its flush, or finishes it. It is given back where it goes on.
+fn turn_batch<N: Naming, P: ServiceSide, H: Hook>(
+    house: &mut House<N, P, H>,
+    words: &P::Words,
+    mut run: Run<N, P>,
+    sizes: &mut Vec<usize>,
+    drawn: &mut Vec<Op>,
+) -> Result<Option<Run<N, P>>, Memory>
+    requires { IsOut P.belongs P.note_belongs P.results_belong P.side words.now house.old run }
+    ensures left { IfOk result (λ left. MatchOption left
+        (IsHome P.belongs P.note_belongs P.results_belong words.now house.new)
+        (IsOut P.belongs P.note_belongs P.results_belong P.side words.now house.new)) }
+    ensures ordered { OnOk result (ordered N.plans house.new.core.past ≡ ordered N.plans house.old.core.past) }
+{
+    if run.at_end() {
+        house.finish(run, words);
+        return Ok(None);
+    }
+    let batch = run.fetch_batch(words)?;
+    sizes.push(batch.members().len())?;
+    let next = house.step_batch(&mut run, words, batch, drawn)?;
+    match next {
+        Next::More => Ok(Some(run)),
+        Next::FlushEnd => Ok(Some(run)),
+        _ => {
+            house.lose(run);
+            Ok(None)
+        }
+    }
+}
+
+// A run takes its next commands, or finishes its flush. It is given back where it goes on.
+fn turn_by<N: Naming, P: ServiceSide, H: Hook>(
+    house: &mut House<N, P, H>,
+    words: &P::Words,
+    run: Run<N, P>,
+    pace: &mut Pace,
+) -> Result<Option<Run<N, P>>, Memory>
+    requires { IsOut P.belongs P.note_belongs P.results_belong P.side words.now house.old run }
+    ensures left { IfOk result (λ left. MatchOption left
+        (IsHome P.belongs P.note_belongs P.results_belong words.now house.new)
+        (IsOut P.belongs P.note_belongs P.results_belong P.side words.now house.new)) }
+    ensures ordered { OnOk result (ordered N.plans house.new.core.past ≡ ordered N.plans house.old.core.past) }
+{
+    match pace {
+        Pace::Single => turn(house, words, run),
+        Pace::Batched { sizes, drawn } => turn_batch(house, words, run, sizes, drawn),
+    }
+}
+
 // A run goes on until it is at home again.
 fn run_out<N: Naming, P: ServiceSide, H: Hook>(
     house: &mut House<N, P, H>,
     words: &P::Words,
     run: Run<N, P>,
+    pace: &mut Pace,
 ) -> Result<(), Fail>
     requires { IsOut P.belongs P.note_belongs P.results_belong P.side words.now house.old run }
     ensures home { OnOk result (IsHome P.belongs P.note_belongs P.results_belong words.now house.new) }
@@ -77,7 +149,7 @@ fn run_out<N: Naming, P: ServiceSide, H: Hook>(
 {
     let mut out = run;
     for _turn in 0..MOST_TURNS {
-        match turn(house, words, out)? {
+        match turn_by(house, words, out, pace)? {
             Some(on) => out = on,
             None => return Ok(()),
         }
@@ -90,6 +162,7 @@ fn run_out<N: Naming, P: ServiceSide, H: Hook>(
 pub fn run<N: Naming, P: ServiceSide, H: Hook>(
     house: &mut House<N, P, H>,
     words: &P::Words,
+    pace: &mut Pace,
 ) -> Result<bool, Fail>
     requires { IsHome P.belongs P.note_belongs P.results_belong words.now house.old }
     ensures home { OnOk result (IsHome P.belongs P.note_belongs P.results_belong words.now house.new) }
@@ -102,6 +175,6 @@ pub fn run<N: Naming, P: ServiceSide, H: Hook>(
     if run.stream() != 1 {
         return Err("one stream".into());
     }
-    run_out(house, words, run)?;
+    run_out(house, words, run, pace)?;
     Ok(true)
 }

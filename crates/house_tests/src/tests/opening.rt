@@ -8,7 +8,7 @@ ghost use Rattle.gpu_house.specs.Names.{table_at};
 ghost use Rattle.gpu_house.specs.Making.{fresh_slots, AreFreshResults};
 ghost use Rattle.house_tests.specs.Alone.{IsHome};
 
-use super::drive::{order, run};
+use super::drive::{Pace, order, run};
 use gpu_books::{Book, Half};
 use gpu_fetch::ServiceSide;
 use gpu_house::{House, Naming, Report};
@@ -80,6 +80,7 @@ pub fn drive<N: Naming, P: ServiceSide>(
     side: P,
     results: P::Results,
     note: P::Note,
+    pace: &mut Pace,
 ) -> Result<Report, Fail>
     requires plans { plans ≡ N.plans }
     requires one { length plans.plans ≡ 1 }
@@ -98,7 +99,7 @@ pub fn drive<N: Naming, P: ServiceSide>(
 {
     let mut house = open::<N, P>(alloc, plans, book, words, side, results)?;
     order(&mut house, words, note)?;
-    if !run(&mut house, words)? {
+    if !run(&mut house, words, pace)? {
         return Err("a flush to run".into());
     }
     Ok(house.report())

@@ -5,7 +5,7 @@ ghost use Rattle.house_core.specs.Core.{IsFresh};
 ghost use Rattle.gpu_fetch.specs.Shared.{IsOf, IsNoteOf};
 ghost use Rattle.house_tests.specs.Alone.{IsHome, IsClientOf};
 
-use super::drive::{order, run};
+use super::drive::{Pace, order, run};
 use super::opening::{only_plan, open, plans_of};
 use super::output::output_of;
 use gpu_books::{Book, Half};
@@ -44,7 +44,7 @@ stream 1 done entries 22 release 0 token 0 words 24 errors 0 0 0
 ";
 
 /// A client of these tests has fewer actions.
-const MOST_ACTS: u32 = 40;
+const MOST_ACTS: u32 = 100;
 
 /// It has fewer flushes.
 const MOST_ROUNDS: u32 = 8;
@@ -112,6 +112,7 @@ fn take_turns<N: Naming>(
     words: &SharedWords,
     mut client: ClientPass,
     acts: &mut Vec<Acted>,
+    pace: &mut Pace,
 ) -> Result<(), Fail>
     requires one { length N.plans.plans ≡ 1 }
     requires home { IsHome IsOf IsNoteOf (λ w r. Unit {0}) words.now house.old }
@@ -120,7 +121,7 @@ fn take_turns<N: Naming>(
 {
     for _round in 0..MOST_ROUNDS {
         act_on(house, words, &mut client, acts)?;
-        if !run(house, words)? {
+        if !run(house, words, pace)? {
             return Ok(());
         }
     }
@@ -135,6 +136,7 @@ fn race<N: Naming>(
     words: &SharedWords,
     side: ServicePass,
     client: ClientPass,
+    pace: &mut Pace,
 ) -> Result<(Report, Vec<Acted>), Fail>
     requires plans { plans ≡ N.plans }
     requires one { length plans.plans ≡ 1 }
@@ -146,25 +148,33 @@ fn race<N: Naming>(
 {
     let mut acts = Vec::new(alloc);
     let mut house = open::<N, ServicePass>(alloc, plans, book, words, side, ())?;
-    take_turns(&mut house, words, client, &mut acts)?;
+    take_turns(&mut house, words, client, &mut acts, pace)?;
     Ok((house.report(), acts))
 }
 
 // What a house leaves of a script of one stream, whose words are racing ones.
-fn raced(alloc: Global, script: &str) -> Result<(Report, Vec<Acted>), Fail> {
+pub fn raced(alloc: Global, script: &str, pace: &mut Pace) -> Result<(Report, Vec<Acted>), Fail> {
     let plans = plans_of(alloc, script)?;
     let book = gpu_books::make(alloc)?;
     let (words, client, side) = shm_words::make(alloc, only_plan(&plans)?)?;
-    race::<Brand>(alloc, plans, book, &words, side, client)
+    race::<Brand>(alloc, plans, book, &words, side, client, pace)
+}
+
+// Whether the two uploads are read back where their commands are taken so.
+fn is_read_back(alloc: Global, mut pace: Pace) -> Result<bool, Fail> {
+    let (report, acts) = raced(alloc, TWO_UPLOADS, &mut pace)?;
+    let output = output_of(alloc, &report)?;
+    Ok(
+        output.as_slice() == TWO_UPLOADED.as_bytes()
+            && acts.as_slice().get(..16) == Some(FIRST_ACTS)
+            && acts.as_slice().get(16..) == Some(FURTHER_ACTS),
+    )
 }
 
 #[test]
 fn a_write_is_read_back(rt: HostRuntime) -> Result<(), Fail> {
-    let (report, acts) = raced(rt.alloc(), TWO_UPLOADS)?;
-    let output = output_of(rt.alloc(), &report)?;
-    assert!(rt; output.as_slice() == TWO_UPLOADED.as_bytes());
-    assert!(rt; acts.as_slice().get(..16) == Some(FIRST_ACTS));
-    assert!(rt; acts.as_slice().get(16..) == Some(FURTHER_ACTS));
+    assert!(rt; is_read_back(rt.alloc(), Pace::Single)?);
+    assert!(rt; is_read_back(rt.alloc(), Pace::batched(rt.alloc()))?);
     Ok(())
 }
 

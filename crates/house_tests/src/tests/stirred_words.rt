@@ -1,3 +1,4 @@
+use super::drive::Pace;
 use super::opening::{drive, only_plan, plans_of};
 use super::output::output_of;
 use gpu_books::make;
@@ -66,7 +67,12 @@ stream 1 done entries 11 release 0 token 0 words 11 errors 0 0 0
 
 // What a house leaves whose client goes on while its flush is fetched.
 #[tactic(auto, using(crate::proofs::Beginning::fresh_results, crate::proofs::Flushing::has_flush, crate::proofs::Flushing::first_mark))]
-fn stirred(alloc: Global, script: &str, turns: &[u32]) -> Result<Report, Fail> {
+pub fn stirred(
+    alloc: Global,
+    script: &str,
+    turns: &[u32],
+    pace: &mut Pace,
+) -> Result<Report, Fail> {
     let plans = plans_of(alloc, script)?;
     let book = make(alloc)?;
     let plan = only_plan(&plans)?;
@@ -74,13 +80,26 @@ fn stirred(alloc: Global, script: &str, turns: &[u32]) -> Result<Report, Fail> {
         return Err("puts before a flush".into());
     }
     let (side, note) = StirredPass::make(alloc, plan, turns.to_vec(alloc)?)?;
-    drive::<Brand, StirredPass>(alloc, plans, book, &(), side, (), note)
+    drive::<Brand, StirredPass>(alloc, plans, book, &(), side, (), note, pace)
 }
 
-// Whether a script whose client takes these turns has this output.
-fn has_output(alloc: Global, script: &str, turns: &[u32], output: &str) -> Result<bool, Fail> {
-    let report = stirred(alloc, script, turns)?;
+// Whether a script whose client takes these turns has this output where its commands are taken so.
+fn has_output_by(
+    alloc: Global,
+    script: &str,
+    turns: &[u32],
+    output: &str,
+    mut pace: Pace,
+) -> Result<bool, Fail> {
+    let report = stirred(alloc, script, turns, &mut pace)?;
     Ok(output_of(alloc, &report)?.as_slice() == output.as_bytes())
+}
+
+// Whether it has this output with its commands taken one by one, and in batches.
+fn has_output(alloc: Global, script: &str, turns: &[u32], output: &str) -> Result<bool, Fail> {
+    let one_by_one = has_output_by(alloc, script, turns, output, Pace::Single)?;
+    let batched = has_output_by(alloc, script, turns, output, Pace::batched(alloc))?;
+    Ok(one_by_one && batched)
 }
 
 #[test]

@@ -1,4 +1,4 @@
-use Rattle.std.proofs.Common.{◌≡◌, ℕ, ◌-◌, Bool, false, true, List, ◌∷◌, drop, option_map, length, refl, sym, ap, subst, ◌∙◌, arith, length-set}
+use Rattle.std.proofs.Common.{◌≡◌, ℕ, ◌-◌, Bool, false, true, List, ◌∷◌, option_map, length, refl, sym, ap, subst, ◌∙◌, arith, length-set}
 use Rattle.std.specs.Prelude.{slice_set, slice_index_or}
 use Rattle.std.specs.List.{All}
 use Rattle.gpu_word.specs.Results.{writes_of}
@@ -23,6 +23,7 @@ use Rattle.gpu_house.specs.Names.{table_at}
 use Rattle.gpu_house.specs.Marks.{AreMarked}
 use Rattle.gpu_house.proofs.Cases.{of_lost, of_closed, of_invalid, of_done, goes_on, known_here}
 use Rattle.gpu_house.proofs.Out.{stays_out}
+use Rattle.gpu_house.proofs.Parts.{first_of_all}
 use Rattle.gpu_house.proofs.Endings.{step_makes, grown_follow}
 use Rattle.gpu_house.proofs.Writings.{AllFit, all_still, all_more, at_stream, read_belongs, wrote}
 use Rattle.gpu_house.proofs.Homes.{stepped_homes, is_out, order_positive}
@@ -31,21 +32,22 @@ use Rattle.house_core.specs.Desks.{RunData}
 use Rattle.gpu_house.specs.Slots.{RunFits}
 use Rattle.gpu_house.specs.House.{HouseData, OutData}
 use Rattle.gpu_house.specs.Changes.{StillBelongs, met_by}
+use Rattle.gpu_house.specs.Batches.{AreNext}
 use Rattle.gpu_house.specs.Steps.{told_side, IsDone, Steps}
 use Rattle.gpu_house.specs.declared.answers.Progress.{Progress}
 use Rattle.gpu_house.specs.Drawing.{drawn_if, Draws}
 use Rattle.gpu_house.proofs.Drawings.{told_drawn, draws_step, draws_lost, drawn_where}
 use Rattle.gpu_house.proofs.Stepping.{note_marked, met_fits, stepped_fits, told_list, ends}
-use Rattle.gpu_house.proofs.house.House.step.Given.{Over}
-use Rattle.gpu_house.proofs.house.House.step.Goals as goal
+use Rattle.gpu_house.proofs.house.House.step_first.Given.{Over}
+use Rattle.gpu_house.proofs.house.House.step_first.Goals as goal
 
--- the words of the step are the last that its side fetched, so they may have been put
+-- the words of the step are the next that its side fetched, so they may have been put
 pub step-requires-clause-may : goal.step-requires-clause-may
 step-requires-clause-may g c =
     let S = g.P.ServiceSide in
     let run = c.run.inside.carried in
-    let last = ap (λ o. drop o.run.facts.fetched (S.side o.side).fetched) c.run.view_is ∙ c.requires.list in
-    subst (λ (q : PlansData). All (MayHavePut q run) c.args.fetched.words) (sym c.self.invariant.plans) (subst (All (MayHavePut g.N.Naming.plans run)) last c.run.invariant.may)
+    let next : AreNext run.facts (S.side c.run.inside.side).fetched c.args.fetched.words = subst (λ (o : OutData g.row.P.Denot g.row.P-Note.Denot). AreNext o.run.facts (S.side o.side).fetched c.args.fetched.words) (sym c.run.view_is) c.requires.list in
+    subst (λ (q : PlansData). All (MayHavePut q run) c.args.fetched.words) (sym c.self.invariant.plans) (first_of_all (MayHavePut g.N.Naming.plans run) c.args.fetched.words next.rest (subst (All (MayHavePut g.N.Naming.plans run)) next.next c.run.invariant.may))
 
 -- memory was wanted for the step
 pub invariant_of-self-in_err-step : goal.invariant_of-self-in_err-step
@@ -231,9 +233,10 @@ invariant_of-run-2 g c =
     let now_of : IsRunOf p now.past c.step.new.run = subst (λ (q : PlansData). IsRunOf q now.past c.step.new.run) (grows.plans ∙ was.plans) own.run in
     let asked : c.in-Done.acted.effect ≡ asked_by p run.stream words (world p core.past) = subst (λ (q : PlansData). c.in-Done.acted.effect ≡ asked_by q run.stream words (world q core.past)) was.plans acted.effect in
     let met = met_fits S.side S.table S.mark S.note_of p tables books run c.run.inside.side c.meet-2.new.side c.run.inside.note c.run.invariant c.meet-2.ensures.told c.meet-2.ensures.bounded c.meet-2.ensures.table in
-    let last : drop run.facts.fetched (S.side c.meet-2.new.side).fetched ≡ words = ap (drop run.facts.fetched) c.meet-2.ensures.list ∙ ap (λ o. drop o.run.facts.fetched (S.side o.side).fetched) c.run.view_is ∙ c.requires.list in
+    let next : AreNext run.facts (S.side c.meet-2.new.side).fetched words = subst (λ (l : List (ℕ × ℕ)). AreNext run.facts l words) (sym c.meet-2.ensures.list)
+    (subst (λ (o : OutData g.row.P.Denot g.row.P-Note.Denot). AreNext o.run.facts (S.side o.side).fetched words) (sym c.run.view_is) c.requires.list) in
     subst (RunFits S.side S.table S.mark S.note_of p tables books c.step.new.run c.tell.new.side) (sym c.meet-2.ensures.met)
-    (stepped_fits S.side S.table S.mark S.note_of p tables books run c.step.new.run c.meet-2.new.side c.tell.new.side words c.in-Done.acted.effect c.in-Done.acted.kept core.past now.past met last c.tell.ensures.side c.tell.ensures.table grows.past asked run_of own.moved now_of)
+    (stepped_fits S.side S.table S.mark S.note_of p tables books run c.step.new.run c.meet-2.new.side c.tell.new.side words c.in-Done.acted.effect c.in-Done.acted.kept core.past now.past met next c.tell.ensures.side c.tell.ensures.table grows.past asked run_of own.moved now_of)
 
 -- ---- what is answered
 

@@ -1,0 +1,233 @@
+-- The members of a batch while it is fetched.
+use Rattle.std.proofs.Common.{◌≡◌, ◌≢◌, ℕ, ◌+◌, ◌-◌, ◌<◌, ◌≤◌, true, false, ◌⊎◌, List, [], ◌∷◌, ◌++◌, length, take, Option, Some, None, get_or, refl, sym, ap, subst, ◌∙◌, arith, length-append}
+use Rattle.std.specs.Prelude.{◌==◌, Result, Ok, Err, IfOk, IfErr, IfSome, slice_get, if◌then◌else◌}
+use Rattle.std.specs.List.{All}
+use Rattle.std.proofs.lemmas.Bool.Decides.{nat_tests}
+use Rattle.std.proofs.Math.Seq.{take-append_seam}
+use Rattle.std.proofs.lemmas.List.{append-nil, map-append, flat_map_more}
+use Rattle.std.proofs.lemmas.List.Elements.{All-nil, All-cons, All-append}
+use Rattle.atomic_table.specs.Seated.{TableId}
+use Rattle.gpu_word.specs.Header.{size_of}
+use Rattle.gpu_cmd.specs.declared.command.Command.{Command}
+use Rattle.gpu_cmd.specs.declared.facts.StreamFacts.{StreamFacts}
+use Rattle.gpu_cmd.specs.Copied.{value_in, copied, fetched_places, places_listed, IsCopy}
+use Rattle.gpu_cmd.specs.Lawful.{IsLawfulFacts}
+use Rattle.gpu_cmd.specs.Laws.{LeavesRoom}
+use Rattle.gpu_cmd.proofs.Fitting.{accepted_leaves_room}
+use Rattle.gpu_plan.specs.Plans.{PlansData}
+use Rattle.gpu_fetch.specs.Side.{SideData, Fetches}
+use Rattle.gpu_fetch.specs.Fetched.{FetchedData, IsFetched, FetchesSome}
+use Rattle.gpu_fetch.proofs.Fetching.{fetches_none, fetches_then}
+use Rattle.stream_state.specs.Steps.{header_in}
+use Rattle.stream_state.proofs.Accepting.{told, says}
+use Rattle.house_core.specs.Answers.{further}
+use Rattle.house_core.specs.Desks.{RunData}
+use Rattle.gpu_house.specs.Slots.{RunFits}
+use Rattle.gpu_house.proofs.Running.{fetched_again}
+use Rattle.gpu_house.specs.Batches.{facts_after, facts_behind, member_words, batch_words, AreChained, is_last, most_members, EndsExactly, FetchesInPart}
+
+-- ---- behind a command that passed its checks
+
+-- it has a word, it ends in the ring, and the stream stays within its quota
+pub record Ends (words : List (ℕ × ℕ)) (facts : StreamFacts) : Type 0 where
+  pub some : 0 < length words
+  pub ends : facts.get + size_of (header_in words) ≤ facts.areas.ring
+  pub quota : facts.fetched + length words ≤ 1048576
+
+pub passed_ends : (words : List (ℕ × ℕ)) (facts : StreamFacts) (command : Command) → IsLawfulFacts facts → IsCopy words facts (Ok command) → Ends words facts
+passed_ends words facts command lawful copy =
+    let s = says words facts command (told words facts command lawful copy) in
+    let room : LeavesRoom words facts = accepted_leaves_room words facts command lawful copy in
+    let header : size_of (header_in words) ≡ size_of (value_in words facts.get) = ap size_of s.header in
+    record {
+      some = omega (arith, s.ring, s.some);
+      ends = omega (arith, room.ends, header);
+      quota = room.quota;
+    }
+
+-- a member that passed its checks, as it is read
+pub member_ends : (member : FetchedData) (command : Command) (words : List (ℕ × ℕ)) (facts : StreamFacts) → words ≡ member.words → facts ≡ member.facts → IsLawfulFacts facts → IsCopy words member.facts member.verdict → member.verdict ≡ Ok command → Ends words facts
+member_ends member command words facts same is lawful copy passed =
+    passed_ends words facts command lawful (subst (λ (f : StreamFacts). IsCopy words f (Ok command)) (sym is) (subst (IsCopy words member.facts) passed copy))
+
+-- the header is the value of the first word
+first_value : (words : List (ℕ × ℕ)) → (get_or words 0 (0, 0)).1 ≡ header_in words
+first_value [] = refl
+first_value (word ∷ words) = refl
+
+-- the facts behind it, as they are computed
+pub behind_is : (member : FetchedData) (words : List (ℕ × ℕ)) (facts : StreamFacts) (size get : ℕ) → words ≡ member.words → facts ≡ member.facts → size ≡ size_of (get_or words 0 (0, 0)).1 → get ≡ further facts.areas.ring facts.get size
+    → record { areas = facts.areas; get = get; put = facts.put; fetched = facts.fetched + length words } ≡ facts_after member.facts member.words
+behind_is member words facts size get same is sized at =
+    ap (λ (g : ℕ). record facts { get = g; fetched = facts.fetched + length words }) (at ∙ ap (further facts.areas.ring facts.get) (sized ∙ ap size_of (first_value words)))
+    ∙ ap (λ (f : StreamFacts). facts_after f words) is ∙ ap (facts_after member.facts) same
+
+-- the facts behind it are lawful again
+behind_lawful : (words : List (ℕ × ℕ)) (facts : StreamFacts) → IsLawfulFacts facts → Ends words facts → IsLawfulFacts (facts_after facts words)
+behind_lawful words facts lawful ends =
+    let ring = facts.areas.ring in
+    let in_ring = lawful.get in
+    let most = ends.ends in
+    record {
+      areas = lawful.areas;
+      get = wraps ring (facts.get + size_of (header_in words)) (omega arith) most;
+      fetched = ends.quota;
+    }
+  where
+    wraps : (ring end : ℕ) → 0 < ring → end ≤ ring → (if end == ring then 0 else end) < ring
+    wraps ring end some le = grind (arith, nat_tests)
+
+pub member_lawful : (member : FetchedData) (command : Command) (words : List (ℕ × ℕ)) (facts : StreamFacts) → words ≡ member.words → facts ≡ member.facts → IsLawfulFacts facts → IsCopy words member.facts member.verdict → member.verdict ≡ Ok command → IsLawfulFacts (facts_after member.facts member.words)
+member_lawful member command words facts same is lawful copy passed =
+    subst (λ (f : StreamFacts). IsLawfulFacts (facts_after f member.words)) is
+    (subst (λ (w : List (ℕ × ℕ)). IsLawfulFacts (facts_after facts w)) same (behind_lawful words facts lawful (member_ends member command words facts same is lawful copy passed)))
+
+-- ---- one member more
+
+pub chained_more : (facts : StreamFacts) (members : List FetchedData) (member : FetchedData) → AreChained facts members → member.facts ≡ facts_behind facts (member_words members) → AreChained facts (members ++ member ∷ [])
+chained_more facts [] member chained at = (at, tt)
+chained_more facts (m ∷ ms) member chained at = (chained.0, chained_more (facts_after facts m.words) ms member chained.1 at)
+
+pub behind_more : (facts : StreamFacts) (words : List (List (ℕ × ℕ))) (last : List (ℕ × ℕ)) → facts_behind facts (words ++ last ∷ []) ≡ facts_after (facts_behind facts words) last
+behind_more facts [] last = refl
+behind_more facts (w ∷ ws) last = behind_more (facts_after facts w) ws last
+
+pub member_words_more : (members : List FetchedData) (member : FetchedData) → member_words (members ++ member ∷ []) ≡ member_words members ++ member.words ∷ []
+member_words_more members member = map-append (λ (m : FetchedData). m.words) members (member ∷ [])
+
+pub batch_words_more : (members : List FetchedData) (member : FetchedData) → batch_words (members ++ member ∷ []) ≡ batch_words members ++ member.words
+batch_words_more members member = sym (flat_map_more (λ (m : FetchedData). m.words) [] members member)
+
+pub all_more : {X : Type 0} (P : X → Type 0) (xs : List X) (x : X) → All P xs → P x → All P (xs ++ x ∷ [])
+all_more P xs x all one = All-append P xs (x ∷ []) all (All-cons P x [] one (All-nil P))
+
+last_got : {X : Type 0} (xs : List X) (x : X) → slice_get (xs ++ x ∷ []) (length xs) ≡ Some x
+last_got [] x = refl
+last_got (y ∷ ys) x = last_got ys x
+
+pub ends_exactly : (members : List FetchedData) (member : FetchedData) → length members < most_members → All (λ m. is_last m ≡ false) members → (is_last member ≡ true) ⊎ (length members + 1 ≡ most_members) → EndsExactly (members ++ member ∷ [])
+ends_exactly members member few goes_on ends =
+    let long : length (members ++ member ∷ []) ≡ length members + 1 = length-append members (member ∷ []) in
+    let at : length (members ++ member ∷ []) - 1 ≡ length members = omega (arith, long) in
+    let first : take (length (members ++ member ∷ []) - 1) (members ++ member ∷ []) ≡ members = ap (λ (n : ℕ). take n (members ++ member ∷ [])) at ∙ take-append_seam members (member ∷ []) in
+    let last : slice_get (members ++ member ∷ []) (length (members ++ member ∷ []) - 1) ≡ Some member = ap (slice_get (members ++ member ∷ [])) at ∙ last_got members member in
+    record {
+      some = omega (arith, long);
+      few = omega (arith, long);
+      before = subst (All (λ (m : FetchedData). is_last m ≡ false)) (sym first) goes_on;
+      last = subst (λ (o : Option FetchedData). IfSome o (λ (m : FetchedData). (is_last m ≡ true) ⊎ (length (members ++ member ∷ []) ≡ most_members))) (sym last)
+          (subst (λ (n : ℕ). (is_last member ≡ true) ⊎ (n ≡ most_members)) (sym long) ends);
+    }
+
+-- ---- members that were fetched so far, at none of which the batch ends
+
+pub record Gathered (old new : SideData) (first next : StreamFacts) (members : List FetchedData) : Type 0 where
+  pub few : length members < most_members
+  pub chained : AreChained first members
+  pub copies : All IsFetched members
+  pub goes_on : All (λ member. is_last member ≡ false) members
+  pub whole : Fetches old new (batch_words members)
+  pub next_is : next ≡ facts_behind first (member_words members)
+  pub lawful : IsLawfulFacts next
+  pub more : next.get ≢ next.put
+  pub areas : next.areas ≡ new.plan.areas
+
+pub gathered_none : (old : SideData) (facts : StreamFacts) → IsLawfulFacts facts → facts.get ≢ facts.put → facts.areas ≡ old.plan.areas → Gathered old old facts facts []
+gathered_none old facts lawful more areas = record {
+  few = omega arith;
+  chained = tt;
+  copies = All-nil IsFetched;
+  goes_on = All-nil (λ (m : FetchedData). is_last m ≡ false);
+  whole = fetches_none old old refl;
+  next_is = refl;
+  lawful = lawful;
+  more = more;
+  areas = areas;
+}
+
+-- the side fetched one command more
+pub record Fetched (between new : SideData) (next : StreamFacts) (member : FetchedData) : Type 0 where
+  pub facts : member.facts ≡ next
+  pub fetches : Fetches between new member.words
+  pub copy : IsCopy member.words member.facts member.verdict
+
+pub fetched_one : (between new : SideData) (next : StreamFacts) (member : FetchedData) → member.facts ≡ next → Fetches between new member.words → places_listed member.words ≡ fetched_places member.words next → copied member.words next ≡ member.verdict → Fetched between new next member
+fetched_one between new next member facts fetches places verdict = record {
+  facts = facts;
+  fetches = fetches;
+  copy = subst (λ (f : StreamFacts). IsCopy member.words f member.verdict) (sym facts) record { places = places; verdict = verdict };
+}
+
+module _ (old between new : SideData) (first next : StreamFacts) (members : List FetchedData) (member : FetchedData) (were : Gathered old between first next members) (one : Fetched between new next member) where
+  pub whole_more : Fetches old new (batch_words (members ++ member ∷ []))
+  whole_more = subst (Fetches old new) (sym (batch_words_more members member)) (fetches_then old between new (batch_words members) member.words were.whole one.fetches)
+
+  pub links_more : AreChained first (members ++ member ∷ [])
+  links_more = chained_more first members member were.chained (one.facts ∙ were.next_is)
+
+  pub copies_more : All IsFetched (members ++ member ∷ [])
+  copies_more = all_more IsFetched members member were.copies record {
+    lawful = subst IsLawfulFacts (sym one.facts) were.lawful;
+    more = subst (λ (f : StreamFacts). f.get ≢ f.put) (sym one.facts) were.more;
+    copy = one.copy;
+  }
+
+  -- a batch does not end at it
+  pub gathered_more : (behind : StreamFacts) → behind ≡ facts_after member.facts member.words → IsLawfulFacts behind → behind.get ≢ behind.put → is_last member ≡ false → length members + 1 < most_members → Gathered old new first behind (members ++ member ∷ [])
+  gathered_more behind is lawful more goes_on few = record {
+    few = (let long = length-append members (member ∷ []) in omega (arith, long, few));
+    chained = links_more;
+    copies = copies_more;
+    goes_on = all_more (λ (m : FetchedData). is_last m ≡ false) members member were.goes_on goes_on;
+    whole = whole_more;
+    next_is = is ∙ ap (λ (f : StreamFacts). facts_after f member.words) (one.facts ∙ were.next_is) ∙ sym (behind_more first (member_words members) member.words) ∙ ap (facts_behind first) (sym (member_words_more members member));
+    lawful = lawful;
+    more = more;
+    areas = ap (λ (f : StreamFacts). f.areas) is ∙ ap (λ (f : StreamFacts). f.areas) one.facts ∙ were.areas ∙ ap (λ (s : SideData). s.plan.areas) (sym one.fetches.grows);
+  }
+
+  -- what is known of each word is known of its words
+  pub shown_more : (S : ℕ × ℕ → Type 0) → All S (batch_words members) → All S member.words → All S (batch_words (members ++ member ∷ []))
+  shown_more S all of_it = subst (All S) (sym (batch_words_more members member)) (All-append S (batch_words members) member.words all of_it)
+
+  -- it was fetched, and no room is found for it
+  pub gathered_lost : FetchesInPart old new first
+  gathered_lost = record {
+    members = members;
+    between = between;
+    few = were.few;
+    chained = were.chained;
+    copies = were.copies;
+    goes_on = were.goes_on;
+    whole = were.whole;
+    part = record {
+      words = member.words;
+      rest = [];
+      fetches = one.fetches;
+      first = subst (λ (f : StreamFacts). fetched_places member.words f ≡ places_listed member.words ++ []) (one.facts ∙ were.next_is) (sym one.copy.places ∙ sym (append-nil (places_listed member.words)));
+    };
+  }
+
+-- it was not fetched whole
+pub gathered_part : (old between new : SideData) (first next : StreamFacts) (members : List FetchedData) → Gathered old between first next members → FetchesSome between new next → FetchesInPart old new first
+gathered_part old between new first next members were some = record {
+  members = members;
+  between = between;
+  few = were.few;
+  chained = were.chained;
+  copies = were.copies;
+  goes_on = were.goes_on;
+  whole = were.whole;
+  part = subst (FetchesSome between new) were.next_is some;
+}
+
+-- ---- what a run keeps while a batch is fetched
+
+module _ {Side Note : Type 0} (side : Side → SideData) (table : Side → TableId) (mark : Note → ℕ) (note_of : Note → TableId → Type 0) (p : PlansData) (tables books : ℕ → TableId) (run : RunData) where
+  -- a fetch of a batch, whole or in part
+  pub batch_fetched : {Error : Type 0} (x y : Side) (facts : StreamFacts) (result : Result (List FetchedData) Error) → run.facts.get ≢ run.facts.put → RunFits side table mark note_of p tables books run x None → table y ≡ table x
+      → IfOk result (λ batch. Fetches (side x) (side y) (batch_words batch)) → IfErr result (λ _. FetchesInPart (side x) (side y) facts) → RunFits side table mark note_of p tables books run y None
+  batch_fetched x y facts (Ok batch) going fits same whole part = fetched_again side table mark note_of p tables books run x y (batch_words batch) going fits whole same
+  batch_fetched x y facts (Err error) going fits same whole part =
+      fetched_again side table mark note_of p tables books run x y (batch_words part.members ++ part.part.words) going fits
+      (fetches_then (side x) part.between (side y) (batch_words part.members) part.part.words part.whole part.part.fetches) same

@@ -1,0 +1,123 @@
+use Rattle.std.proofs.Common.{◌≡◌, ◌≢◌, ℕ, ◌<◌, ◌≤◌, true, false, List, [], ◌∷◌, ◌++◌, length, refl, sym, ap, subst, ◌∙◌, arith, append_assoc}
+use Rattle.std.specs.Prelude.{Result, Ok, Err, IfErr}
+use Rattle.std.specs.List.{All}
+use Rattle.gpu_fetch.specs.Fetched.{FetchedData, IsFetched}
+use Rattle.sync_core.specs.Standing.{is_open}
+use Rattle.gpu_journal.specs.Waits.{standing_of}
+use Rattle.gpu_house.specs.declared.answers.Next.TheVariants.{More}
+use Rattle.gpu_house.specs.Batches.{member_words, batch_words, AreChained, EndsExactly}
+use Rattle.gpu_house.specs.Committing.{Stage, AreDone, Commits, GoneInPart}
+use Rattle.gpu_house.proofs.Committed.{Kept, Took, Stands, stands_first, are_next, goes_on, commits, ready, kept_at, in_part, all_gone}
+use Rattle.gpu_house.proofs.house.House.step_batch.Goals as goal
+
+-- nothing else than an error is told of one
+given_err : {T E P : Type 0} (r : Result T E) → P → IfErr r (λ _. P)
+given_err (Ok t) p = tt
+given_err (Err e) p = p
+
+none_of : {X : Type 0} (xs : List X) → length xs ≡ 0 → xs ≡ []
+none_of [] none = refl
+none_of (x ∷ xs) none = absurd (omega (arith, none))
+
+pub loop-member-init : goal.loop-member-init
+loop-member-init g c =
+    let S = g.P.ServiceSide in
+    let p = g.N.Naming.plans in
+    let x : Stage g.row.P.Denot g.row.P-Note.Denot g.row.P-Results.Denot = record { house = c.args.self.now; out = c.args.run.now; drawn = c.args.drawn.now.items } in
+    let rest = c.into_iter-member-iterator.result.rest.items in
+    let is : c.args.batch ≡ rest = cc in
+    let open' : is_open (standing_of p x.house.core.past x.out.run.stream) ≡ true = subst (λ (t : ℕ). is_open (standing_of p x.house.core.past t) ≡ true) c.stream.ensures c.in_default.ensures.none in
+    let low : x.out.run.facts.fetched ≤ length (S.side x.out.side).fetched = c.holds.ensures.list in
+    record {
+      stands = stands_first S.side S.mark S.belongs S.note_belongs S.results_belong p c.args.words.now x rest open' c.requires.going (subst (AreChained x.out.run.facts) is c.requires.chained)
+          (subst (All IsFetched) is c.into_members-member-items.ensures.copies) (subst EndsExactly is c.into_members-member-items.ensures.end) (c.requires.list ∙ ap batch_words is) low c.requires.belongs c.requires.note c.requires.results;
+      all = is;
+    }
+
+pub step_member-requires-clause-list : goal.step_member-requires-clause-list
+step_member-requires-clause-list g c =
+    let S = g.P.ServiceSide in
+    let p = g.N.Naming.plans in
+    let old : Stage g.row.P.Denot g.row.P-Note.Denot g.row.P-Results.Denot = record { house = c.args.self.now; out = c.args.run.now; drawn = c.args.drawn.now.items } in
+    let now : Stage g.row.P.Denot g.row.P-Note.Denot g.row.P-Results.Denot = record { house = c.loop-member.self; out = c.loop-member.run; drawn = c.loop-member.drawn.items } in
+    let m = c.in-Some-member.member in
+    let rest = c.next.new.self.rest.items in
+    let left : c.loop-member.member-iterator.rest.items ≡ m ∷ rest = c.in-Some-member.ensures.steps.0 in
+    let st : Stands S.side S.mark S.belongs S.note_belongs S.results_belong p c.args.words.now old now c.loop-member.yielded (m ∷ rest) = subst (Stands S.side S.mark S.belongs S.note_belongs S.results_belong p c.args.words.now old now c.loop-member.yielded) left c.loop-member.invariant.stands in
+    are_next S.side S.mark S.belongs S.note_belongs S.results_belong p c.args.words.now old now c.loop-member.yielded m rest st
+
+pub returns-in_err-next-clause-err : goal.returns-in_err-next-clause-err
+returns-in_err-next-clause-err g c =
+    let S = g.P.ServiceSide in
+    let p = g.N.Naming.plans in
+    let old : Stage g.row.P.Denot g.row.P-Note.Denot g.row.P-Results.Denot = record { house = c.args.self.now; out = c.args.run.now; drawn = c.args.drawn.now.items } in
+    let now : Stage g.row.P.Denot g.row.P-Note.Denot g.row.P-Results.Denot = record { house = c.loop-member.self; out = c.loop-member.run; drawn = c.loop-member.drawn.items } in
+    let new : Stage g.row.P.Denot g.row.P-Note.Denot g.row.P-Results.Denot = record { house = c.step_member.new.self; out = c.step_member.new.run; drawn = c.step_member.new.drawn.items } in
+    let m = c.in-Some-member.member in
+    let rest = c.next.new.self.rest.items in
+    let left : c.loop-member.member-iterator.rest.items ≡ m ∷ rest = c.in-Some-member.ensures.steps.0 in
+    let st : Stands S.side S.mark S.belongs S.note_belongs S.results_belong p c.args.words.now old now c.loop-member.yielded (m ∷ rest) = subst (Stands S.side S.mark S.belongs S.note_belongs S.results_belong p c.args.words.now old now c.loop-member.yielded) left c.loop-member.invariant.stands in
+    let all : c.args.batch ≡ c.loop-member.yielded ++ m ∷ rest = c.loop-member.invariant.all ∙ ap (λ (l : List FetchedData). c.loop-member.yielded ++ l) left in
+    let part : GoneInPart S.side S.mark p old new (member_words (c.loop-member.yielded ++ m ∷ rest)) = in_part S.side S.mark S.belongs S.note_belongs S.results_belong p c.args.words.now old now c.loop-member.yielded m rest st new
+    record { house = c.in_err-next.ensures.err; out = c.in_err-next.ensures.same; drawn = c.in_err-next.ensures.untold } in
+    given_err _ (subst (λ (l : List FetchedData). GoneInPart S.side S.mark p old new (member_words l)) (sym all) part)
+
+pub loop-member-preserved : goal.loop-member-preserved
+loop-member-preserved g c =
+    let S = g.P.ServiceSide in
+    let p = g.N.Naming.plans in
+    let old : Stage g.row.P.Denot g.row.P-Note.Denot g.row.P-Results.Denot = record { house = c.args.self.now; out = c.args.run.now; drawn = c.args.drawn.now.items } in
+    let now : Stage g.row.P.Denot g.row.P-Note.Denot g.row.P-Results.Denot = record { house = c.loop-member.self; out = c.loop-member.run; drawn = c.loop-member.drawn.items } in
+    let new : Stage g.row.P.Denot g.row.P-Note.Denot g.row.P-Results.Denot = record { house = c.step_member.new.self; out = c.step_member.new.run; drawn = c.step_member.new.drawn.items } in
+    let m = c.in-Some-member.member in
+    let rest = c.next.new.self.rest.items in
+    let left : c.loop-member.member-iterator.rest.items ≡ m ∷ rest = c.in-Some-member.ensures.steps.0 in
+    let st : Stands S.side S.mark S.belongs S.note_belongs S.results_belong p c.args.words.now old now c.loop-member.yielded (m ∷ rest) = subst (Stands S.side S.mark S.belongs S.note_belongs S.results_belong p c.args.words.now old now c.loop-member.yielded) left c.loop-member.invariant.stands in
+    let e = c.in_ok-next.ensures in
+    let kept : Kept S.side S.mark S.belongs S.note_belongs S.results_belong p c.args.words.now now new = record { slots = e.slots; wrote = e.results; still = e.still; list = e.list; draws = e.draws } in
+    let took : Took S.side S.mark S.belongs S.note_belongs S.results_belong p c.args.words.now now new m c.in_ok-next.next = record { steps = e.steps; end = e.end; drawn = e.drawn; kept = kept } in
+    record {
+      stands = goes_on S.side S.mark S.belongs S.note_belongs S.results_belong p c.args.words.now old now c.loop-member.yielded m rest st new c.in_ok-next.next took c.in-More.is;
+      all = c.loop-member.invariant.all ∙ ap (λ (l : List FetchedData). c.loop-member.yielded ++ l) left ∙ sym (append_assoc c.loop-member.yielded (m ∷ []) rest);
+    }
+
+pub returns-in_default-2 : goal.returns-in_default-2
+returns-in_default-2 g c =
+    let S = g.P.ServiceSide in
+    let p = g.N.Naming.plans in
+    let old : Stage g.row.P.Denot g.row.P-Note.Denot g.row.P-Results.Denot = record { house = c.args.self.now; out = c.args.run.now; drawn = c.args.drawn.now.items } in
+    let now : Stage g.row.P.Denot g.row.P-Note.Denot g.row.P-Results.Denot = record { house = c.loop-member.self; out = c.loop-member.run; drawn = c.loop-member.drawn.items } in
+    let new : Stage g.row.P.Denot g.row.P-Note.Denot g.row.P-Results.Denot = record { house = c.step_member.new.self; out = c.step_member.new.run; drawn = c.step_member.new.drawn.items } in
+    let m = c.in-Some-member.member in
+    let rest = c.next.new.self.rest.items in
+    let left : c.loop-member.member-iterator.rest.items ≡ m ∷ rest = c.in-Some-member.ensures.steps.0 in
+    let st : Stands S.side S.mark S.belongs S.note_belongs S.results_belong p c.args.words.now old now c.loop-member.yielded (m ∷ rest) = subst (Stands S.side S.mark S.belongs S.note_belongs S.results_belong p c.args.words.now old now c.loop-member.yielded) left c.loop-member.invariant.stands in
+    let all : c.args.batch ≡ c.loop-member.yielded ++ m ∷ rest = c.loop-member.invariant.all ∙ ap (λ (l : List FetchedData). c.loop-member.yielded ++ l) left in
+    let e = c.in_ok-next.ensures in
+    let kept : Kept S.side S.mark S.belongs S.note_belongs S.results_belong p c.args.words.now now new = record { slots = e.slots; wrote = e.results; still = e.still; list = e.list; draws = e.draws } in
+    let took : Took S.side S.mark S.belongs S.note_belongs S.results_belong p c.args.words.now now new m c.in_ok-next.next = record { steps = e.steps; end = e.end; drawn = e.drawn; kept = kept } in
+    let stops : c.in_ok-next.next ≢ More = c.in_default-2.not-More in
+    let whole : Kept S.side S.mark S.belongs S.note_belongs S.results_belong p c.args.words.now old new = kept_at S.side S.mark S.belongs S.note_belongs S.results_belong p c.args.words.now old now c.loop-member.yielded m rest st new c.in_ok-next.next took in
+    record {
+      commits = subst (λ (l : List FetchedData). Commits S.side S.mark p old new (member_words l) c.in_ok-next.next) (sym all) (commits S.side S.mark S.belongs S.note_belongs S.results_belong p c.args.words.now old now c.loop-member.yielded m rest st new c.in_ok-next.next took stops);
+      end = e.end;
+      ready = ready S.side S.mark S.belongs S.note_belongs S.results_belong p c.args.words.now old now c.loop-member.yielded m rest st new c.in_ok-next.next took stops;
+      draws = whole.draws;
+      slots = whole.slots;
+      results = whole.wrote;
+      still = whole.still;
+      list = whole.list;
+      err = tt;
+    }
+
+pub returns-clause-commits : goal.returns-clause-commits
+returns-clause-commits g c =
+    let S = g.P.ServiceSide in
+    let p = g.N.Naming.plans in
+    let old : Stage g.row.P.Denot g.row.P-Note.Denot g.row.P-Results.Denot = record { house = c.args.self.now; out = c.args.run.now; drawn = c.args.drawn.now.items } in
+    let now : Stage g.row.P.Denot g.row.P-Note.Denot g.row.P-Results.Denot = record { house = c.loop-member.self; out = c.loop-member.run; drawn = c.loop-member.drawn.items } in
+    let rest = c.loop-member.member-iterator.rest.items in
+    let none : rest ≡ [] = none_of rest (omega (arith, c.in-None.ensures.steps.0)) in
+    let some : 0 < length (c.loop-member.yielded ++ rest) = subst (λ (l : List FetchedData). 0 < length l) c.loop-member.invariant.all c.into_members-member-items.ensures.end.some in
+    subst (λ (l : List FetchedData). AreDone S.side S.mark p old now (member_words l) false) (sym c.loop-member.invariant.all)
+    (all_gone S.side S.mark S.belongs S.note_belongs S.results_belong p c.args.words.now old now c.loop-member.yielded rest c.loop-member.invariant.stands none some)

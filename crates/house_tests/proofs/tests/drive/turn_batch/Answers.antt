@@ -1,0 +1,71 @@
+use Rattle.std.proofs.Common.{sym, ap, subst, ◌∙◌}
+use Rattle.sync_core.specs.Standing.{is_open}
+use Rattle.gpu_journal.specs.Waits.{standing_of}
+use Rattle.gpu_house.specs.Changes.{ResultsBelong}
+use Rattle.gpu_house.specs.Batches.{member_words, batch_words}
+use Rattle.house_tests.specs.Alone.{ordered}
+use Rattle.house_tests.proofs.Belonging.{back_home}
+use Rattle.house_tests.proofs.Turning.{fetched, finish_orders, goes_further}
+use Rattle.house_tests.proofs.Batching.{HasCommitted, committed, lose_orders}
+use Rattle.house_tests.proofs.tests.drive.turn_batch.Given.{Over}
+use Rattle.house_tests.proofs.tests.drive.turn_batch.Goals as goal
+
+pub returns-then-at_end-clause-ordered : goal.returns-then-at_end-clause-ordered
+returns-then-at_end-clause-ordered g c =
+    let p = g.N.Naming.plans in
+    let run = c.args.run.run in
+    let past = c.args.house.now.core.past in
+    finish_orders p past c.finish.new.self.core.past run.stream run.order (is_open (standing_of p past run.stream)) c.requires.stream c.finish.ensures.event c.finish.ensures.over
+
+-- a run that goes on
+has-More : (g : Over) (c : goal.In-More g) → HasCommitted g.P.ServiceSide.belongs g.P.ServiceSide.note_belongs g.P.ServiceSide.results_belong g.P.ServiceSide.side c.args.words.now g.N.Naming.plans c.args.house.now c.step_batch.new.self c.step_batch.new.run (goes_further c.in_ok-next.next)
+has-More g c =
+    let S = g.P.ServiceSide in
+    let e = c.in_ok-batch.ensures in
+    let t = c.in_ok-next.ensures in
+    let batch = c.in_ok-batch.batch in
+    let has = fetched S.belongs S.note_belongs S.results_belong S.side c.args.words.now c.args.house.now c.args.run c.fetch_batch.new.self (batch_words batch) c.requires e.run e.met e.grows e.belongs e.notes in
+    committed S.belongs S.note_belongs S.results_belong S.side c.args.words.now g.N.Naming.plans record { house = c.args.house.now; out = c.fetch_batch.new.self; drawn = c.args.drawn.now.items } record { house = c.step_batch.new.self; out = c.step_batch.new.run; drawn = c.step_batch.new.drawn.items } (member_words batch)
+    has.stream has.met has.all t.slots t.results t.still S.mark c.in_ok-next.next t.commits t.ready
+
+pub returns-in-More-clause-left : goal.returns-in-More-clause-left
+returns-in-More-clause-left g c = (has-More g c).on (ap goes_further c.in-More.is)
+
+pub returns-in-More-clause-ordered : goal.returns-in-More-clause-ordered
+returns-in-More-clause-ordered g c = (has-More g c).same
+
+has-FlushEnd : (g : Over) (c : goal.In-FlushEnd g) → HasCommitted g.P.ServiceSide.belongs g.P.ServiceSide.note_belongs g.P.ServiceSide.results_belong g.P.ServiceSide.side c.args.words.now g.N.Naming.plans c.args.house.now c.step_batch.new.self c.step_batch.new.run (goes_further c.in_ok-next.next)
+has-FlushEnd g c =
+    let S = g.P.ServiceSide in
+    let e = c.in_ok-batch.ensures in
+    let t = c.in_ok-next.ensures in
+    let batch = c.in_ok-batch.batch in
+    let has = fetched S.belongs S.note_belongs S.results_belong S.side c.args.words.now c.args.house.now c.args.run c.fetch_batch.new.self (batch_words batch) c.requires e.run e.met e.grows e.belongs e.notes in
+    committed S.belongs S.note_belongs S.results_belong S.side c.args.words.now g.N.Naming.plans record { house = c.args.house.now; out = c.fetch_batch.new.self; drawn = c.args.drawn.now.items } record { house = c.step_batch.new.self; out = c.step_batch.new.run; drawn = c.step_batch.new.drawn.items } (member_words batch)
+    has.stream has.met has.all t.slots t.results t.still S.mark c.in_ok-next.next t.commits t.ready
+
+pub returns-in-FlushEnd-clause-left : goal.returns-in-FlushEnd-clause-left
+returns-in-FlushEnd-clause-left g c = (has-FlushEnd g c).on (ap goes_further c.in-FlushEnd.is)
+
+pub returns-in-FlushEnd-clause-ordered : goal.returns-in-FlushEnd-clause-ordered
+returns-in-FlushEnd-clause-ordered g c = (has-FlushEnd g c).same
+
+-- a run that goes no further is lost, or comes home where its stream is over
+pub returns-in_default : goal.returns-in_default
+returns-in_default g c =
+    let S = g.P.ServiceSide in
+    let p = g.N.Naming.plans in
+    let e = c.in_ok-batch.ensures in
+    let t = c.in_ok-next.ensures in
+    let batch = c.in_ok-batch.batch in
+    let has = fetched S.belongs S.note_belongs S.results_belong S.side c.args.words.now c.args.house.now c.args.run c.fetch_batch.new.self (batch_words batch) c.requires e.run e.met e.grows e.belongs e.notes in
+    let left = committed S.belongs S.note_belongs S.results_belong S.side c.args.words.now p record { house = c.args.house.now; out = c.fetch_batch.new.self; drawn = c.args.drawn.now.items } record { house = c.step_batch.new.self; out = c.step_batch.new.run; drawn = c.step_batch.new.drawn.items } (member_words batch)
+    has.stream has.met has.all t.slots t.results t.still S.mark c.in_ok-next.next t.commits t.ready in
+    let b = c.lose.ensures in
+    let run = c.step_batch.new.run in
+    let past = c.step_batch.new.self.core.past in
+    record {
+      left = back_home S.belongs S.note_belongs S.results_belong c.args.words.now c.step_batch.new.self c.lose.new.self run.run.stream run.side run.note left.stream left.all
+          (subst (λ l. ResultsBelong S.results_belong c.args.words.now l 1) (sym b.results) left.results) b.slots;
+      ordered = lose_orders p past c.lose.new.self.core.past run.run.stream (is_open (standing_of p past run.run.stream)) left.stream b.event b.over ∙ left.same;
+    }
