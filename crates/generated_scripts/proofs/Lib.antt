@@ -8,7 +8,6 @@ mod Rounds
 mod Streams
 pub mod Script
 pub mod Lengths
-pub mod Sums
 pub mod Texts
 pub mod Losses
 mod Applied

@@ -1,7 +1,8 @@
 -- The line of a trial.
-use Rattle.std.specs.Prelude.{ℕ, ◌%◌, ◌^◌, Bool, true, false, List, ◌++◌, codes, length}
-use Rattle.std.specs.List.{count_by, sum, sum_by}
+use Rattle.std.specs.Prelude.{ℕ, Bool, true, false, List, ◌++◌, codes, length}
+use Rattle.std.specs.List.{count_by}
 use Rattle.gpu_store.specs.Images.{Pictures}
+use Rattle.image_sums.specs.Sums.{texel_sum}
 use Rattle.gpu_plan.specs.Plans.{PlansData}
 use Rattle.sync_core.specs.declared.ending.Ending.{Ending}
 use Rattle.gpu_journal.specs.declared.event.Event.{Event}
@@ -21,10 +22,6 @@ is_loss (Close s) = false
 -- how many losses a history has: as many as it has lost streams, where it is legal
 abbrev pub losses : List Event → ℕ
 losses h = count_by is_loss h
-
--- the sum of all texels of all images, modulo 2^32
-unfoldable pub texel_sum : Pictures → ℕ
-texel_sum images = sum_by (λ entry. sum entry.1.texels) images % 2 ^ 32
 
 -- a number behind what it counts
 abbrev pub counted : List ℕ → ℕ → List ℕ

@@ -1,0 +1,4 @@
+mod crossing;
+mod fixture;
+mod sharing;
+mod single;
