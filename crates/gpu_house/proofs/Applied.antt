@@ -1,5 +1,5 @@
 -- The law of a house, on which no proof rests, applied once: if it said less, this could not be shown.
-use Rattle.std.proofs.Common.{◌≡◌, ℕ, Bool, true, List, Some, None, refl}
+use Rattle.std.proofs.Common.{◌≡◌, ℕ, true, List, Some, None, refl}
 use Rattle.gpu_plan.specs.Plans.{PlansData}
 use Rattle.gpu_journal.specs.declared.event.Event.{Event}
 use Rattle.gpu_journal.specs.Legal.{IsLegal}

@@ -1,7 +1,5 @@
 -- What a step tells of the images is what the journal's replay makes of it.
-use Rattle.std.proofs.Common.{◌≡◌, ℕ, Bool, true, false, List, ◌∷◌, Option, Some, None, Result, Ok, Err, refl, sym, ap, subst, ◌∙◌}
-use Rattle.std.specs.Prelude.{IfSome}
-use Rattle.gpu_cmd.specs.declared.error.CmdError.{CmdError}
+use Rattle.std.proofs.Common.{◌≡◌, ℕ, Bool, true, false, List, ◌∷◌, Option, None, Result, Ok, Err, refl, sym, ap, subst, ◌∙◌}
 use Rattle.gpu_store.specs.declared.op.Op.{Op}
 use Rattle.gpu_store.specs.declared.op.Answer.{Answer}
 use Rattle.gpu_store.specs.declared.op.Answer.TheVariants.{Done, InvalidValue, InvalidOperation, OutOfTexels}
@@ -13,7 +11,7 @@ use Rattle.stream_state.specs.Accepted.{BringsItsTexels}
 use Rattle.gpu_journal.specs.declared.event.Event.{Event}
 use Rattle.gpu_journal.specs.declared.event.Event.TheVariants.{Step, Lost}
 use Rattle.gpu_journal.specs.declared.event.Why.{Why}
-use Rattle.gpu_journal.specs.World.{world, replay, asked_by, drawn_by}
+use Rattle.gpu_journal.specs.World.{replay, drawn_by}
 use Rattle.gpu_journal.proofs.Worlds.{images_then}
 use Rattle.run_laws.proofs.Knowns.{step_images}
 use Rattle.step_parts.specs.declared.acted.Acted.{Acted}

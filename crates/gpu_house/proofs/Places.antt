@@ -1,8 +1,9 @@
 -- What stands at one place of a row.
 use Rattle.std.proofs.Common.{◌≡◌, ◌≢◌, ℕ, zero, suc, ◌<◌, Option, Some, None, List, [], ◌∷◌, length, get_or, set, refl, sym, ap, subst, ◌∙◌, arith, length-set}
 use Rattle.std.specs.Prelude.{IfSome, slice_get}
+use Rattle.std.specs.Option.{IsSomeAnd}
 use Rattle.std.proofs.lemmas.List.{get_or-set_same, set-get_or}
-use Rattle.std.proofs.lemmas.Option.{slice_get-get_or, get_or_from_slice_get}
+use Rattle.std.proofs.lemmas.Option.{slice_get-get_or}
 
 module _ {X : Type 0} where
   pub slice_get-set_same : (xs : List X) (i : ℕ) (x : X) → i < length xs → slice_get (set xs i x) i ≡ Some x
@@ -16,8 +17,8 @@ module _ {X : Type 0} where
   slice_get-set_other (y ∷ xs) (suc i) (suc j) x apart = slice_get-set_other xs i j x (λ same. apart (omega (arith, same)))
 
   -- what holds of the new value holds of what stands at its place
-  pub set_has : (P : X → Type 0) (xs : List X) (i : ℕ) (x : X) → i < length xs → P x → IfSome (slice_get (set xs i x) i) P
-  set_has P xs i x lt here = subst (λ o. IfSome o P) (sym (slice_get-set_same xs i x lt)) here
+  pub set_has : (P : X → Type 0) (xs : List X) (i : ℕ) (x : X) → i < length xs → P x → IsSomeAnd (slice_get (set xs i x) i) P
+  set_has P xs i x lt here = subst (λ o. IsSomeAnd o P) (sym (slice_get-set_same xs i x lt)) here
 
   -- what holds of what stands at a place holds of what was read there
   pub read_has : (P : X → Type 0) (xs : List X) (i : ℕ) (x : X) → i < length xs → x ≡ get_or xs i x → IfSome (slice_get xs i) P → P x
@@ -27,10 +28,13 @@ module _ {X : Type 0} where
   pub set_back : (xs : List X) (i : ℕ) (x : X) → x ≡ get_or xs i x → set xs i x ≡ xs
   set_back xs i x read = ap (set xs i) read ∙ set-get_or xs i x
 
-  -- what holds of each that may be read at a place holds of what stands there
-  pub each_has : (P : X → Type 0) (xs : List X) (i : ℕ) → ((d : X) → P (get_or xs i d)) → IfSome (slice_get xs i) P
-  each_has P xs i each = by (slice_get xs i) refl
-    where
-      by : (found : Option X) → slice_get xs i ≡ found → IfSome found P
-      by None e = tt
-      by (Some x) e = subst P (get_or_from_slice_get xs i x x e) (each x)
+  -- what holds of each that may be read at a place of the row holds of what stands there
+  pub each_has : (P : X → Type 0) (xs : List X) (i : ℕ) → i < length xs → ((d : X) → P (get_or xs i d)) → IsSomeAnd (slice_get xs i) P
+  each_has P [] i lt each = absurd (omega (arith, lt))
+  each_has P (x ∷ xs) zero lt each = each x
+  each_has P (x ∷ xs) (suc i) lt each = each_has P xs i (omega (arith, lt)) each
+
+  -- what holds of a value that is there holds of one where there is one
+  pub if_there : (P : X → Type 0) (found : Option X) → IsSomeAnd found P → IfSome found P
+  if_there P None has = tt
+  if_there P (Some x) has = has

@@ -15,7 +15,7 @@ use Rattle.serial_laws.proofs.Others.{self}
 use Rattle.gpu_house.specs.House.{ResultsFit}
 use Rattle.gpu_house.specs.Changes.{ResultsBelong, WroteResults}
 use Rattle.gpu_house.proofs.Rows.{each_set}
-use Rattle.gpu_house.proofs.Places.{set_has, read_has, slice_get-set_other}
+use Rattle.gpu_house.proofs.Places.{set_has, if_there, read_has, slice_get-set_other}
 
 -- ---- what is written
 
@@ -110,7 +110,7 @@ module _ {Results Words : Type 0} (results_belong : Words → Results → Type 0
   pub wrote : (words : Words) (old rows : List Results) (s t : ℕ) (now : Results) → rows ≡ old → t ≡ s → IsKnown (length rows) t → results_belong words now → WroteResults results_belong words old (slice_set rows (t - 1) now) s
   wrote words old rows s t now same at known belongs =
       subst (WroteResults results_belong words old (slice_set rows (t - 1) now)) at record {
-        belong = set_has (results_belong words) rows (t - 1) now (let some = known.0 in let within = known.1 in omega arith) belongs;
+        belong = if_there (results_belong words) (slice_get (slice_set rows (t - 1) now) (t - 1)) (set_has (results_belong words) rows (t - 1) now (let some = known.0 in let within = known.1 in omega arith) belongs);
         others = λ i apart. slice_get-set_other rows (t - 1) i now apart ∙ ap (λ (l : List Results). slice_get l i) same;
       }
 

@@ -1,5 +1,5 @@
 -- What the waits of a house are known to be.
-use Rattle.std.specs.Prelude.{ℕ, ◌<◌, List, length, All, Contains}
+use Rattle.std.specs.Prelude.{◌<◌, List, length, All, Contains}
 use Rattle.sync_core.specs.declared.wait.Wait.{Wait}
 use Rattle.sync_core.specs.Laws.{Rank, IsPath}
 use Rattle.gpu_plan.specs.Plans.{PlansData}

@@ -1,6 +1,7 @@
 //! The ends of streams, and of the house.
 ghost use Rattle.std.specs.Prelude.{◌≡◌, ◌↔◌, ◌-◌, [], length, true, false, slice_get, IfSome};
 ghost use Rattle.gpu_plan.specs.Plans.{plan_of, is_closed};
+ghost use Rattle.std.specs.Option.{IsSomeAnd};
 ghost use Rattle.sync_core.specs.Standing.{IsKnown, is_open};
 ghost use Rattle.gpu_journal.specs.declared.event.Event.TheVariants.{Lost, Close};
 ghost use Rattle.gpu_journal.specs.declared.event.Why.TheVariants.{Memory};
@@ -58,9 +59,9 @@ impl<N: Naming, P: ServiceSide, H: Hook> House<N, P, H> {
         requires known { IsKnown (length N.plans.plans) stream }
         requires results { ResultsBelong P.results_belong words.now self.old.results stream }
         requires reader { P.reader_belongs words.now reader }
-        ensures settled { IfSome (slice_get self.new.results (stream - 1))
+        ensures settled { IsSomeAnd (slice_get self.new.results (stream - 1))
             (λ own. IfSome (P.written own) (λ list. Settles list (P.reads reader))) }
-        ensures told { IfSome (slice_get self.new.results (stream - 1))
+        ensures told { IsSomeAnd (slice_get self.new.results (stream - 1))
             (λ own. IfSome (P.written own) (λ list. list ≡ written N.plans self.old.core.past stream)) }
         ensures core { self.new.core ≡ self.old.core }
         ensures slots { self.new.slots ≡ self.old.slots }

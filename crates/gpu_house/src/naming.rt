@@ -5,6 +5,7 @@ use std::marker::Brand;
 pub trait Naming {
     ghost use Rattle.std.specs.Prelude.{ℕ, List};
     ghost use Rattle.atomic_table.specs.Seated.{TableId};
+    ghost use Rattle.logbook.specs.Pages.{Book};
     ghost use Rattle.gpu_plan.specs.Plans.{PlansData};
 
     // The plans of the streams.
@@ -24,11 +25,14 @@ pub trait Naming {
 
     // Of each stream, in order, the table of result words that it shares with its client.
     ghost result_words: { List TableId };
+
+    // The view in which the images are shown while the run goes on.
+    ghost view: { Book };
 }
 
 impl Naming for Brand {
     ghost use Rattle.std.specs.Prelude.{[]};
-    ghost use Rattle.gpu_house.specs.Names.{no_plans};
+    ghost use Rattle.gpu_house.specs.Names.{no_plans, no_view};
 
     ghost plans = { no_plans };
 
@@ -41,4 +45,6 @@ impl Naming for Brand {
     ghost queues = { [] };
 
     ghost result_words = { [] };
+
+    ghost view = { no_view };
 }

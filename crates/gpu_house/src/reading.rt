@@ -1,5 +1,6 @@
 //! What is known of streams and of waits.
-ghost use Rattle.std.specs.Prelude.{◌≡◌, ℕ, ◌-◌, length, slice_get, IfSome};
+ghost use Rattle.std.specs.Prelude.{◌≡◌, ℕ, ◌-◌, length, slice_get};
+ghost use Rattle.std.specs.Option.{IsSomeAnd};
 ghost use Rattle.sync_core.specs.Standing.{IsKnown, is_open};
 ghost use Rattle.gpu_journal.specs.Waits.{standing_of};
 ghost use Rattle.gpu_house.specs.Names.{table_at};
@@ -28,14 +29,14 @@ impl<N: Naming, P: ServiceSide, H: Hook> House<N, P, H> {
     }
 
     /// What the type of a house keeps, for a house that comes out of a lock: each pending wait names another stream, which is neither
-    /// lost nor closed and has a lower unprocessed number, and no waits form a cycle; and the results of each stream are of its
+    /// lost nor closed and has a lower unprocessed number, and no waits form a cycle; and there are results of each stream, of its
     /// result words. It changes nothing.
     #[tactic(auto, using(sync_core::proofs::Targets::waits_go_down, sync_core::proofs::Targets::no_cycle))]
     pub fn holds(&self)
         ensures targets { HaveTargets N.plans self.now.core.past }
         ensures no_cycle { FormNoCycle N.plans self.now.core.past }
         ensures results { (stream : ℕ) → IsKnown (length N.plans.plans) stream
-            → IfSome (slice_get self.now.results (stream - 1)) (λ own. P.results_of own (table_at N.result_words stream)) }
+            → IsSomeAnd (slice_get self.now.results (stream - 1)) (λ own. P.results_of own (table_at N.result_words stream)) }
     {
         let _ = &self.core;
     }

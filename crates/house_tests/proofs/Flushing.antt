@@ -8,11 +8,17 @@ use Rattle.gpu_plan.specs.Plans.{PlansData, PlanData, plan_of}
 use Rattle.gpu_plan.specs.Passes.{flush_count, flushes}
 use Rattle.gpu_plan.specs.Places.{flush_places, mark_of}
 use Rattle.gpu_plan.proofs.Passing.{flushes_one_further}
-use Rattle.gpu_fetch.specs.Plain.{IsNext, IsFlush}
+use Rattle.gpu_fetch.specs.Plain.{IsNext, IsPut, IsFlush}
 use Rattle.gpu_fetch.specs.Stirred.{ComesToFlush, puts_ahead}
 use Rattle.serial_laws.proofs.Flushes.{flush_there, flushes_all, place_below, below_place}
 
 -- ---- a flush that is next
+
+pub next_flush : (xs : List Action) (k : ℕ) (a : Action) (put : ℕ) (fences : List (ℕ × ℕ)) → slice_get xs k ≡ Some a → a ≡ Flush put fences → IsNext IsFlush xs k
+next_flush xs k a put fences got is = subst (λ (o : Option Action). IsSomeAnd o IsFlush) (sym got) (subst IsFlush (sym is) tt)
+
+pub next_put : (xs : List Action) (k : ℕ) (a : Action) (place value : ℕ) → slice_get xs k ≡ Some a → a ≡ Put place value → IsNext IsPut xs k
+next_put xs k a place value got is = subst (λ (o : Option Action). IsSomeAnd o IsPut) (sym got) (subst IsPut (sym is) tt)
 
 one_flush : (a : Action) → IsFlush a → flush_count a ≡ 1
 one_flush (Put place value) is = absurd is
@@ -28,6 +34,21 @@ flush_counts xs k next = by (slice_get xs k) refl next
     by : (o : Option Action) → slice_get xs k ≡ o → IsSomeAnd o IsFlush → flushes (take (k + 1) xs) ≡ flushes (take k xs) + 1
     by None e is = absurd is
     by (Some a) e is = let step = flushes_one_further xs k a e in let counted = one_flush a is in omega (arith, step, counted)
+
+-- a put is none
+pub put_counts : (xs : List Action) (k : ℕ) → IsNext IsPut xs k → flushes (take (k + 1) xs) ≡ flushes (take k xs)
+put_counts xs k next = by (slice_get xs k) refl next
+  where
+    counted : (a : Action) → IsPut a → flush_count a ≡ 0
+    counted (Put place value) is = refl
+    counted (Flush put fences) is = absurd is
+    counted Finish is = absurd is
+    counted (Token token) is = absurd is
+    counted Close is = absurd is
+
+    by : (o : Option Action) → slice_get xs k ≡ o → IsSomeAnd o IsPut → flushes (take (k + 1) xs) ≡ flushes (take k xs)
+    by None e is = absurd is
+    by (Some a) e is = let step = flushes_one_further xs k a e in let none = counted a is in omega (arith, step, none)
 
 -- its number is that of the flushes before it
 flush_stands : (xs : List Action) (k : ℕ) → IsNext IsFlush xs k → slice_get (flush_places xs) (flushes (take k xs)) ≡ Some k

@@ -1,5 +1,6 @@
 use super::drive::Pace;
 use super::output::output_of;
+use super::plain_words::plain;
 use super::racing_words::raced;
 use super::stirred_words::stirred;
 use std::alloc::Global;
@@ -63,9 +64,22 @@ fn is_raced_in(alloc: Global, script: &str, sizes: &[usize], draws: usize) -> Re
     Ok(same && were_taken(&pace, sizes, draws))
 }
 
-// The same over both.
+// The same over plain words.
+fn is_plain_in(alloc: Global, script: &str, sizes: &[usize], draws: usize) -> Result<bool, Fail> {
+    let one_by_one = plain(alloc, script, &mut Pace::Single)?;
+    let mut pace = Pace::batched(alloc);
+    let batched = plain(alloc, script, &mut pace)?;
+    let same = output_of(alloc, &one_by_one)?.as_slice() == output_of(alloc, &batched)?.as_slice();
+    Ok(same && were_taken(&pace, sizes, draws))
+}
+
+// The same over all three.
 fn is_taken_in(alloc: Global, script: &str, sizes: &[usize], draws: usize) -> Result<bool, Fail> {
-    Ok(is_stirred_in(alloc, script, sizes, draws)? && is_raced_in(alloc, script, sizes, draws)?)
+    Ok(
+        is_plain_in(alloc, script, sizes, draws)?
+            && is_stirred_in(alloc, script, sizes, draws)?
+            && is_raced_in(alloc, script, sizes, draws)?,
+    )
 }
 
 #[test]

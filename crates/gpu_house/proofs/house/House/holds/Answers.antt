@@ -1,5 +1,6 @@
 use Rattle.std.proofs.Common.{◌≡◌, ℕ, suc, ◌-◌, ◌<◌, length, subst, arith}
-use Rattle.std.specs.Prelude.{slice_get, slice_index_or, IfSome}
+use Rattle.std.specs.Prelude.{slice_get, slice_index_or}
+use Rattle.std.specs.Option.{IsSomeAnd}
 use Rattle.gpu_house.specs.Names.{table_at}
 use Rattle.gpu_house.specs.House.{HouseData}
 use Rattle.gpu_house.proofs.Places.{each_has}
@@ -16,6 +17,6 @@ returns-clause-results g c stream known =
     let count = was.result_count in
     let within : stream - 1 < length results = omega (arith, low, high, count) in
     let at : suc (stream - 1) ≡ stream = omega (arith, low) in
-    subst (λ (h : HouseData g.row.P.Denot g.row.P-Note.Denot g.row.P-Results.Denot). IfSome (slice_get h.results (stream - 1)) (λ own. S.results_of own (tables stream))) c.self.view_is
-    (each_has (λ own. S.results_of own (tables stream)) results (stream - 1)
+    subst (λ (h : HouseData g.row.P.Denot g.row.P-Note.Denot g.row.P-Results.Denot). IsSomeAnd (slice_get h.results (stream - 1)) (λ own. S.results_of own (tables stream))) c.self.view_is
+    (each_has (λ own. S.results_of own (tables stream)) results (stream - 1) within
     (λ other. subst (λ (s : ℕ). S.results_of (slice_index_or results (stream - 1) other) (tables s)) at (was.results (stream - 1) other within).shared))
