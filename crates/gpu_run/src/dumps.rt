@@ -1,4 +1,4 @@
-ghost use Rattle.std.specs.Prelude.{◌≡◌, [], ◌∷◌, ◌++◌, IfOk, OnOk};
+ghost use Rattle.std.specs.Prelude.{◌≡◌, [], ◌∷◌, ◌++◌, IfOk, OnOk, OnErr};
 
 use gpu_word::Memory;
 use std::alloc::Global;
@@ -19,8 +19,12 @@ impl Model for Dumps {
 }
 
 impl Dumps {
-    // No dump, with room for so many.
-    pub(crate) fn make(alloc: Global, room: usize) -> Result<Dumps, Memory>
+    /// No dump, with room for so many.
+    ///
+    /// # Errors
+    ///
+    /// `Memory`: for the room, 12 bytes a dump.
+    pub fn make(alloc: Global, room: usize) -> Result<Dumps, Memory>
         ensures { IfOk result (λ dumps. dumps ≡ []) }
     {
         Ok(Dumps {
@@ -28,16 +32,21 @@ impl Dumps {
         })
     }
 
-    // One dump more.
-    pub(crate) fn push(&mut self, action: u32, place: u32, value: u32) -> Result<(), Memory>
-        ensures { OnOk result (self.new ≡ self.old ++ (action, place, value) ∷ []) }
+    /// One dump more: the place of its action, the result place and the value.
+    ///
+    /// # Errors
+    ///
+    /// `Memory`: where the room is too small and cannot be grown.
+    pub fn push(&mut self, action: u32, place: u32, value: u32) -> Result<(), Memory>
+        ensures pushed { OnOk result (self.new ≡ self.old ++ (action, place, value) ∷ []) }
+        ensures same { OnErr result (self.new ≡ self.old) }
     {
         self.items.push((action, place, value))?;
         Ok(())
     }
 
-    // Forgets all dumps.
-    pub(crate) fn clear(&mut self)
+    /// Forgets all dumps. It takes no memory.
+    pub fn clear(&mut self)
         ensures { self.new ≡ [] }
     {
         self.items.clear();

@@ -1,5 +1,5 @@
 -- How answers end.
-use Rattle.std.proofs.Common.{◌≡◌, ℕ, Bool, true, false, List, [], refl, ◌≤◌, Option, arith}
+use Rattle.std.proofs.Common.{◌≡◌, ℕ, Bool, true, false, List, [], refl, Option, arith}
 use Rattle.std.specs.Prelude.{Ok, if◌then◌else◌}
 use Rattle.std.specs.List.{list_any}
 use Rattle.run_output.specs.Pieces.{Adds}
@@ -10,7 +10,7 @@ use Rattle.script_main.specs.declared.command.Command.{Command}
 use Rattle.script_main.specs.declared.status.Status.{Status}
 use Rattle.script_main.specs.declared.status.Status.TheVariants as status
 use Rattle.script_main.specs.Statuses.{writes, speaks}
-use Rattle.script_main.specs.Runs.{RunRule, is_error_loss, run_ending}
+use Rattle.script_main.specs.Runs.{is_error_loss, run_ending}
 use Rattle.script_main.specs.Says.{Says}
 
 choice_writes : (memory error : Bool) → writes (if memory then status.MemoryLost else (if error then status.SomeLost else status.Ok)) ≡ true
@@ -23,19 +23,19 @@ pub run_writes : (events : List Event) → writes (run_ending events) ≡ true
 run_writes events = choice_writes (list_any wants_memory events) (list_any is_error_loss events)
 
 -- what is said of an input has a status that speaks of it
-pub said_speaks : (Ran : RunRule) (command : Command) (base : ℕ) (input : List ℕ) (ending : Status) (text : List ℕ) → Says Ran command base input ending text → speaks ending ≡ true
-said_speaks Ran command base input status.Ok text said = refl
-said_speaks Ran command base input status.SomeLost text said = refl
-said_speaks Ran command base input status.Usage text said = absurd said
-said_speaks Ran command base input status.ReadFault text said = absurd said
-said_speaks Ran command base input status.WriteFault text said = absurd said
-said_speaks Ran command base input (status.Refused line kind) text said = refl
-said_speaks Ran command base input status.NoMemory text said = absurd said
-said_speaks Ran command base input status.TooLong text said = absurd said
-said_speaks Ran command base input status.MemoryLost text said = refl
-said_speaks Ran command base input (status.No event rule) text said = refl
-said_speaks Ran command base input status.NotComplete text said = refl
-said_speaks Ran command base input (status.NoJournal line) text said = refl
+pub said_speaks : (command : Command) (base : ℕ) (input : List ℕ) (ending : Status) (text : List ℕ) → Says command base input ending text → speaks ending ≡ true
+said_speaks command base input status.Ok text said = refl
+said_speaks command base input status.SomeLost text said = refl
+said_speaks command base input status.Usage text said = absurd said
+said_speaks command base input status.ReadFault text said = absurd said
+said_speaks command base input status.WriteFault text said = absurd said
+said_speaks command base input (status.Refused line kind) text said = refl
+said_speaks command base input status.NoMemory text said = absurd said
+said_speaks command base input status.TooLong text said = absurd said
+said_speaks command base input status.MemoryLost text said = refl
+said_speaks command base input (status.No event rule) text said = refl
+said_speaks command base input status.NotComplete text said = refl
+said_speaks command base input (status.NoJournal line) text said = refl
 
 -- nothing is added to a sink that is not touched
 pub adds_nothing : {K T E : Type 0} (written : K → Option (List ℕ)) (faults : K → ℕ) (sink : K) (value : T) → Adds {T = T} {E = E} written faults sink sink (Ok value) []

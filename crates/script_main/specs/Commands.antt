@@ -1,8 +1,8 @@
 -- What the words of the command line ask for.
-use Rattle.std.specs.Prelude.{ℕ, ◌≤◌, ◌&&◌, nat_le, List, [], ◌∷◌, Option, Some, None, codes, bytes_eq, if◌then◌else◌}
+use Rattle.std.specs.Prelude.{ℕ, ◌-◌, ◌≤◌, ◌==◌, Bool, true, false, ◌&&◌, nat_le, List, [], ◌∷◌, take, drop, Option, Some, None, option_map, option_and_then, codes, bytes_eq, if◌then◌else◌}
 use Rattle.script_words.specs.Numbers.{decimal_of}
 use Rattle.script_main.specs.declared.command.Command.{Command}
-use Rattle.script_main.specs.declared.command.Command.TheVariants.{Run, Check, Generate, Trial, Verify}
+use Rattle.script_main.specs.declared.command.Command.TheVariants.{Run, RunOnThreads, Check, Generate, Trial, Verify}
 
 -- a size is a number from 1 to 2000
 abbrev pub sized : Option ℕ → Option ℕ
@@ -14,6 +14,19 @@ abbrev pub with_both : (ℕ → ℕ → Command) → Option ℕ → Option ℕ �
 with_both command (Some size) (Some seed) = Some (command size seed)
 with_both command _ _ = None
 
+-- the number of workers that a word says: it is one of the words `0` to `8`
+abbrev pub workers_in : List ℕ → Option ℕ
+workers_in (digit ∷ []) = if nat_le 48 digit && nat_le digit 56 then Some (digit - 48) else None
+workers_in _ = None
+
+-- what stands behind `--workers=` in a word
+abbrev pub behind_equals : List ℕ → Option (List ℕ)
+behind_equals word = if bytes_eq (take 10 word) (codes "--workers=") then Some (drop 10 word) else None
+
+-- a run with so many workers; with none it is on one thread
+abbrev pub run_with : ℕ → Command
+run_with workers = if workers == 0 then Run else RunOnThreads workers
+
 -- one word: `run`, `check` or `verify`
 abbrev pub of_one : List ℕ → Option Command
 of_one name =
@@ -21,15 +34,17 @@ of_one name =
     else (if bytes_eq name (codes "check") then Some Check
     else (if bytes_eq name (codes "verify") then Some Verify else None))
 
--- two words: `run --workers=0`
+-- two words: `run --workers=N`
 abbrev pub of_two : List ℕ → List ℕ → Option Command
-of_two name workers = if bytes_eq name (codes "run") && bytes_eq workers (codes "--workers=0") then Some Run else None
+of_two name word =
+    if bytes_eq name (codes "run") then option_map run_with (option_and_then workers_in (behind_equals word)) else None
 
--- three words: `run --workers 0`
+-- two words behind `run`: `--workers N`
 abbrev pub of_workers : List ℕ → List ℕ → Option Command
-of_workers first second = if bytes_eq first (codes "--workers") && bytes_eq second (codes "0") then Some Run else None
+of_workers first second =
+    if bytes_eq first (codes "--workers") then option_map run_with (workers_in second) else None
 
--- three words: this one, `generate SIZE SEED`, or `trial SIZE SEED`; both are numbers of a script
+-- three words: `run --workers N`, `generate SIZE SEED`, or `trial SIZE SEED`, where SIZE and SEED are numbers of a script
 abbrev pub of_three : List ℕ → List ℕ → List ℕ → Option Command
 of_three name first second =
     if bytes_eq name (codes "run") then of_workers first second
@@ -40,13 +55,19 @@ of_three name first second =
 -- the command that some words are, where they are one
 abbrev pub command_of : List (List ℕ) → Option Command
 command_of (name ∷ []) = of_one name
-command_of (name ∷ workers ∷ []) = of_two name workers
+command_of (name ∷ word ∷ []) = of_two name word
 command_of (name ∷ first ∷ second ∷ []) = of_three name first second
 command_of _ = None
 
--- a size that was read is one that the generator takes
+-- the words are plain: they ask for no run on threads
+abbrev pub is_plain : Option Command → Bool
+is_plain (Some (RunOnThreads workers)) = false
+is_plain _ = true
+
+-- a size that was read is one that the generator takes, and a number of workers one that a run on threads may have
 abbrev pub IsSized : Command → Type 0
 IsSized Run = Unit {0}
+IsSized (RunOnThreads workers) = (1 ≤ workers) × (workers ≤ 8)
 IsSized Check = Unit {0}
 IsSized Verify = Unit {0}
 IsSized (Generate size seed) = (1 ≤ size) × (size ≤ 2000)

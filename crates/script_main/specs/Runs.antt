@@ -7,7 +7,7 @@ use Rattle.gpu_plan.specs.Script.{script_of}
 use Rattle.wait_hooks.specs.Marks.{mark}
 use Rattle.gpu_journal.specs.declared.event.Event.{Event}
 use Rattle.gpu_journal.specs.declared.event.Event.TheVariants.{Lost}
-use Rattle.gpu_journal.specs.declared.event.Why.TheVariants.{Error, Memory}
+use Rattle.gpu_journal.specs.declared.event.Why.TheVariants.{Error}
 use Rattle.gpu_journal.specs.Legal.{IsLegal}
 use Rattle.gpu_journal.specs.Complete.{IsComplete}
 use Rattle.gpu_journal.specs.Output.{output}
@@ -18,21 +18,24 @@ use Rattle.generated_scripts.specs.Trials.{trial_text}
 use Rattle.script_main.specs.declared.status.Status.{Status}
 use Rattle.script_main.specs.declared.status.Status.TheVariants as status
 
--- a rule of runs: to which histories these plans may be run, and which lines may tell of their dumps then
+-- a rule of runs: to which histories these plans may be run, and which lines may stand behind the output then
 abbrev pub RunRule : Type 1
 RunRule = PlansData → List Event → List ℕ → Type 0
 
--- the rule of one thread: the history is the serial one, which loses no stream for want of memory, and so are the dumps
-abbrev pub IsSerialRun : PlansData → List Event → List ℕ → Type 0
-IsSerialRun p h dumps = (h ≡ serial p) × All (λ event. wants_memory event ≡ false) h × (dumps ≡ dump_lines p h)
-
--- these plans were run to this history and these lines of dumps: by the rule, the history is legal and complete, and each
--- dump may be told: it is of a prefix that has as many finishes of its stream as flushes stand before it, or more
-pub record IsRun (Ran : RunRule) (p : PlansData) (history : List Event) (dumps : List ℕ) : Type 0 where
-  pub ran : Ran p history dumps
+-- the rule of threads: the history is any that is legal and complete, and the lines are those of the dumps, each of which
+-- may be told: it is of a prefix that has as many finishes of its stream as flushes stand before it, or more
+pub record IsRun (p : PlansData) (history : List Event) (dumps : List ℕ) : Type 0 where
   pub legal : IsLegal p history
   pub complete : IsComplete p history
   pub dumped : AreDumpLines p history dumps
+
+-- the rule of one thread: it is such a run, and its history is the serial one, which loses no stream for want of memory;
+-- so are the dumps
+pub record IsSerialRun (p : PlansData) (history : List Event) (dumps : List ℕ) : Type 0 where
+  pub run : IsRun p history dumps
+  pub played : history ≡ serial p
+  pub kept : All (λ event. wants_memory event ≡ false) history
+  pub read : dumps ≡ dump_lines p history
 
 -- the event is a loss by an error
 abbrev pub is_error_loss : Event → Bool
@@ -45,17 +48,17 @@ run_ending events =
     if list_any wants_memory events then status.MemoryLost
     else (if list_any is_error_loss events then status.SomeLost else status.Ok)
 
--- the text is the output of a run of these plans, with its marks over a base, and the lines of its dumps
+-- the text is the output of a run of these plans by a rule, with its marks over a base, and the lines behind it
 pub record IsOutput (Ran : RunRule) (p : PlansData) (base : ℕ) (ending : Status) (text : List ℕ) : Type 0 where
   pub history : List Event
-  pub dumps : List ℕ
-  pub run : IsRun Ran p history dumps
+  pub behind : List ℕ
+  pub ran : Ran p history behind
   pub ends : ending ≡ run_ending (reverse history)
-  pub told : text ≡ output p (mark base) history ++ dumps
+  pub told : text ≡ output p (mark base) history ++ behind
 
 -- the text is the line of a trial: its generated script says these plans, which were run on one thread
 pub record IsTrial (size seed : ℕ) (text : List ℕ) : Type 0 where
   pub plans : PlansData
   pub script : script_of (generated size seed) ≡ Ok plans
-  pub run : IsRun IsSerialRun plans (serial plans) (dump_lines plans (serial plans))
+  pub run : IsSerialRun plans (serial plans) (dump_lines plans (serial plans))
   pub told : text ≡ trial_text size seed plans (serial plans)

@@ -8,15 +8,16 @@ use Rattle.gpu_plan.specs.Script.{script_of}
 use Rattle.gpu_journal.specs.Picture.{picture_text}
 use Rattle.verify_input.specs.Found.{script_in, HasNoJournal, BreaksRule, IsCutShort, IsRight}
 use Rattle.script_main.specs.declared.command.Command.{Command}
-use Rattle.script_main.specs.declared.command.Command.TheVariants.{Run, Check, Generate, Trial, Verify}
+use Rattle.script_main.specs.declared.command.Command.TheVariants.{Run, RunOnThreads, Check, Generate, Trial, Verify}
 use Rattle.script_main.specs.declared.status.Status.{Status}
 use Rattle.script_main.specs.declared.status.Status.TheVariants as status
 use Rattle.script_main.specs.Counts.{check_text}
-use Rattle.script_main.specs.Runs.{RunRule, IsOutput, IsTrial}
+use Rattle.script_main.specs.Runs.{IsRun, IsSerialRun, IsOutput, IsTrial}
 
 -- the command reads its source
 abbrev pub reads : Option Command → Bool
 reads (Some Run) = true
+reads (Some (RunOnThreads workers)) = true
 reads (Some Check) = true
 reads (Some Verify) = true
 reads _ = false
@@ -35,23 +36,27 @@ abbrev pub IsYesText : List ℕ → List ℕ → Type 0
 IsYesText input text =
     (images : Pictures) × (events : ℕ) × IsRight input images events × (text ≡ yes_line events ++ picture_text images)
 
--- a command that ends so writes this text of an input, where a script is run by a rule, with its marks over a base
-abbrev pub Writes : RunRule → Command → ℕ → List ℕ → Status → List ℕ → Type 0
-Writes Ran Run base input ending text = (p : PlansData) × (script_of input ≡ Ok p) × IsOutput Ran p base ending text
-Writes Ran Check base input ending text =
+-- a command that ends so writes this text of an input, with the marks of a run over a base; the run goes by the rule of one
+-- thread, or by that of threads
+abbrev pub Writes : Command → ℕ → List ℕ → Status → List ℕ → Type 0
+Writes Run base input ending text =
+    (p : PlansData) × (script_of input ≡ Ok p) × IsOutput IsSerialRun p base ending text
+Writes (RunOnThreads workers) base input ending text =
+    (p : PlansData) × (script_of input ≡ Ok p) × IsOutput IsRun p base ending text
+Writes Check base input ending text =
     (p : PlansData) × (script_of input ≡ Ok p) × (ending ≡ status.Ok) × (text ≡ check_text p)
-Writes Ran (Generate size seed) base input ending text = (ending ≡ status.Ok) × (text ≡ generated size seed)
-Writes Ran (Trial size seed) base input ending text = (ending ≡ status.Ok) × IsTrial size seed text
-Writes Ran Verify base input ending text = (ending ≡ status.Ok) × IsYesText input text
+Writes (Generate size seed) base input ending text = (ending ≡ status.Ok) × (text ≡ generated size seed)
+Writes (Trial size seed) base input ending text = (ending ≡ status.Ok) × IsTrial size seed text
+Writes Verify base input ending text = (ending ≡ status.Ok) × IsYesText input text
 
 -- a command ends so on an input, and writes this text
-abbrev pub Says : RunRule → Command → ℕ → List ℕ → Status → List ℕ → Type 0
-Says Ran command base input status.Ok text = Writes Ran command base input status.Ok text
-Says Ran command base input status.SomeLost text = Writes Ran command base input status.SomeLost text
-Says Ran command base input status.MemoryLost text = Writes Ran command base input status.MemoryLost text
-Says Ran command base input (status.Refused line kind) text =
+abbrev pub Says : Command → ℕ → List ℕ → Status → List ℕ → Type 0
+Says command base input status.Ok text = Writes command base input status.Ok text
+Says command base input status.SomeLost text = Writes command base input status.SomeLost text
+Says command base input status.MemoryLost text = Writes command base input status.MemoryLost text
+Says command base input (status.Refused line kind) text =
     (reads (Some command) ≡ true) × (script_by command input ≡ Err (line, kind)) × (text ≡ [])
-Says Ran command base input (status.No event rule) text = (command ≡ Verify) × BreaksRule input event rule × (text ≡ [])
-Says Ran command base input status.NotComplete text = (command ≡ Verify) × IsCutShort input × (text ≡ [])
-Says Ran command base input (status.NoJournal line) text = (command ≡ Verify) × HasNoJournal input line × (text ≡ [])
-Says Ran command base input _ text = ⊥
+Says command base input (status.No event rule) text = (command ≡ Verify) × BreaksRule input event rule × (text ≡ [])
+Says command base input status.NotComplete text = (command ≡ Verify) × IsCutShort input × (text ≡ [])
+Says command base input (status.NoJournal line) text = (command ≡ Verify) × HasNoJournal input line × (text ≡ [])
+Says command base input _ text = ⊥

@@ -7,7 +7,6 @@ use Rattle.script_main.specs.declared.command.Command.{Command}
 use Rattle.script_main.specs.declared.status.Status.{Status}
 use Rattle.script_main.specs.declared.status.Status.TheVariants as status
 use Rattle.script_main.specs.Statuses.{writes}
-use Rattle.script_main.specs.Runs.{RunRule}
 use Rattle.script_main.specs.Says.{reads, Says}
 
 -- the input of a command: all that its source has left, within the limit, and nothing where it does not read
@@ -16,28 +15,28 @@ Takes true left left_then input = ReadsAll left left_then input × (length input
 Takes false left left_then input = input ≡ []
 
 -- the words are a command, its input was taken from the source, and it says this of it
-pub record Tells (Ran : RunRule) (words : Option Command) (base : ℕ) (left left_then : Option (List ℕ))
+pub record Tells (words : Option Command) (base : ℕ) (left left_then : Option (List ℕ))
     (ending : Status) (text : List ℕ) : Type 0 where
   pub command : Command
   pub asked : words ≡ Some command
   pub input : List ℕ
   pub taken : Takes (reads words) left left_then input
-  pub said : Says Ran command base input ending text
+  pub said : Says command base input ending text
 
 -- a text that is told was written
-pub record HasTold (Ran : RunRule) (words : Option Command) (base : ℕ) (left left_then : Option (List ℕ))
+pub record HasTold (words : Option Command) (base : ℕ) (left left_then : Option (List ℕ))
     (ending : Status) (written written_then : Option (List ℕ)) : Type 0 where
   pub text : List ℕ
-  pub told : Tells Ran words base left left_then ending text
+  pub told : Tells words base left left_then ending text
   pub appended : Appends written written_then text
 
 -- a front was written of a text that is told with a status that writes
-pub record HasBegun (Ran : RunRule) (words : Option Command) (base : ℕ) (left left_then : Option (List ℕ))
+pub record HasBegun (words : Option Command) (base : ℕ) (left left_then : Option (List ℕ))
     (written written_then : Option (List ℕ)) : Type 0 where
   pub ending : Status
   pub writing : writes ending ≡ true
   pub text : List ℕ
-  pub told : Tells Ran words base left left_then ending text
+  pub told : Tells words base left left_then ending text
   pub begun : AppendsFront written written_then text
 
 -- the input that a command will take, where that is told
@@ -47,8 +46,8 @@ held false left = Some []
 
 -- what a command may answer to an input where no fault rises: what it says, that the input is too long, or want of
 -- memory
-abbrev pub IsAnswer : RunRule → Command → ℕ → List ℕ → Status → Type 0
-IsAnswer Ran command base input ending =
-    ((length input ≤ most_bytes) × (text : List ℕ) × Says Ran command base input ending text)
+abbrev pub IsAnswer : Command → ℕ → List ℕ → Status → Type 0
+IsAnswer command base input ending =
+    ((length input ≤ most_bytes) × (text : List ℕ) × Says command base input ending text)
     ⊎ ((ending ≡ status.TooLong) × (most_bytes < length input))
     ⊎ (ending ≡ status.NoMemory)

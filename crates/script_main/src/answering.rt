@@ -1,8 +1,8 @@
-ghost use Rattle.std.specs.Prelude.{◌≡◌, ◌≤◌, ℕ, length, reverse, IfOk};
+ghost use Rattle.std.specs.Prelude.{◌≡◌, ◌≤◌, ℕ, Some, true, length, reverse, IfOk};
 ghost use Rattle.run_output.specs.Runs.{run_text};
 ghost use Rattle.gpu_io.specs.Whole.{most_bytes};
 ghost use Rattle.script_main.specs.declared.command.Command.TheVariants.{Run, Check, Verify};
-ghost use Rattle.script_main.specs.Commands.{IsSized};
+ghost use Rattle.script_main.specs.Commands.{is_plain, IsSized};
 ghost use Rattle.script_main.specs.Runs.{IsSerialRun, IsOutput, IsTrial, run_ending};
 ghost use Rattle.script_main.specs.Says.{yes_line, Says};
 ghost use Rattle.script_main.specs.Answers.{answer_ending, answer_text};
@@ -41,7 +41,7 @@ fn run_plans<H: Hook>(alloc: Global, plans: Plans, hook: H) -> Result<RunOutput,
 fn run_answer<H: Hook>(alloc: Global, input: &[u8], hook: H) -> Result<Answer, Memory>
     requires { length input.now ≤ most_bytes }
     ensures { IfOk result (λ answer.
-        Says IsSerialRun Run (H.base hook) input.now (answer_ending answer) (answer_text answer)) }
+        Says Run (H.base hook) input.now (answer_ending answer) (answer_text answer)) }
 {
     match parse(alloc, input) {
         Ok(plans) => Ok(Answer::Ran(run_plans(alloc, plans, hook)?)),
@@ -57,7 +57,7 @@ fn run_answer<H: Hook>(alloc: Global, input: &[u8], hook: H) -> Result<Answer, M
 fn check_answer(alloc: Global, input: &[u8]) -> Result<Answer, Memory>
     requires { length input.now ≤ most_bytes }
     ensures { IfOk result (λ answer.
-        (base : ℕ) → Says IsSerialRun Check base input.now (answer_ending answer) (answer_text answer)) }
+        (base : ℕ) → Says Check base input.now (answer_ending answer) (answer_text answer)) }
 {
     match parse(alloc, input) {
         Ok(plans) => Ok(Answer::Text(check_text(alloc, &plans)?)),
@@ -106,7 +106,7 @@ fn yes_line(alloc: Global, events: u32) -> Result<Vec<u8>, Memory>
 fn verify_answer(alloc: Global, input: &[u8]) -> Result<Answer, Memory>
     requires { length input.now ≤ most_bytes }
     ensures { IfOk result (λ answer.
-        (base : ℕ) → Says IsSerialRun Verify base input.now (answer_ending answer) (answer_text answer)) }
+        (base : ℕ) → Says Verify base input.now (answer_ending answer) (answer_text answer)) }
 {
     match examine(alloc, input)? {
         Finding::Refused { line, kind } => Ok(Answer::Found(Status::Refused { line, kind })),
@@ -120,20 +120,22 @@ fn verify_answer(alloc: Global, input: &[u8]) -> Result<Answer, Memory>
     }
 }
 
-/// What a command says of an input. It neither reads nor writes.
+/// What a command of plain words says of an input. It neither reads nor writes.
 pub(crate) fn answer_to<H: Hook>(
     alloc: Global,
     command: Command,
     input: &[u8],
     hook: H,
 ) -> Result<Answer, Memory>
+    requires plain { is_plain (Some command) ≡ true }
     requires short { length input.now ≤ most_bytes }
     requires sized { IsSized command }
     ensures said { IfOk result (λ answer.
-        Says IsSerialRun command (H.base hook) input.now (answer_ending answer) (answer_text answer)) }
+        Says command (H.base hook) input.now (answer_ending answer) (answer_text answer)) }
 {
     match command {
         Command::Run => run_answer(alloc, input, hook),
+        Command::RunOnThreads { .. } => unreachable!(),
         Command::Check => check_answer(alloc, input),
         Command::Generate { size, seed } => Ok(Answer::Text(generate(alloc, size, seed)?)),
         Command::Trial { size, seed } => Ok(Answer::Text(trial_line(alloc, size, seed, hook)?)),

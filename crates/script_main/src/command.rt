@@ -1,7 +1,7 @@
 ghost use Rattle.std.specs.Prelude.{◌≡◌, ◌≤◌, Some, map, string_bytes, option_map, IfSome};
 ghost use Rattle.script_words.specs.Numbers.{decimal_of};
 ghost use Rattle.script_main.specs.declared.command.Command.TheVariants.{Generate, Trial};
-ghost use Rattle.script_main.specs.Commands.{sized, with_both, of_one, of_two, of_workers, of_three, command_of, IsSized};
+ghost use Rattle.script_main.specs.Commands.{sized, with_both, workers_in, behind_equals, run_with, of_one, of_two, of_workers, of_three, command_of, is_plain, IsSized};
 ghost use Rattle.script_main.specs.Says.{reads};
 
 use script_words::decimal_u32;
@@ -9,11 +9,16 @@ use script_words::decimal_u32;
 /// The largest size of a generated script.
 const MOST_SIZE: u32 = 2000;
 
+/// The most workers that a run may have.
+const MOST_WORKERS: u32 = 8;
+
 /// What the words of the command line ask for.
 #[derive(Clone, Copy, Debug, PartialEq, Eq)]
 pub enum Command {
     /// Runs the script on standard input on one thread, and writes the output.
     Run,
+    /// Runs the script on standard input on threads, with 1 to 8 workers, and writes the output.
+    RunOnThreads { workers: u32 },
     /// Reads a script, and writes how much it has.
     Check,
     /// Writes the generated script of a size, from 1 to 2000, and a seed.
@@ -29,7 +34,10 @@ impl Command {
     pub(crate) fn reads(self) -> bool
         ensures { result ≡ reads (Some self) }
     {
-        matches!(self, Command::Run | Command::Check | Command::Verify)
+        matches!(
+            self,
+            Command::Run | Command::RunOnThreads { .. } | Command::Check | Command::Verify
+        )
     }
 }
 
@@ -68,24 +76,57 @@ fn of_one(name: &str) -> Option<Command>
     }
 }
 
-fn of_two(name: &str, workers: &str) -> Option<Command>
-    ensures command { result ≡ of_two name.now workers.now }
+// The number of workers that a word says, from 0 to 8.
+fn workers_in(word: &[u8]) -> Option<u32>
+    ensures workers { result ≡ workers_in word.now }
+    ensures range { IfSome result (λ workers. workers ≤ MOST_WORKERS) }
+{
+    let [digit] = word else {
+        return None;
+    };
+    if *digit < b'0' || *digit > b'8' {
+        return None;
+    }
+    Some(u32::from(*digit - b'0'))
+}
+
+// What stands behind `--workers=` in a word.
+fn behind_equals(word: &[u8]) -> Option<&[u8]>
+    ensures { option_map (λ rest. rest.now) result ≡ behind_equals word.now }
+{
+    word.strip_prefix(b"--workers=")
+}
+
+// The run with the workers that a word says; with none it is on one thread.
+fn run_with(word: &[u8]) -> Option<Command>
+    ensures command { result ≡ option_map run_with (workers_in word.now) }
     ensures sized { IfSome result IsSized }
 {
-    if name == "run" && workers == "--workers=0" {
+    let workers = workers_in(word)?;
+    if workers == 0 {
         return Some(Command::Run);
     }
-    None
+    Some(Command::RunOnThreads { workers })
+}
+
+fn of_two(name: &str, word: &str) -> Option<Command>
+    ensures command { result ≡ of_two name.now word.now }
+    ensures sized { IfSome result IsSized }
+{
+    if name != "run" {
+        return None;
+    }
+    run_with(behind_equals(word.as_bytes())?)
 }
 
 fn of_workers(first: &str, second: &str) -> Option<Command>
     ensures command { result ≡ of_workers first.now second.now }
     ensures sized { IfSome result IsSized }
 {
-    if first == "--workers" && second == "0" {
-        return Some(Command::Run);
+    if first != "--workers" {
+        return None;
     }
-    None
+    run_with(second.as_bytes())
 }
 
 fn of_three(name: &str, first: &str, second: &str) -> Option<Command>
@@ -113,8 +154,15 @@ pub fn command_of(words: &[String]) -> Option<Command>
 {
     match words {
         [name] => of_one(name.as_str()),
-        [name, workers] => of_two(name.as_str(), workers.as_str()),
+        [name, word] => of_two(name.as_str(), word.as_str()),
         [name, first, second] => of_three(name.as_str(), first.as_str(), second.as_str()),
         _ => None,
     }
+}
+
+/// Whether words are plain, so that `plain_top` does what they ask for: they are not those of `run` with 1 to 8 workers.
+pub fn is_plain(words: &[String]) -> bool
+    ensures { result ≡ is_plain (command_of (map string_bytes words.now)) }
+{
+    !matches!(command_of(words), Some(Command::RunOnThreads { .. }))
 }

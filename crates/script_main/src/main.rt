@@ -3,7 +3,6 @@
 
 ghost use Rattle.std.specs.Prelude.{◌≡◌, true, map, string_bytes};
 ghost use Rattle.script_main.specs.Commands.{command_of};
-ghost use Rattle.script_main.specs.Runs.{IsSerialRun};
 ghost use Rattle.script_main.specs.Statuses.{speaks};
 ghost use Rattle.script_main.specs.Tells.{HasTold, HasBegun};
 
@@ -13,17 +12,23 @@ mod command;
 mod counts;
 mod fault;
 mod input;
+mod on_threads;
+mod plain;
+mod program;
 mod status;
-mod top;
 
+use command::is_plain;
 use fault::fault_of;
-use gpu_io::{RealSink, RealSource, Sink, Source};
+use gpu_io::{OpenGate, RealSink, RealSource, Sink, Source};
+use plain::plain_top;
+use program::top;
 use status::Status;
 use std::alloc::Global;
 use std::env;
 use std::io::{self, ErrorKind};
 use std::process::ExitCode;
-use top::plain_top;
+use std::sync::Wait;
+use std::thread::Threads;
 use wait_hooks::Marker;
 
 /// The base of the marks.
@@ -39,37 +44,45 @@ fn words_of(rt: &HostRuntime) -> io::Result<Vec<String>> {
 }
 
 // The program over a source and a sink, with marks over its base.
-fn run_on<S: Source, K: Sink>(
+fn run_on<S: Source, K: Sink, R: Threads + Wait + Sync>(
+    rt: &R,
     alloc: Global,
     words: &[String],
     source: &mut S,
     sink: &mut K,
 ) -> Status
     ensures said { speaks result ≡ true
-        → HasTold IsSerialRun (command_of (map string_bytes words.now)) 1000
+        → HasTold (command_of (map string_bytes words.now)) 1000
         (S.left source.old) (S.left source.new) result (K.written sink.old) (K.written sink.new) }
     ensures front { result ≡ Status.WriteFault
-        → HasBegun IsSerialRun (command_of (map string_bytes words.now)) 1000
+        → HasBegun (command_of (map string_bytes words.now)) 1000
         (S.left source.old) (S.left source.new) (K.written sink.old) (K.written sink.new) }
 {
-    plain_top(alloc, words, source, sink, Marker::make(BASE))
+    let hook = Marker::make(BASE);
+    if is_plain(words) {
+        return plain_top(alloc, words, source, sink, hook);
+    }
+    top(rt, alloc, words, source, sink, &OpenGate, hook)
 }
 
-// Runs the program on the process's own words, input and output. Words that are not UTF-8 are no words of the program.
-fn run(rt: &HostRuntime) -> Status {
-    match words_of(rt) {
+// How the program ends where it has no words. Words that are not UTF-8 are no words of the program.
+fn wordless(error: &io::Error) -> Status {
+    if error.kind() == ErrorKind::OutOfMemory {
+        return Status::NoMemory;
+    }
+    Status::Usage
+}
+
+// Runs the program on the process's own words, input and output.
+fn main(rt: HostRuntime) -> ExitCode {
+    let status = match words_of(&rt) {
         Ok(words) => {
             let mut source = RealSource::make(rt.stdin());
             let mut sink = RealSink::make(rt.stdout());
-            run_on(rt.alloc(), &words, &mut source, &mut sink)
+            run_on(&rt, rt.alloc(), &words, &mut source, &mut sink)
         }
-        Err(error) if error.kind() == ErrorKind::OutOfMemory => Status::NoMemory,
-        Err(_) => Status::Usage,
-    }
-}
-
-fn main(rt: HostRuntime) -> ExitCode {
-    let status = run(&rt);
+        Err(error) => wordless(&error),
+    };
     if let Some(fault) = fault_of(status) {
         // Standard error is for people: where it takes nothing, the exit status still tells.
         let _ = eprintln!(rt; "{fault}");

@@ -1,12 +1,16 @@
 ghost use Rattle.std.specs.Prelude.{◌<◌};
 
+use crate::command::is_plain;
+use crate::plain::plain_top;
 use crate::status::Status;
-use crate::top::plain_top;
 use gpu_io::{MemorySink, MemorySource};
 use gpu_plan::Kind;
 use std::alloc::Global;
 use std::test::Fail;
 use wait_hooks::Marker;
+
+mod on_threads;
+mod words;
 
 const TWO_TEXELS: &[u8] = b"gpu-script 1
 stream 1 normal 16
@@ -64,25 +68,43 @@ fn steady() -> Edges {
     }
 }
 
-// How the program ends on some words and a text, and what stands in its sink then.
+// Words of a command line.
+fn given(alloc: Global, words: &[&str]) -> Result<Vec<String>, Fail> {
+    let mut given = Vec::new(alloc);
+    for word in words {
+        given.push(String::from_str(alloc, word)?)?;
+    }
+    Ok(given)
+}
+
+// A source that gives a text.
+fn source_of(alloc: Global, text: &[u8], edges: &Edges) -> Result<MemorySource, Fail> {
+    let bytes = Vec::from_slice(alloc, text)?;
+    let fails = Vec::from_slice(alloc, &[edges.read_fails])?;
+    Ok(MemorySource::make(bytes, edges.read_piece, fails))
+}
+
+// An empty sink.
+fn sink_of(alloc: Global, edges: &Edges) -> Result<MemorySink, Fail> {
+    let fails = Vec::from_slice(alloc, &[edges.write_fails])?;
+    let sink = MemorySink::make(alloc, 4096, edges.write_piece, fails).ok();
+    Ok(sink.ok_or("memory is ample")?)
+}
+
+// How the program on one thread ends on some plain words and a text, and what stands in its sink then.
 fn ended(
     alloc: Global,
     words: &[&str],
     text: &[u8],
     edges: &Edges,
 ) -> Result<(Status, Vec<u8>), Fail> {
-    let mut given = Vec::new(alloc);
-    for word in words {
-        given.push(String::from_str(alloc, word)?)?;
+    let words = given(alloc, words)?;
+    if !is_plain(&words) {
+        return Err(Fail::from("the words are plain"));
     }
-    let bytes = Vec::from_slice(alloc, text)?;
-    let read_fails = Vec::from_slice(alloc, &[edges.read_fails])?;
-    let write_fails = Vec::from_slice(alloc, &[edges.write_fails])?;
-    let mut source = MemorySource::make(bytes, edges.read_piece, read_fails);
-    let Ok(mut sink) = MemorySink::make(alloc, 4096, edges.write_piece, write_fails) else {
-        return Err(Fail::from("memory is ample"));
-    };
-    let status = plain_top(alloc, &given, &mut source, &mut sink, Marker::make(1000));
+    let mut source = source_of(alloc, text, edges)?;
+    let mut sink = sink_of(alloc, edges)?;
+    let status = plain_top(alloc, &words, &mut source, &mut sink, Marker::make(1000));
     Ok((status, Vec::from_slice(alloc, sink.bytes())?))
 }
 
@@ -116,11 +138,16 @@ fn a_bad_line_is_refused(rt: HostRuntime) -> Result<(), Fail> {
 
 #[test]
 fn other_words_are_no_command(rt: HostRuntime) -> Result<(), Fail> {
-    let lists: [&[&str]; 15] = [
+    let lists: [&[&str]; 20] = [
         &[],
         &["run", "--workers"],
         &["run", "--workers", "00"],
+        &["run", "--workers", "9"],
+        &["run", "--workers="],
+        &["run", "--workers=01"],
         &["run", "--workers=9"],
+        &["run", "--worker=1"],
+        &["check", "--workers", "1"],
         &["0"],
         &["check", "check"],
         &["generate", "0", "1"],

@@ -11,4 +11,4 @@ loop-dump-preserved c =
     let dump = c.in-Some.dump.now in
     left_further planned c.loop-dump.dumps c.push.new.self (c.args.dumps.now ++ read_left planned c.args.dumps.now f) f dump c.result.result
     (subst (λ (l : List (ℕ × ℕ × ℕ)). length l < length planned) c.as_slice.ensures c.in-Some.ensures.lookup.3.0)
-    (subst (λ (l : List (ℕ × ℕ × ℕ)). dump ≡ get_or planned (length l) dump) c.as_slice.ensures c.in-Some.ensures.lookup.1) c.result.ensures c.in_ok-push.ensures c.loop-dump.invariant
+    (subst (λ (l : List (ℕ × ℕ × ℕ)). dump ≡ get_or planned (length l) dump) c.as_slice.ensures c.in-Some.ensures.lookup.1) c.result.ensures c.in_ok-push.ensures.pushed c.loop-dump.invariant

@@ -26,4 +26,4 @@ returns-clause-read c =
     (c.push.new.self ≡ c.args.self.now.read ++ read_with (slice_get c.args.plan.now.dumps (length c.args.self.now.read)) c.args.self.now.words.done (result_of c.args.state.now))
     (λ pushed. read_now c.args.plan.now.dumps c.args.self.now.read c.push.new.self c.args.self.now.words.done c.result.result (result_of c.args.state.now) c.in-Some.dump.now next
     (c.if-action-self.false ∙ c.self.invariant.place ∙ ap (λ (x : ClientData). x.words.done) c.self.view_is) c.result.ensures (pushed ∙ ap (λ (l : List (ℕ × ℕ × ℕ)). l ++ (c.in-Some.dump.now.0, c.in-Some.dump.now.1, c.result.result) ∷ []) same))
-    c.push.ensures
+    c.push.ensures.pushed

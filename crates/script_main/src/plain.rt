@@ -2,8 +2,7 @@ ghost use Rattle.std.specs.Prelude.{◌≡◌, ◌≢◌, ◌⊎◌, ◌↔◌, 
 ghost use Rattle.gpu_io.specs.Faults.{HasRisen};
 ghost use Rattle.gpu_io.specs.Whole.{most_bytes, ReadsAtMost, ReadsMoreThan};
 ghost use Rattle.script_main.specs.declared.command.Command.{Command};
-ghost use Rattle.script_main.specs.Commands.{command_of};
-ghost use Rattle.script_main.specs.Runs.{IsSerialRun};
+ghost use Rattle.script_main.specs.Commands.{command_of, is_plain};
 ghost use Rattle.script_main.specs.Says.{reads};
 ghost use Rattle.script_main.specs.Statuses.{speaks, writes};
 ghost use Rattle.script_main.specs.Tells.{HasTold, HasBegun, held, IsAnswer};
@@ -21,6 +20,8 @@ use wait_hooks::Hook;
 /// `run` reads a script, runs it by the rule for one thread, and writes the output; `check` writes how much a script
 /// has; `generate` writes a script, and `trial` one line of what comes of such a script; `verify` judges a journal;
 /// every other list of words is refused. It takes no Wait, and always returns.
+///
+/// It is for plain words; those of a run on threads are for `top`.
 #[tactic(auto, using(crate::proofs::Endings::said_speaks))]
 pub fn plain_top<S: Source, K: Sink, H: Hook>(
     alloc: Global,
@@ -29,18 +30,20 @@ pub fn plain_top<S: Source, K: Sink, H: Hook>(
     sink: &mut K,
     hook: H,
 ) -> Status
+    requires plain { is_plain (command_of (map string_bytes words.now)) ≡ true }
+
     ensures usage { (result ≡ Status.Usage) ↔ (command_of (map string_bytes words.now) ≡ None) }
     ensures unread { reads (command_of (map string_bytes words.now)) ≡ false
         → source.new ≡ source.old }
 
     // What is answered of the input, and all that was written.
     ensures said { speaks result ≡ true
-        → HasTold IsSerialRun (command_of (map string_bytes words.now)) (H.base hook)
+        → HasTold (command_of (map string_bytes words.now)) (H.base hook)
         (S.left source.old) (S.left source.new) result (K.written sink.old) (K.written sink.new) }
 
     // After a fault of the sink a front of it stands.
     ensures front { result ≡ Status.WriteFault
-        → HasBegun IsSerialRun (command_of (map string_bytes words.now)) (H.base hook)
+        → HasBegun (command_of (map string_bytes words.now)) (H.base hook)
         (S.left source.old) (S.left source.new) (K.written sink.old) (K.written sink.new) }
     ensures write_fault { result ≡ Status.WriteFault → HasRisen (K.faults sink.old) (K.faults sink.new) }
 
@@ -64,7 +67,7 @@ pub fn plain_top<S: Source, K: Sink, H: Hook>(
         → held (reads (Some command)) (S.left source.old) ≡ Some input
         → ¬ HasRisen (S.faults source.old) (S.faults source.new)
         → ¬ HasRisen (K.faults sink.old) (K.faults sink.new)
-        → IsAnswer IsSerialRun command (H.base hook) input result }
+        → IsAnswer command (H.base hook) input result }
 {
     let Some(command) = command_of(words) else {
         return Status::Usage;

@@ -1,0 +1,4 @@
+pub mod Takers
+pub mod Fresh
+pub mod Collected
+pub mod Committed

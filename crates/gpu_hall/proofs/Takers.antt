@@ -1,0 +1,173 @@
+-- The takers of a hall fit its journal again after each call.
+use Rattle.std.proofs.Common.{◌≡◌, ⊎_elim, ℕ, suc, ◌+◌, ◌-◌, ◌<◌, eqb, Bool, true, false, Option, Some, None, List, [], ◌∷◌, length, get_or, set, refl, sym, ap, subst, ◌∙◌, arith, length-set}
+use Rattle.std.specs.Prelude.{slice_index_or}
+use Rattle.atomic_table.specs.Seated.{TableId}
+use Rattle.gpu_plan.specs.Plans.{PlansData, PlanData, plan_of}
+use Rattle.gpu_plan.specs.Passes.{flushes}
+use Rattle.flush_queue.specs.Seen.{EndData, one_more}
+use Rattle.sync_core.specs.Standing.{Standing, IsKnown, is_open}
+use Rattle.sync_core.specs.Events as sync
+use Rattle.gpu_journal.specs.declared.event.Event.{Event}
+use Rattle.gpu_journal.specs.declared.event.Event.TheVariants.{Order, Step, Finish, Lost, Close}
+use Rattle.gpu_journal.specs.declared.event.Why.TheVariants.{Memory}
+use Rattle.gpu_journal.specs.World.{Known, stream_in, known, known_after, world}
+use Rattle.gpu_journal.specs.Waits.{standing_of, deed, drawn}
+use Rattle.gpu_journal.specs.Legal.{IsLegal}
+use Rattle.gpu_journal.specs.Serial.{order_event}
+use Rattle.serial_laws.proofs.Others.{along, moved_by, standing_own, standing_other, known_own, known_other}
+use Rattle.serial_laws.proofs.Flushes.{flush_there}
+use Rattle.run_laws.proofs.Ended.{next_open}
+use Rattle.house_core.specs.declared.ends.Closing.{Closing}
+use Rattle.house_core.specs.declared.ends.Closing.TheVariants as closing
+use Rattle.gpu_house.proofs.Rows.{each_set, position_of}
+use Rattle.gpu_hall.specs.Takers.{TakerFits, QueuesFit}
+use Rattle.gpu_hall.specs.Collecting.{OrderedOrLost}
+
+-- ---- what an event changes of a stream
+
+abbrev pub is_order : Event → Bool
+is_order (Order s n c) = true
+is_order (Step s words) = false
+is_order (Finish s n) = false
+is_order (Lost s why words) = false
+is_order (Close s) = false
+
+-- an event that is no order leaves the number of orders
+own_ordered : (p : PlansData) (e : Event) (h : List Event) (k : Known) → is_order e ≡ false → (known_after p e (world p h) k).ordered ≡ k.ordered
+own_ordered p (Order s n c) h k not_order = absurd (cc)
+own_ordered p (Step s words) h k not_order = refl
+own_ordered p (Finish s n) h k not_order = refl
+own_ordered p (Lost s why words) h k not_order = refl
+own_ordered p (Close s) h k not_order = refl
+
+same_ordered : (p : PlansData) (e : Event) (h : List Event) (t : ℕ) → is_order e ≡ false → (known p (e ∷ h) t).ordered ≡ (known p h t).ordered
+same_ordered p e h t not_order = by (eqb (stream_in e) t) refl
+  where
+    by : (b : Bool) → eqb (stream_in e) t ≡ b → (known p (e ∷ h) t).ordered ≡ (known p h t).ordered
+    by true q = subst (λ (t : ℕ). (known p (e ∷ h) t).ordered ≡ (known p h t).ordered) (along (stream_in e) t q)
+        (ap (λ (k : Known). k.ordered) (known_own p e h) ∙ own_ordered p e h (known p h (stream_in e)) not_order)
+    by false q = ap (λ (k : Known). k.ordered) (known_other p e h t q)
+
+-- a stream that is not lost was not lost before
+own_kept : (d : Option sync.Deed) (n : ℕ) (x : Standing) → (moved_by d n x).lost ≡ false → x.lost ≡ false
+own_kept None n x e = e
+own_kept (Some (sync.Ordered fences)) n x e = e
+own_kept (Some (sync.Waited t r)) n x e = e
+own_kept (Some (sync.Released r)) n x e = e
+own_kept (Some sync.Finished) n x e = e
+own_kept (Some sync.WasLost) n x e = absurd (cc)
+own_kept (Some sync.WasClosed) n x e = e
+
+kept_before : (p : PlansData) (e : Event) (h : List Event) (t : ℕ) → (standing_of p (e ∷ h) t).lost ≡ false → (standing_of p h t).lost ≡ false
+kept_before p e h t kept = by (eqb (stream_in e) t) refl
+  where
+    by : (b : Bool) → eqb (stream_in e) t ≡ b → (standing_of p h t).lost ≡ false
+    by true q =
+        let at = along (stream_in e) t q in
+        let kept' : (standing_of p (e ∷ h) (stream_in e)).lost ≡ false = subst (λ (t : ℕ). (standing_of p (e ∷ h) t).lost ≡ false) (sym at) kept in
+        subst (λ (t : ℕ). (standing_of p h t).lost ≡ false) at
+        (own_kept (deed p e (world p h)) (drawn p h + 1) (standing_of p h (stream_in e)) (ap (λ (x : Standing). x.lost) (sym (standing_own p e h)) ∙ kept'))
+    by false q = ap (λ (x : Standing). x.lost) (sym (standing_other p e h t q)) ∙ kept
+
+module _ (p : PlansData) (words queues : List TableId) where
+  abbrev Fits : List Event → ℕ → EndData → Type 0
+  Fits h s taker = TakerFits p words queues h s taker
+
+  -- a taker fits another journal that orders as many flushes of its stream
+  still_fits : (h g : List Event) (s : ℕ) (x : EndData) → ((standing_of p g s).lost ≡ false → (standing_of p h s).lost ≡ false)
+      → ((standing_of p g s).lost ≡ false → (known p g s).ordered ≡ (known p h s).ordered) → Fits h s x → Fits g s x
+  still_fits h g s x kept same fit = record { queue = fit.queue; shared = fit.shared; plan = fit.plan; count = λ e. fit.count (kept e) ∙ sym (same e) }
+
+  -- ---- no flush is taken
+
+  pub takers_same : (h g : List Event) (takers : List EndData) → g ≡ h → QueuesFit p words queues h takers → QueuesFit p words queues g takers
+  takers_same h g takers is fit = subst (λ (g : List Event). QueuesFit p words queues g takers) (sym is) fit
+
+  pub takers_event : (e : Event) (h g : List Event) (takers : List EndData) → g ≡ e ∷ h → is_order e ≡ false → QueuesFit p words queues h takers → QueuesFit p words queues g takers
+  takers_event e h g takers is not_order fit = takers_same (e ∷ h) g takers is record {
+    count = fit.count;
+    each = λ k other few. still_fits h (e ∷ h) (suc k) (slice_index_or takers k other) (kept_before p e h (suc k)) (λ _. same_ordered p e h (suc k) not_order) (fit.each k other few);
+  }
+
+  pub takers_keep : (takers : List EndData) (e : Event) (h : List Event) → is_order e ≡ false → QueuesFit p words queues h takers → QueuesFit p words queues (e ∷ h) takers
+  takers_keep takers e h not_order fit = takers_event e h (e ∷ h) takers refl not_order fit
+
+  -- an event that comes only while its stream is open
+  pub takers_while : (e : Event) (h g : List Event) (takers : List EndData) (o : Bool) → is_order e ≡ false → (o ≡ true → g ≡ e ∷ h) → (o ≡ false → g ≡ h) → QueuesFit p words queues h takers → QueuesFit p words queues g takers
+  takers_while e h g takers true not_order event over fit = takers_event e h g takers (event refl) not_order fit
+  takers_while e h g takers false not_order event over fit = takers_same h g takers (over refl) fit
+
+  pub takers_closed : (h g : List Event) (takers : List EndData) (s : ℕ) (answer : Closing) (o : Bool) → (answer ≡ closing.Closed → o ≡ true → g ≡ Close s ∷ h)
+      → ((answer ≡ closing.Closed → o ≡ true → ⊥) → g ≡ h) → QueuesFit p words queues h takers → QueuesFit p words queues g takers
+  takers_closed h g takers s closing.Closed true event same fit = takers_event (Close s) h g takers (event refl refl) refl fit
+  takers_closed h g takers s closing.Closed false event same fit = takers_same h g takers (same (λ a b. absurd (cc))) fit
+  takers_closed h g takers s closing.Early o event same fit = takers_same h g takers (same (λ a b. absurd (cc))) fit
+  takers_closed h g takers s closing.Lost o event same fit = takers_same h g takers (same (λ a b. absurd (cc))) fit
+
+  -- ---- a flush of stream s is taken: its taker was one and is another now
+
+  module _ (h : List Event) (takers : List EndData) (s : ℕ) (was now : EndData) (known_s : IsKnown (length p.plans) s) (read : was ≡ get_or takers (s - 1) was) (fit : QueuesFit p words queues h takers) where
+    known_row : IsKnown (length takers) s
+    known_row = subst (λ (n : ℕ). IsKnown n s) (sym fit.count) known_s
+
+    pub own : Fits h s was
+    own =
+        let at = position_of (length takers) s known_row in
+        subst (λ (s : ℕ). Fits h s was) at.0 (subst (Fits h (suc (s - 1))) (sym read) (fit.each (s - 1) was at.1))
+
+    one_set : (g : List Event) → Fits g s now → ((t : ℕ) (y : EndData) → eqb s t ≡ false → Fits h t y → Fits g t y) → QueuesFit p words queues g (set takers (s - 1) now)
+    one_set g here others = record {
+      count = length-set takers (s - 1) now ∙ fit.count;
+      each = each_set (Fits h) (Fits g) takers s now known_row here others fit.each;
+    }
+
+    other_event : (e : Event) (t : ℕ) (y : EndData) → eqb (stream_in e) t ≡ false → Fits h t y → Fits (e ∷ h) t y
+    other_event e t y off f = still_fits h (e ∷ h) t y (kept_before p e h t) (λ _. ap (λ (k : Known). k.ordered) (known_other p e h t off)) f
+
+    -- there was none
+    pub none_taken : now ≡ was → QueuesFit p words queues h (set takers (s - 1) now)
+    none_taken same = one_set h (subst (Fits h s) (sym same) own) (λ t y off f. f)
+
+    -- it is of a lost stream
+    pub lost_taken : now ≡ one_more was → (standing_of p h s).lost ≡ true → QueuesFit p words queues h (set takers (s - 1) now)
+    lost_taken more lost =
+        one_set h (subst (Fits h s) (sym more) record { queue = own.queue; shared = own.shared; plan = own.plan; count = λ kept. absurd (cc) }) (λ t y off f. f)
+
+    module _ (more : now ≡ one_more was) (few : was.count < flushes was.plan.actions) (kept : (standing_of p h s).lost ≡ false) where
+      -- it is the next flush of its stream, which is open
+      pub next_taken : (known p h s).ordered < flushes (plan_of p s).actions
+      next_taken =
+          let count = own.count kept in
+          let same : flushes was.plan.actions ≡ flushes (plan_of p s).actions = ap (λ (q : PlanData). flushes q.actions) own.plan in
+          omega (arith, few, count, same)
+
+      pub open_taken : IsLegal p h → is_open (standing_of p h s) ≡ true
+      open_taken legal = let there = flush_there (plan_of p s).actions (known p h s).ordered next_taken in next_open p h s there.0 legal there.1 kept
+
+      ordered_taken : (g : List Event) → g ≡ order_event p h s ∷ h → QueuesFit p words queues g (set takers (s - 1) now)
+      ordered_taken g is =
+          let e = order_event p h s in
+          takers_same (e ∷ h) g (set takers (s - 1) now) is (one_set (e ∷ h)
+          (subst (Fits (e ∷ h) s) (sym more) record {
+            queue = own.queue;
+            shared = own.shared;
+            plan = own.plan;
+            count = λ _. ap (λ (n : ℕ). n + 1) (own.count kept) ∙ sym (ap (λ (k : Known). k.ordered) (known_own p e h));
+          })
+          (λ t y off f. other_event e t y off f))
+
+      losing_taken : (g : List Event) → g ≡ Lost s Memory [] ∷ h → QueuesFit p words queues g (set takers (s - 1) now)
+      losing_taken g is =
+          let e = Lost s Memory [] in
+          takers_same (e ∷ h) g (set takers (s - 1) now) is (one_set (e ∷ h)
+          (subst (Fits (e ∷ h) s) (sym more) record {
+            queue = own.queue;
+            shared = own.shared;
+            plan = own.plan;
+            count = λ not_lost. absurd (let lost = ap (λ (x : Standing). x.lost) (standing_own p e h) in cc);
+          })
+          (λ t y off f. other_event e t y off f))
+
+      -- it is ordered, or its stream is lost
+      pub one_taken : (g : List Event) → OrderedOrLost p s h g → QueuesFit p words queues g (set takers (s - 1) now)
+      one_taken g came = ⊎_elim (ordered_taken g) (losing_taken g) came

@@ -1,0 +1,21 @@
+-- What a journal has grown by where flushes were taken from their queues.
+use Rattle.std.specs.Prelude.{◌≡◌, ◌⊎◌, ℕ, List, [], ◌∷◌, length}
+use Rattle.gpu_plan.specs.Plans.{PlansData}
+use Rattle.sync_core.specs.Standing.{IsKnown}
+use Rattle.gpu_journal.specs.declared.event.Event.{Event}
+use Rattle.gpu_journal.specs.declared.event.Event.TheVariants.{Lost}
+use Rattle.gpu_journal.specs.declared.event.Why.TheVariants.{Memory}
+use Rattle.gpu_journal.specs.Serial.{order_event}
+
+-- the next flush of stream s was ordered, or for want of memory the stream was lost
+abbrev pub OrderedOrLost : PlansData → ℕ → List Event → List Event → Type 0
+OrderedOrLost p s old new = (new ≡ order_event p old s ∷ old) ⊎ (new ≡ Lost s Memory [] ∷ old)
+
+-- so it was with some stream
+abbrev pub IsCollected : PlansData → List Event → List Event → Type 0
+IsCollected p old new = (s : ℕ) × IsKnown (length p.plans) s × OrderedOrLost p s old new
+
+-- so it was again and again, and nothing else has come to the journal
+abbrev pub HasCollected : PlansData → List Event → List Event → Type 0
+HasCollected p old [] = old ≡ []
+HasCollected p old (event ∷ new) = (old ≡ event ∷ new) ⊎ (IsCollected p new (event ∷ new) × HasCollected p old new)

@@ -1,0 +1,5 @@
+pub mod Takers
+pub mod Collecting
+pub mod Ready
+pub mod Commits
+pub mod Settling

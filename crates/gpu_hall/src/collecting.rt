@@ -1,0 +1,84 @@
+//! Flushes come to the house by their queues.
+ghost use Rattle.std.specs.Prelude.{◌≡◌, ◌<◌, ◌⊎◌, length, true};
+ghost use Rattle.gpu_plan.specs.Plans.{plan_of};
+ghost use Rattle.gpu_plan.specs.Passes.{flushes};
+ghost use Rattle.gpu_plan.specs.Places.{mark_of};
+ghost use Rattle.sync_core.specs.Standing.{IsKnown, is_open};
+ghost use Rattle.gpu_journal.specs.World.{known};
+ghost use Rattle.gpu_journal.specs.Waits.{standing_of};
+ghost use Rattle.gpu_house.specs.Names.{table_at};
+ghost use Rattle.gpu_hall.specs.Collecting.{OrderedOrLost, HasCollected};
+
+use crate::hall::Hall;
+use crate::side::NamedSide;
+use flush_queue::FlushQueue;
+use gpu_house::{House, Naming};
+use shm_words::Note;
+use std::sync::Wait;
+use wait_hooks::Hook;
+
+// Orders the next flush of an open stream, or for want of memory loses the stream.
+fn order_or_lose<N: Naming, P: NamedSide, H: Hook>(
+    house: &mut House<N, P, H>,
+    stream: u32,
+    note: Note,
+)
+    requires known { IsKnown (length N.plans.plans) stream }
+    requires next { (known N.plans house.old.core.past stream).ordered < flushes (plan_of N.plans stream).actions }
+    requires open { is_open (standing_of N.plans house.old.core.past stream) ≡ true }
+    requires mark { note.mark ≡ mark_of (plan_of N.plans stream) (known N.plans house.old.core.past stream).ordered }
+    requires table { note.table ≡ table_at N.words stream }
+    ensures { OrderedOrLost N.plans stream house.old.core.past house.new.core.past }
+{
+    match house.order(stream, note) {
+        Ok(_) => {}
+        Err(_) => house.lose_client(stream),
+    }
+}
+
+impl<N: Naming, P: NamedSide, H: Hook> Hall<N, P, H> {
+    // Takes the next flush of a stream, where there is one, and orders it. That of a lost stream is dropped.
+    fn collect_next<R: Wait>(&mut self, rt: &R, stream: u32, queue: &FlushQueue) -> bool
+        requires known { IsKnown (length N.plans.plans) stream }
+        requires queue { queue.now ≡ table_at N.queues stream }
+        ensures { (self.new ≡ self.old) ⊎ OrderedOrLost N.plans stream self.old self.new }
+    {
+        let Hall { house, takers } = self;
+        let Some(note) = queue.take_next(rt, &mut takers[stream as usize - 1]) else {
+            return false;
+        };
+        if house.is_lost(stream) {
+            return true;
+        }
+        let _ = house.journal();
+        order_or_lose(house, stream, note);
+        true
+    }
+
+    // Takes the flushes of a stream until none is left.
+    #[tactic(auto, using(crate::proofs::Collected::none_collected, crate::proofs::Collected::next_collected))]
+    fn collect_from<R: Wait>(&mut self, rt: &R, stream: u32, queue: &FlushQueue)
+        requires known { IsKnown (length N.plans.plans) stream }
+        requires queue { queue.now ≡ table_at N.queues stream }
+        ensures { HasCollected N.plans self.old self.new }
+    {
+        for _ in rt.forever() {
+            if !self.collect_next(rt, stream, queue) {
+                return;
+            }
+        }
+    }
+
+    /// For each stream in rising number, takes flushes from its queue until that is empty, and orders each. Those of a lost stream are
+    /// dropped. Where memory is wanted for an order, its stream is lost.
+    #[tactic(auto, using(crate::proofs::Collected::none_collected, crate::proofs::Collected::all_collected))]
+    pub fn collect<R: Wait>(&mut self, rt: &R, queues: &[FlushQueue])
+        requires queues { queues.now ≡ N.queues }
+        requires many { length N.queues ≡ length N.plans.plans }
+        ensures { HasCollected N.plans self.old self.new }
+    {
+        for stream in 1..=self.count() {
+            self.collect_from(rt, stream, &queues[stream as usize - 1]);
+        }
+    }
+}

@@ -1,0 +1,18 @@
+-- The words and the queues of all streams.
+use Rattle.std.specs.Prelude.{◌≡◌, ℕ, ◌-◌, List, length, slice_get, IfSome}
+use Rattle.atomic_table.specs.Seated.{TableId}
+use Rattle.gpu_plan.specs.Plans.{PlansData}
+use Rattle.sync_core.specs.Standing.{IsKnown}
+use Rattle.gpu_house.specs.Names.{table_at}
+
+-- there are words of each stream, in order, and they are of the tables that are named for it
+pub record AreWordsOf {Words : Type 0} (words_of : Words → TableId → TableId → Type 0) (p : PlansData) (tables results : List TableId) (words : List Words) : Type 0 where
+  pub count : length words ≡ length p.plans
+  pub each : (s : ℕ) → IsKnown (length p.plans) s → IfSome (slice_get words (s - 1)) (λ own. words_of own (table_at tables s) (table_at results s))
+
+-- these are the words and the queues of all streams, in order, by their names
+pub record AreShared (p : PlansData) (tables names words queues : List TableId) : Type 0 where
+  pub words_are : words ≡ tables
+  pub queues_are : queues ≡ names
+  pub word_count : length tables ≡ length p.plans
+  pub queue_count : length names ≡ length p.plans

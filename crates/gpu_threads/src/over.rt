@@ -1,0 +1,47 @@
+//! Whether something is left to do.
+ghost use Rattle.std.specs.Prelude.{◌≡◌, ◌≢◌, length, IsTrue};
+ghost use Rattle.sync_core.specs.Standing.{IsKnown};
+ghost use Rattle.gpu_journal.specs.Complete.{IsComplete};
+ghost use Rattle.gpu_house.specs.Ending.{doing_of};
+
+use gpu_hall::{Hall, NamedSide};
+use gpu_house::{Doing, Naming};
+use wait_hooks::Hook;
+
+// Whether nothing is left to do for a stream.
+fn is_over<N: Naming, P: NamedSide, H: Hook>(hall: &Hall<N, P, H>, stream: u32) -> bool
+    requires { IsKnown (length N.plans.plans) stream }
+    ensures { IsTrue result → doing_of N.plans hall.now stream ≢ Doing.Open }
+{
+    match hall.state(stream) {
+        Doing::Open => false,
+        Doing::AllDone => true,
+        Doing::Lost => true,
+        Doing::Closed => true,
+    }
+}
+
+/// Whether nothing is left to do for any stream.
+#[tactic(auto, using(crate::proofs::Complete::complete, crate::proofs::Complete::one_more_over))]
+pub(crate) fn all_over<N: Naming, P: NamedSide, H: Hook>(hall: &Hall<N, P, H>) -> bool
+    ensures { IsTrue result → IsComplete N.plans hall.now }
+{
+    for stream in 1..=hall.count() {
+        if !is_over(hall, stream) {
+            return false;
+        }
+    }
+    true
+}
+
+/// Whether a stream is lost or closed.
+pub(crate) fn is_gone<N: Naming, P: NamedSide, H: Hook>(hall: &Hall<N, P, H>, stream: u32) -> bool
+    requires { IsKnown (length N.plans.plans) stream }
+{
+    match hall.state(stream) {
+        Doing::Open => false,
+        Doing::AllDone => false,
+        Doing::Lost => true,
+        Doing::Closed => true,
+    }
+}

@@ -1,0 +1,78 @@
+ghost use Rattle.std.specs.Prelude.{◌≡◌, ◌+◌, [], ◌∷◌, ◌++◌, length, List, IfOk, OnOk};
+ghost use Rattle.gpu_plan.specs.Plans.{PlanData};
+ghost use Rattle.gpu_threads.specs.Making.{AreFreshFor};
+
+use crate::client::Client;
+use flush_queue::{FlushQueue, Taker};
+use gpu_books::{Book, Half};
+use gpu_plan::{Plan, Plans};
+use gpu_word::Memory;
+use shm_words::{ServicePass, SharedWords};
+use std::alloc::Global;
+use std::sync::Wait;
+
+/// What a run on threads is made of. Of each stream, in order: the words that it shares with its client, the client, the service's side
+/// of the words, its results, its book, the queue of its flushes, and the end at which they are taken.
+#[derive(Drop)]
+pub(crate) struct Parts {
+    pub(crate) words: Vec<SharedWords>,
+    pub(crate) clients: Vec<Client>,
+    pub(crate) sides: Vec<ServicePass>,
+    pub(crate) results: Vec<()>,
+    pub(crate) books: Vec<(Book, Half, Half)>,
+    pub(crate) queues: Vec<FlushQueue>,
+    pub(crate) takers: Vec<Taker>,
+}
+
+impl Parts {
+    // Those of no stream, with room for so many.
+    fn none(alloc: Global, streams: usize) -> Result<Parts, Memory>
+        ensures { IfOk result (AreFreshFor []) }
+    {
+        Ok(Parts {
+            words: Vec::with_capacity(alloc, streams)?,
+            clients: Vec::with_capacity(alloc, streams)?,
+            sides: Vec::with_capacity(alloc, streams)?,
+            results: Vec::with_capacity(alloc, streams)?,
+            books: Vec::with_capacity(alloc, streams)?,
+            queues: Vec::with_capacity(alloc, streams)?,
+            takers: Vec::with_capacity(alloc, streams)?,
+        })
+    }
+
+    // Those of one stream more, which has this number.
+    fn push<R: Wait>(
+        &mut self,
+        rt: &R,
+        alloc: Global,
+        stream: u32,
+        plan: &Plan,
+    ) -> Result<(), Memory>
+        ensures { OnOk result ((plans : List PlanData) → stream ≡ length plans + 1 → AreFreshFor plans self.old
+            → AreFreshFor (plans ++ plan.now ∷ []) self.new) }
+    {
+        let (words, pass, side) = shm_words::make(alloc, plan)?;
+        let (queue, poster, taker, pass) = flush_queue::make(rt, alloc, pass)?;
+        let book = gpu_books::make(alloc)?;
+        let client = Client::make(stream, pass, poster);
+        self.words.push(words)?;
+        self.clients.push(client)?;
+        self.sides.push(side)?;
+        self.results.push(())?;
+        self.books.push(book)?;
+        self.queues.push(queue)?;
+        self.takers.push(taker)?;
+        Ok(())
+    }
+
+    /// Those of the streams of a script, of which nothing is done.
+    pub(crate) fn make<R: Wait>(rt: &R, alloc: Global, plans: &Plans) -> Result<Parts, Memory>
+        ensures { IfOk result (AreFreshFor plans.now.plans) }
+    {
+        let mut parts = Parts::none(alloc, plans.count() as usize)?;
+        for done in 0..plans.count() {
+            parts.push(rt, alloc, done + 1, plans.plan(done + 1))?;
+        }
+        Ok(parts)
+    }
+}

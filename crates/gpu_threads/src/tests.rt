@@ -1,0 +1,5 @@
+mod crossing;
+mod gates;
+mod holding;
+mod running;
+mod scripts;

@@ -1,0 +1,106 @@
+//! Scripts of the tests, and what their runs leave.
+
+use crate::run_threads;
+use gpu_house::{Doing, Report};
+use gpu_io::Gate;
+use gpu_journal::journal_text;
+use gpu_plan::{Plans, parse};
+use std::alloc::Global;
+use std::sync::Wait;
+use std::test::Fail;
+use std::thread::Threads;
+use wait_hooks::Marker;
+
+/// A client that makes an image of two texels and clears it.
+pub(crate) const TWO_TEXELS: &str = "gpu-script 1
+stream 1 normal 16
+put 0 20400004 1 2 1 20800007 1 0 0 2 1 ff0000ff
+flush 11
+";
+
+/// Two clients: one waits for its flush and closes, the other goes its own way.
+pub(crate) const ONE_CLOSES: &str = "gpu-script 1
+stream 1 normal 16
+put 0 20400004 1 2 1 20800007 1 0 0 2 1 ff0000ff
+flush 11
+finish
+close
+stream 2 high 16
+put 0 20400004 2 1 1
+flush 4
+";
+
+/// Two clients, of which the first has two flushes.
+pub(crate) const TWO_AND_ONE: &str = "gpu-script 1
+stream 1 normal 16
+flush 0
+flush 0
+stream 2 normal 16
+flush 0
+";
+
+/// Two clients with a command each.
+pub(crate) const ONE_EACH: &str = "gpu-script 1
+stream 1 normal 16
+put 0 1
+flush 1
+stream 2 normal 16
+put 0 1
+flush 1
+";
+
+/// A client whose one command has no size.
+pub(crate) const LOST: &str = "gpu-script 1
+stream 1 normal 16
+put 0 0
+flush 1
+";
+
+/// A client that uploads a word, overwrites it after its flush, uploads it again, and overwrites it once more.
+pub(crate) const RACE: &str = "gpu-script 1
+stream 1 normal 32
+memory 0 1
+put 0 20400004 1 1 1 20c00009 1 0 0 1 1 1 0 0
+fill 0 0 44332211
+flush 13
+fill 0 0 88776655
+put 13 20c00009 1 0 0 1 1 1 0 0
+flush 22
+fill 0 0 ccbbaa99
+";
+
+// The plans of a script.
+pub(crate) fn plans_of(alloc: Global, script: &str) -> Result<Plans, Fail> {
+    if script.len() > 16_777_216 {
+        return Err("a script".into());
+    }
+    Ok(parse(alloc, script.as_bytes()).ok().ok_or("a script")?)
+}
+
+// What a run of a script with so many workers leaves, where a gate leads it.
+pub(crate) fn led<G: Gate + Sync, R: Threads + Wait + Sync>(
+    rt: &R,
+    alloc: Global,
+    script: &str,
+    workers: u32,
+    gate: &G,
+) -> Result<Report, Fail> {
+    let plans = plans_of(alloc, script)?;
+    let ran = run_threads(rt, alloc, plans, workers, Marker::make(1000), gate).ok();
+    let (report, _) = ran.ok_or("memory is ample")?;
+    Ok(report)
+}
+
+// The lines of a report's journal.
+pub(crate) fn lines_of(alloc: Global, report: &Report) -> Result<Vec<u8>, Fail> {
+    let text = journal_text(alloc, report.journal().events()).ok();
+    Ok(text.ok_or("memory is ample")?)
+}
+
+// What a stream was doing at the end.
+pub(crate) fn doing(report: &Report, stream: u32) -> Result<Doing, Fail> {
+    if stream == 0 || stream > report.plans().count() {
+        return Err("a stream of the script".into());
+    }
+    Ok(report.state(stream))
+}

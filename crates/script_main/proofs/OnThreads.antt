@@ -1,0 +1,57 @@
+-- What the clients of a run on threads have read, as the lines of its dumps.
+use Rattle.std.proofs.Common.{◌≡◌, ℕ, zero, suc, List, [], ◌∷◌, ◌++◌, ◌+◌, length, reverse, refl, ap, ◌∙◌}
+use Rattle.std.specs.List.{concat, flat_map, range_with_len}
+use Rattle.std.proofs.lemmas.List.FromFn.{length-range_with_len}
+use Rattle.gpu_plan.specs.Plans.{PlansData}
+use Rattle.wait_hooks.specs.Marks.{mark}
+use Rattle.gpu_journal.specs.declared.event.Event.{Event}
+use Rattle.gpu_journal.specs.Lines.{dump_text}
+use Rattle.gpu_journal.specs.Legal.{IsLegal}
+use Rattle.gpu_journal.specs.Complete.{IsComplete}
+use Rattle.gpu_journal.specs.Output.{streams_of, output}
+use Rattle.gpu_journal.specs.Dumps.{AreDumps, AreDumpsOf, dumps_of}
+use Rattle.run_output.specs.Parts.{dump_read_text, dump_texts}
+use Rattle.run_output.specs.Runs.{RunData, run_text}
+use Rattle.gpu_threads.specs.Dumps.{AreRead, AreAllRead}
+use Rattle.script_main.specs.Runs.{IsRun, IsOutput, run_ending}
+
+-- the text of what was read of some dumps of a stream is one that may be told of them
+reads_are_told : (p : PlansData) (h : List Event) (s : ℕ) (dumps : List (ℕ × ℕ)) (reads : List (ℕ × ℕ × ℕ)) → AreRead p h s dumps reads → AreDumps p h s dumps (flat_map (dump_read_text s) reads)
+reads_are_told p h s [] [] are = refl
+reads_are_told p h s [] (read ∷ reads) are = absurd are
+reads_are_told p h s (dump ∷ dumps) [] are = absurd are
+reads_are_told p h s (dump ∷ dumps) (read ∷ reads) are =
+    let rest = flat_map (dump_read_text s) reads in
+    let same : flat_map (dump_read_text s) (read ∷ reads) ≡ dump_text s dump.0 dump.1 read.2 ++ rest = ap (λ (a : ℕ). dump_text s a read.1 read.2 ++ rest) are.0.action ∙ ap (λ (i : ℕ). dump_text s dump.0 i read.2 ++ rest) are.0.place in
+    (read.2, rest, are.0.value, same, reads_are_told p h s dumps reads are.1)
+
+-- so is that of what was read of n streams, from stream s on
+all_are_told : (p : PlansData) (h : List Event) (s n : ℕ) (all : List (List (ℕ × ℕ × ℕ))) → AreAllRead p h (range_with_len s n) all → AreDumpsOf p h (range_with_len s n) (concat (dump_texts s all))
+all_are_told p h s zero [] are = refl
+all_are_told p h s zero (reads ∷ more) are = absurd are
+all_are_told p h s (suc n) [] are = absurd are
+all_are_told p h s (suc n) (reads ∷ more) are =
+    (flat_map (dump_read_text s) reads, concat (dump_texts (s + 1) more), reads_are_told p h s (dumps_of p h s) reads are.0, refl, all_are_told p h (s + 1) n more are.1)
+
+-- there is a list of reads for each stream
+length_all : (p : PlansData) (h : List Event) (streams : List ℕ) (all : List (List (ℕ × ℕ × ℕ))) → AreAllRead p h streams all → length all ≡ length streams
+length_all p h [] [] are = refl
+length_all p h [] (reads ∷ more) are = absurd are
+length_all p h (s ∷ streams) [] are = absurd are
+length_all p h (s ∷ streams) (reads ∷ more) are = ap suc (length_all p h streams more are.1)
+
+pub length_all_read : (p : PlansData) (h : List Event) (all : List (List (ℕ × ℕ × ℕ))) → AreAllRead p h (streams_of p) all → length all ≡ length p.plans
+length_all_read p h all are = length_all p h (streams_of p) all are ∙ length-range_with_len 1 (length p.plans)
+
+-- the text of a run whose history is legal and complete, with what its clients have read behind it, is its output by the rule of threads
+pub threads_output : (p : PlansData) (base : ℕ) (run : RunData) → run.report.plans ≡ p → run.report.base ≡ base → IsLegal p run.report.past → IsComplete p run.report.past → AreAllRead p run.report.past (streams_of p) run.dumps → IsOutput IsRun p base (run_ending (reverse run.report.past)) (run_text run)
+threads_output p base run plans based legal complete are =
+    let behind = concat (dump_texts 1 run.dumps) in
+    let same : run_text run ≡ output p (mark base) run.report.past ++ behind = ap (λ (q : PlansData). output q (mark run.report.base) run.report.past ++ behind) plans ∙ ap (λ (b : ℕ). output p (mark b) run.report.past ++ behind) based in
+    record {
+      history = run.report.past;
+      behind = behind;
+      ran = record { legal = legal; complete = complete; dumped = all_are_told p run.report.past 1 (length p.plans) run.dumps are };
+      ends = refl;
+      told = same;
+    }

@@ -1,0 +1,82 @@
+ghost use Rattle.std.specs.Prelude.{◌≡◌, ◌≤◌, length, reverse, IfOk};
+ghost use Rattle.run_output.specs.Runs.{run_text};
+ghost use Rattle.gpu_io.specs.Whole.{most_bytes};
+ghost use Rattle.script_main.specs.declared.command.Command.TheVariants.{RunOnThreads};
+ghost use Rattle.script_main.specs.Commands.{IsSized};
+ghost use Rattle.script_main.specs.Runs.{IsRun, IsOutput, run_ending};
+ghost use Rattle.script_main.specs.Says.{Says};
+ghost use Rattle.script_main.specs.Answers.{answer_ending, answer_text};
+
+use crate::answer::Answer;
+use crate::answering::answer_to;
+use crate::command::Command;
+use crate::status::Status;
+use gpu_io::Gate;
+use gpu_plan::{Plans, ScriptFault, parse};
+use gpu_threads::run_threads;
+use gpu_word::Memory;
+use run_output::RunOutput;
+use std::alloc::Global;
+use std::sync::Wait;
+use std::thread::Threads;
+use wait_hooks::Hook;
+
+// Runs a script on threads, and takes all memory that writing its output takes.
+#[tactic(auto, using(crate::proofs::OnThreads::threads_output, crate::proofs::OnThreads::length_all_read))]
+fn run_plans<H: Hook + Send, G: Gate + Sync, R: Threads + Wait + Sync>(
+    rt: &R,
+    alloc: Global,
+    plans: Plans,
+    workers: u32,
+    gate: &G,
+    hook: H,
+) -> Result<RunOutput, Memory>
+    ensures { IfOk result (λ run.
+        IsOutput IsRun plans (H.base hook) (run_ending (reverse run.report.past)) (run_text run)) }
+{
+    let (report, dumps) = run_threads(rt, alloc, plans, workers, hook, gate)?;
+    RunOutput::make(alloc, report, dumps)
+}
+
+// What `run` says of an input with so many workers.
+fn run_answer<H: Hook + Send, G: Gate + Sync, R: Threads + Wait + Sync>(
+    rt: &R,
+    alloc: Global,
+    workers: u32,
+    input: &[u8],
+    gate: &G,
+    hook: H,
+) -> Result<Answer, Memory>
+    requires { length input.now ≤ most_bytes }
+    ensures { IfOk result (λ answer.
+        Says (RunOnThreads workers) (H.base hook) input.now (answer_ending answer) (answer_text answer)) }
+{
+    match parse(alloc, input) {
+        Ok(plans) => Ok(Answer::Ran(run_plans(rt, alloc, plans, workers, gate, hook)?)),
+        Err(ScriptFault::Refused { line, kind }) => Ok(Answer::Found(Status::Refused {
+            line,
+            kind,
+        })),
+        Err(ScriptFault::Memory) => Err(Memory),
+    }
+}
+
+/// What a command says of an input: a run on threads, or one of plain words. It neither reads nor writes.
+pub(crate) fn answer_on<H: Hook + Send, G: Gate + Sync, R: Threads + Wait + Sync>(
+    rt: &R,
+    alloc: Global,
+    command: Command,
+    input: &[u8],
+    gate: &G,
+    hook: H,
+) -> Result<Answer, Memory>
+    requires short { length input.now ≤ most_bytes }
+    requires sized { IsSized command }
+    ensures said { IfOk result (λ answer.
+        Says command (H.base hook) input.now (answer_ending answer) (answer_text answer)) }
+{
+    match command {
+        Command::RunOnThreads { workers } => run_answer(rt, alloc, workers, input, gate, hook),
+        _ => answer_to(alloc, command, input, hook),
+    }
+}
