@@ -2,6 +2,7 @@
 
 Nothing of it is shared with the crates, and it keeps no counters where it can look again. `answer(words, text)` gives
 the status, the output and the line on standard error of `run`, `check`, `generate` and `trial`; `verify` is left out.
+Histories of other runs, as those on threads, are judged by model_history.py.
 """
 
 from model_run import Run
@@ -12,11 +13,23 @@ BASE = 1000
 
 
 def output(run):
+    return joined(head(run) + run.events + rest(run) + dumps(run))
+
+
+def joined(text):
+    return "".join(line + "\n" for line in text)
+
+
+def head(run):
+    """The lines before the journal."""
+    if run.version == 1:
+        return []
+    return ["gpu-journal 2"] + [f"name {n} {s.plan.name[0]} {s.plan.name[1]}" for n, s in enumerate(run.streams, 1)]
+
+
+def rest(run):
+    """The lines that follow from the journal: the images, how each stream ended, and the marks."""
     text = []
-    if run.version == 2:
-        text.append("gpu-journal 2")
-        text += [f"name {n} {s.plan.name[0]} {s.plan.name[1]}" for n, s in enumerate(run.streams, 1)]
-    text += run.events
     for image, (width, height, texels) in sorted(run.images.items()):
         text.append(f"image {image} {width} {height}")
         text += [" ".join(f"{t:08x}" for t in texels[y * width:(y + 1) * width]) for y in range(height)]
@@ -26,10 +39,12 @@ def output(run):
     how_much = {"release": 0, "guard": 1, "closed": 2}
     for number, order, to, release, how in run.endings:
         text.append(f"mark {number} {order} {to} {release} {how} {(BASE + 4 * order + how_much[how]) % 2**32}")
-    for number, s in enumerate(run.streams, 1):
-        if s.gone is None or s.gone == "closed":
-            text += [f"dump {number} {at} {place} {v:08x}" for at, place, v in dumps_of(s)]
-    return "".join(line + "\n" for line in text)
+    return text
+
+
+def dumps(run):
+    return [f"dump {number} {at} {place} {v:08x}" for number, s in enumerate(run.streams, 1)
+            if s.gone in (None, "closed") for at, place, v in dumps_of(s)]
 
 
 def dumps_of(s):
@@ -59,7 +74,7 @@ def generate(size, seed):
             text += [f"put {base} 20200004 {o:x} {j:x} 0 20800007 {s:x} {a:x} {b:x} 1 1 {t:x} 20a00009 {o:x} 0 0 {s:x} "
                      f"8 8 4 4 20c00009 {s:x} {c:x} {d:x} 1 1 1 0 0 20000003 {j:x} 0",
                      f"fill 0 0 {v:x}", f"flush {put}", "finish"]
-    return "".join(line + "\n" for line in text)
+    return joined(text)
 
 
 def trial(size, seed):

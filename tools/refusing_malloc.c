@@ -8,16 +8,17 @@
 #include <stdlib.h>
 #include <unistd.h>
 
-static long left;
+static long refused, calls;
 
 /* Before main, and before any call of the program itself. */
 __attribute__((constructor)) static void begin(void) {
     const char *at = getenv("REFUSE_AT");
-    left = at ? atol(at) : 0;
+    refused = at ? atol(at) : 0;
 }
 
+/* Calls may come from several threads at once; each of them has a number of its own. */
 static int is_refused(void) {
-    if (left == 0 || --left != 0) {
+    if (refused == 0 || __atomic_add_fetch(&calls, 1, __ATOMIC_SEQ_CST) != refused) {
         return 0;
     }
     const char *told = getenv("REFUSE_TOLD");

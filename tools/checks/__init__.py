@@ -7,10 +7,15 @@ import importlib
 import subprocess
 import sys
 
-PARTS = ("pictures", "traces", "mutations", "explaining", "manual", "releases", "pages")
+PARTS = ("workers", "memory", "pictures", "traces", "mutations", "explaining", "manual", "releases", "pages")
 
 # Faults that the parts have to find, for the test of the check itself: a part, a file, what stands there, what is put there.
 PLANTED = (
+    ("memory", "crates/seq_sched/src/scheduler.rt", "if priorities.len() > u32::MAX as usize {", "if priorities.len() > 3 {"),
+    ("memory", "crates/wait_hooks/src/hooks.rt", "self.marks.reserve(room)?;",
+     "if more == 9 {\n            return Err(Memory);\n        }\n        self.marks.reserve(room)?;"),
+    ("memory", "crates/gpu_hall/src/runs.rt", "match next {", "self.house.lose(run);\n        match next {"),
+    ("memory", "tools/checks/memory_places.txt", "house_core/core_of.rt take_room", "house_core/core_of.rt make_room"),
     ("mutations", "view/output.py", "return bytes.fromhex(row)", "return bytes.fromhex(row)[::-1]"),
     ("traces", "view/trace.py", 'if event.kind != "order":', 'if event.kind == "finish":'),
     ("traces", "view/trace.py", '"ts": bar.begin + 1', '"ts": bar.begin + 2'),

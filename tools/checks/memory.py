@@ -1,0 +1,86 @@
+"""Sees that want of memory is answered only where an allocation was refused, or where a list says why else.
+
+No contract ties want of memory to a cause, so a body that answers it without need would be proved. This search finds each place
+of the sources, tests left out, that makes such an answer: a `Memory` of any type, a status that tells of it, and a call by which
+a stream is lost for it. Each has to stand in the list PLACES with its reason, with the function that it is in and with its guard,
+which is the nearest line before it that is indented less, as the head of an `if` or of a `match`; and each place of the list has
+to be there. What is declared or matched, and what a clause or a type says, is no answer. `?` passes on what was made elsewhere,
+by `From` too, whose bodies are places.
+"""
+
+import re
+from pathlib import Path
+
+PLACES = Path(__file__).with_name("memory_places.txt")
+REMARK = re.compile(r"//[^\n]*")
+CLAUSE = re.compile(r"\b(?:requires|ensures|invariant|decreases|ghost \w+ =)\s*(?:\w+\s*)?\{")
+NO_ANSWER = re.compile(r"(?:pub(?:\(crate\))? )?(?:use|ghost|mod|fn|struct|enum|trait|impl)\b|#!?\[|[A-Z]\w*,$")
+TYPE = re.compile(r"Result<.*?\bMemory>|: Memory\b")
+ANSWER = re.compile(r"\b(?:Memory|NoMemory|MemoryLost)\b(?!::)|\b(?:no_memory|lose_client|lose_for_memory)\(|\.lose\(\w+\)")
+FUNCTION = re.compile(r"\bfn (\w+)")
+
+
+def blanked(text):
+    """A text with its remarks and its clauses as blanks."""
+    text = REMARK.sub(lambda found: " " * len(found[0]), text)
+    at = 0
+    while (found := CLAUSE.search(text, at)) is not None:
+        depth, end = 1, found.end()
+        while depth and end < len(text):
+            depth += (text[end] == "{") - (text[end] == "}")
+            end += 1
+        text = text[:found.start()] + re.sub(r"[^\n]", " ", text[found.start():end]) + text[end:]
+        at = end
+    return text
+
+
+def indent(line):
+    return len(line) - len(line.lstrip())
+
+
+def guard_of(lines, at):
+    """The nearest line before this one that is indented less."""
+    for line in reversed(lines[:at]):
+        if line.strip() not in ("", "{") and indent(line) < indent(lines[at]):
+            return line.strip()
+    return ""
+
+
+def places_of_file(name, text):
+    """Each place of a source: the file with the function, the guard and the line."""
+    lines, function = blanked(text).split("\n"), ""
+    for at, line in enumerate(lines):
+        found = FUNCTION.search(line)
+        function = found[1] if found else function
+        answer = TYPE.sub("", line.strip()).split("=>")[-1].strip()
+        if not NO_ANSWER.match(answer) and ANSWER.search(answer):
+            yield f"{name} {function}", guard_of(lines, at), line.strip()
+
+
+def places_of(top):
+    for path in sorted((top / "crates").glob("*/src/**/*.rt")):
+        if "tests" not in path.parts and path.stem != "tests":
+            name = path.relative_to(top / "crates").as_posix().replace("/src/", "/")
+            yield from places_of_file(name, path.read_text(encoding="utf-8"))
+
+
+def allowed():
+    """The places of the list with their reasons. A block has a line for the place, the guard and the line; then comes the reason."""
+    places = {}
+    for block in PLACES.read_text(encoding="utf-8").split("\n\n"):
+        parts = [line.strip() for line in block.strip().split("\n") if not line.startswith("#")]
+        if parts:
+            assert len(parts) >= 4, f"{PLACES.name} has no reason for {parts}"
+            places[tuple(parts[:3])] = " ".join(parts[3:])
+    return places
+
+
+def check(top, program, tally):
+    known, found = allowed(), list(places_of(top))
+    for place in found:
+        where, guard, line = place
+        fault = f"want of memory is answered behind `{guard}`, and no reason is listed"
+        tally.tell(f"crates/{where}: {line}", None if place in known else fault)
+    for place in known:
+        if place not in found:
+            tally.tell(f"crates/{place[0]}: {place[2]}", f"{PLACES.name} lists it, and it is not there")
