@@ -39,6 +39,12 @@ open_steps : (p : PlansData) (s : ℕ) (ws : List (List (ℕ × ℕ))) (h : List
 open_steps p s [] h = refl
 open_steps p s (words ∷ ws) h = open_steps p s ws (event.Step s words ∷ h) ∙ step_open p h s words
 
+-- no step was made, for want of memory
+pub lost_first : (p : PlansData) (h g : List Event) (s n : ℕ) (members : List (List (ℕ × ℕ))) (o : Bool) → is_open (standing_of p h s) ≡ o → (o ≡ true → g ≡ event.Lost s Memory [] ∷ h) → (o ≡ false → g ≡ h)
+    → (how : Return) × CameHome p h g s n members how
+lost_first p h g s n members true is lost over = (Wanted, record { first = []; rest = members; those = refl; before = record { still_open = is; valid = tt; waits = refl; steps = refl }; loss = lost refl })
+lost_first p h g s n members false is lost over = (WasOver, record { over = is; same = over refl })
+
 -- what each event keeps that is no order
 abbrev pub IsKept : (List Event → Type 0) → Type 0
 IsKept F = (e : Event) (h : List Event) → is_order e ≡ false → F h → F (e ∷ h)

@@ -17,8 +17,6 @@ use Rattle.gpu_journal.specs.Serial.{order_event}
 use Rattle.serial_laws.proofs.Others.{along, moved_by, standing_own, standing_other, known_own, known_other}
 use Rattle.serial_laws.proofs.Flushes.{flush_there}
 use Rattle.run_laws.proofs.Ended.{next_open}
-use Rattle.house_core.specs.declared.ends.Closing.{Closing}
-use Rattle.house_core.specs.declared.ends.Closing.TheVariants as closing
 use Rattle.gpu_house.proofs.Rows.{each_set, position_of}
 use Rattle.gpu_hall.specs.Takers.{TakerFits, QueuesFit}
 use Rattle.gpu_hall.specs.Collecting.{OrderedOrLost}
@@ -91,18 +89,6 @@ module _ (p : PlansData) (words queues : List TableId) where
 
   pub takers_keep : (takers : List EndData) (e : Event) (h : List Event) → is_order e ≡ false → QueuesFit p words queues h takers → QueuesFit p words queues (e ∷ h) takers
   takers_keep takers e h not_order fit = takers_event e h (e ∷ h) takers refl not_order fit
-
-  -- an event that comes only while its stream is open
-  pub takers_while : (e : Event) (h g : List Event) (takers : List EndData) (o : Bool) → is_order e ≡ false → (o ≡ true → g ≡ e ∷ h) → (o ≡ false → g ≡ h) → QueuesFit p words queues h takers → QueuesFit p words queues g takers
-  takers_while e h g takers true not_order event over fit = takers_event e h g takers (event refl) not_order fit
-  takers_while e h g takers false not_order event over fit = takers_same h g takers (over refl) fit
-
-  pub takers_closed : (h g : List Event) (takers : List EndData) (s : ℕ) (answer : Closing) (o : Bool) → (answer ≡ closing.Closed → o ≡ true → g ≡ Close s ∷ h)
-      → ((answer ≡ closing.Closed → o ≡ true → ⊥) → g ≡ h) → QueuesFit p words queues h takers → QueuesFit p words queues g takers
-  takers_closed h g takers s closing.Closed true event same fit = takers_event (Close s) h g takers (event refl refl) refl fit
-  takers_closed h g takers s closing.Closed false event same fit = takers_same h g takers (same (λ a b. absurd (cc))) fit
-  takers_closed h g takers s closing.Early o event same fit = takers_same h g takers (same (λ a b. absurd (cc))) fit
-  takers_closed h g takers s closing.Lost o event same fit = takers_same h g takers (same (λ a b. absurd (cc))) fit
 
   -- ---- a flush of stream s is taken: its taker was one and is another now
 

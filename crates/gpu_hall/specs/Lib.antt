@@ -3,3 +3,5 @@ pub mod Collecting
 pub mod Ready
 pub mod Commits
 pub mod Settling
+pub mod Views
+pub mod Looks

@@ -43,7 +43,7 @@ impl<N: Naming, P: NamedSide, H: Hook> Hall<N, P, H> {
         requires queue { queue.now ≡ table_at N.queues stream }
         ensures { (self.new ≡ self.old) ⊎ OrderedOrLost N.plans stream self.old self.new }
     {
-        let Hall { house, takers } = self;
+        let Hall { house, takers, .. } = self;
         let Some(note) = queue.take_next(rt, &mut takers[stream as usize - 1]) else {
             return false;
         };

@@ -11,6 +11,7 @@ ghost use Rattle.gpu_house.specs.Batches.{member_words, batch_words, AreChained}
 ghost use Rattle.gpu_hall.specs.Commits.{Return, HasSteps, CameHome};
 
 use crate::hall::Hall;
+use crate::noting::{make_room, note_all};
 use crate::side::NamedSide;
 use gpu_house::{Batch, Naming, Next, Run};
 use wait_hooks::Hook;
@@ -29,7 +30,8 @@ impl<N: Naming, P: NamedSide, H: Hook> Hall<N, P, H> {
 
     /// Commits a batch that a run has fetched: steps the run on its members in order, and does under the same lock what is then to be
     /// done. A run whose flush has more commands may go on; one at its end is finished; one whose wait was kept, one of which a command
-    /// is invalid, and one whose stream was over come home; and where memory was wanted the stream is lost behind the steps made.
+    /// is invalid, and one whose stream was over come home; and where memory was wanted, for a step or for the view, the stream is lost
+    /// behind the steps made. What was drawn is noted in the view.
     pub fn commit(&mut self, run: Run<N, P>, words: &P::Words, batch: Batch) -> Option<Run<N, P>>
         requires going { run.run.paused ≡ false }
         requires chained { AreChained run.run.facts batch }
@@ -42,10 +44,16 @@ impl<N: Naming, P: NamedSide, H: Hook> Hall<N, P, H> {
             ((how : Return) × CameHome N.plans self.old self.new run.run.stream run.run.order (member_words batch) how) }
     {
         let mut run = run;
+        if !make_room(&mut self.view, batch.members().len()) {
+            self.house.lose(run);
+            return None;
+        }
         let mut drawn = Vec::new(*self.takers.allocator());
         run.holds();
         self.house.holds();
-        let Ok(next) = self.house.step_batch(&mut run, words, batch, &mut drawn) else {
+        let answer = self.house.step_batch(&mut run, words, batch, &mut drawn);
+        note_all(&mut self.view, drawn);
+        let Ok(next) = answer else {
             self.house.lose(run);
             return None;
         };

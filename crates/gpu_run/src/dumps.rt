@@ -32,6 +32,13 @@ impl Dumps {
         })
     }
 
+    /// These dumps: of each the place of its action, the result place and the value.
+    pub fn of(items: Vec<(u32, u32, u32)>) -> Dumps
+        ensures { result ≡ items.items }
+    {
+        Dumps { items }
+    }
+
     /// One dump more: the place of its action, the result place and the value.
     ///
     /// # Errors

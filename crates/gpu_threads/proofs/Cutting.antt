@@ -1,10 +1,9 @@
 -- A value that was last in a first part of what was written was last after a first part of the history.
 use Rattle.std.proofs.Common.{◌≡◌, ℕ, zero, suc, ◌+◌, ◌-◌, ◌<◌, ◌≤◌, ◌⊎◌, inl, inr, ⊎_elim, eqb, nat_le, Bool, true, false, cond, List, [], ◌∷◌, ◌++◌, length, map, take, get_or, refl, sym, ap, subst, ◌∙◌, arith}
 use Rattle.std.specs.List.{AllPairs}
-use Rattle.std.specs.List.Sorted.{IsStrictlyIncreasing}
 use Rattle.std.proofs.lemmas.Bool.{ne_eqb}
 use Rattle.std.proofs.lemmas.Bool.Decides.{nat_tests}
-use Rattle.std.proofs.lemmas.List.{take-append-le, take-map, append-nil, take_all}
+use Rattle.std.proofs.lemmas.List.{take-append-le, take-map, take_all}
 use Rattle.std.proofs.lemmas.List.Kept.{AllPairs-from_increasing}
 use Rattle.std.proofs.lemmas.List.Sums.{sum_by-append}
 use Rattle.std.proofs.Math.Seq.{take-append-add}
@@ -16,8 +15,8 @@ use Rattle.stream_state.specs.Steps.{writes}
 use Rattle.stream_state.proofs.Runs.{writes_rise}
 use Rattle.gpu_journal.specs.declared.event.Event.{Event}
 use Rattle.gpu_journal.specs.declared.event.Event.TheVariants.{Order, Step, Finish, Lost, Close}
-use Rattle.gpu_journal.specs.World.{known, stream_in, state_of}
-use Rattle.gpu_journal.specs.Written.{written, written_by, result_at}
+use Rattle.gpu_journal.specs.World.{stream_in, state_of}
+use Rattle.gpu_journal.specs.Written.{written, written_by}
 use Rattle.gpu_journal.specs.Dumps.{MayDump}
 use Rattle.gpu_journal.proofs.Folding.{written_then}
 use Rattle.gpu_house.proofs.Counting.{finishes_are}

@@ -1,6 +1,9 @@
+pub mod Planned
 pub mod Going
 pub mod Made
 pub mod Shared
 pub mod Complete
-pub mod Told
 pub mod Cutting
+pub mod Watched
+pub mod Crew
+pub mod Told

@@ -1,6 +1,7 @@
 -- What belongs to one stream, among that of all.
-use Rattle.std.proofs.Common.{◌≡◌, ℕ, zero, suc, ◌-◌, ◌<◌, Option, Some, None, List, [], ◌∷◌, length, get_or, refl, sym, ap, subst, ◌∙◌, arith}
-use Rattle.std.proofs.lemmas.Option.{get_or_from_slice_get}
+use Rattle.std.proofs.Common.{◌≡◌, ℕ, ◌-◌, Option, Some, None, List, length, map, get_or, refl, sym, ap, ◌∙◌}
+use Rattle.std.proofs.lemmas.List.{get_or-map}
+use Rattle.std.proofs.lemmas.Option.{get_or_from_slice_get, slice_get_within}
 use Rattle.std.specs.Prelude.{slice_get, IfSome}
 use Rattle.atomic_table.specs.Seated.{TableId}
 use Rattle.gpu_plan.specs.Plans.{PlansData}
@@ -8,18 +9,23 @@ use Rattle.gpu_fetch.specs.Side.{no_table}
 use Rattle.sync_core.specs.Standing.{IsKnown}
 use Rattle.gpu_house.specs.Names.{table_at}
 use Rattle.gpu_house.proofs.Rows.{position_of}
+use Rattle.gpu_threads.specs.Words.{of_tables}
 use Rattle.gpu_threads.specs.Rows.{AreWordsOf, AreShared}
 
--- shared words are words of their tables
-pub shared_words : (p : PlansData) (tables names results words queues : List TableId) → AreShared p tables names words queues → AreWordsOf (λ own shared result. own ≡ shared) p tables results words
-shared_words p tables names results words queues are = record { count = ap length are.words_are ∙ are.word_count; each = at }
+-- the words of each stream are of its tables
+pub shared_words : (p : PlansData) (tables results names : List TableId) (words : List (TableId × TableId)) (queues : List TableId) → AreShared p tables results names words queues → AreWordsOf of_tables p tables results words
+shared_words p tables results names words queues are = record { count = are.word_count; each = at }
   where
-    at : (s : ℕ) → IsKnown (length p.plans) s → IfSome (slice_get words (s - 1)) (λ own. own ≡ table_at tables s)
+    at : (s : ℕ) → IsKnown (length p.plans) s → IfSome (slice_get words (s - 1)) (λ own. of_tables own (table_at tables s) (table_at results s))
     at s known = by (slice_get words (s - 1)) refl
       where
-        there : get_or words (s - 1) no_table ≡ table_at tables s
-        there = ap (λ (row : List TableId). get_or row (s - 1) no_table) are.words_are ∙ ap (table_at tables) (position_of (length p.plans) s known).0
+        found : (f : TableId × TableId → TableId) (row : List TableId) (own : TableId × TableId) → slice_get words (s - 1) ≡ Some own → map f words ≡ row → f own ≡ table_at row s
+        found f row own e is =
+            ap f (sym (get_or_from_slice_get words (s - 1) own own e))
+            ∙ sym (get_or-map f words (s - 1) own no_table (slice_get_within words (s - 1) own e))
+            ∙ ap (λ (row : List TableId). get_or row (s - 1) no_table) is
+            ∙ ap (table_at row) (position_of (length p.plans) s known).0
 
-        by : (found : Option TableId) → slice_get words (s - 1) ≡ found → IfSome found (λ own. own ≡ table_at tables s)
+        by : (o : Option (TableId × TableId)) → slice_get words (s - 1) ≡ o → IfSome o (λ own. of_tables own (table_at tables s) (table_at results s))
         by None e = tt
-        by (Some own) e = sym (get_or_from_slice_get words (s - 1) own no_table e) ∙ there
+        by (Some own) e = (found (λ (own : TableId × TableId). own.0) tables own e are.words_are, found (λ (own : TableId × TableId). own.1) results own e are.results_are)

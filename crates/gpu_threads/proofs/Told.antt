@@ -1,57 +1,52 @@
--- What is read of the results once the run is over may be told of its dumps.
-use Rattle.std.proofs.Common.{◌≡◌, ℕ, zero, suc, ◌+◌, ◌-◌, ◌≤◌, Bool, true, false, cond, List, [], ◌∷◌, ◌++◌, length, map, take, get_or, Some, None, refl, sym, ap, subst, ◌∙◌, arith}
-use Rattle.std.specs.Prelude.{slice_get, Result, Ok, Err, IfOk}
-use Rattle.std.specs.List.{All, range_with_len}
+-- What the clients have read may be told of their dumps.
+use Rattle.std.proofs.Common.{◌≡◌, ℕ, zero, suc, ◌+◌, Bool, true, false, cond, Some, List, [], ◌∷◌, ◌++◌, map, refl, sym, ap, subst, ◌∙◌, arith}
+use Rattle.std.specs.List.{range_with_len}
 use Rattle.std.proofs.lemmas.List.Elements.{All-head, All-tail}
-use Rattle.gpu_plan.specs.Plans.{PlansData, IsDump, plan_of}
-use Rattle.stream_state.specs.State.{result_of}
-use Rattle.sync_core.specs.Standing.{IsKnown}
+use Rattle.gpu_word.specs.Results.{Written, WasLast, Settles}
+use Rattle.result_words.specs.Seen.{WriterData}
+use Rattle.gpu_plan.specs.Plans.{PlansData, PlanData, plan_of}
 use Rattle.gpu_journal.specs.declared.event.Event.{Event}
-use Rattle.gpu_journal.specs.World.{state_of}
 use Rattle.gpu_journal.specs.Waits.{standing_of}
-use Rattle.gpu_journal.specs.Legal.{IsLegal}
-use Rattle.gpu_journal.specs.Complete.{IsComplete}
+use Rattle.gpu_journal.specs.Written.{written}
 use Rattle.gpu_journal.specs.Dumps.{dumps_of}
-use Rattle.gpu_journal.proofs.Folding.{state_keeps_results}
-use Rattle.serial_laws.specs.Scripts.{AreLawfulPlans}
 use Rattle.house_core.specs.Core.{is_done}
 use Rattle.gpu_house.specs.declared.answers.Doing.{Doing}
 use Rattle.gpu_house.specs.declared.answers.Doing.TheVariants.{Open, Lost, AllDone, Closed}
 use Rattle.gpu_house.specs.Ending.{doing_of}
-use Rattle.history_laws.proofs.Dumps.{all_finished, dumps_lawful}
-use Rattle.gpu_threads.specs.Dumps.{AreRead, AreAllRead, reads_now}
+use Rattle.gpu_hall.specs.Settling.{AreSettled}
+use Rattle.gpu_threads.specs.Clients.{dump_of, read_for}
+use Rattle.gpu_threads.specs.Dumps.{AreRead, AreAllRead}
+use Rattle.gpu_threads.proofs.Cutting.{may_be_told}
 
-module _ (p : PlansData) (h : List Event) (lawful : AreLawfulPlans p) (legal : IsLegal p h) (complete : IsComplete p h) (s : ℕ) (among : IsKnown (length p.plans) s) (kept : (standing_of p h s).lost ≡ false) where
-  -- the whole history is a first part of itself, in which enough is finished
-  each_read : (dumps : List (ℕ × ℕ)) → All (IsDump (plan_of p s).areas.results (plan_of p s).actions) dumps → AreRead p h s dumps (reads_now (result_of (state_of p h s)) dumps)
-  each_read [] all = tt
-  each_read (dump ∷ dumps) all =
-      let is = All-head (IsDump (plan_of p s).areas.results (plan_of p s).actions) dump dumps all in (
-        record {
-          action = refl;
-          place = refl;
-          value = record {
-            later = [];
-            past = h;
-            first_part = refl;
-            enough = all_finished p h lawful legal complete s among kept dump.0 is.0;
-            found = sym (state_keeps_results p h s dump.1);
-          };
-        },
-        each_read dumps (All-tail (IsDump (plan_of p s).areas.results (plan_of p s).actions) dump dumps all),
+module _ (p : PlansData) (h : List Event) (s : ℕ) where
+  -- each value that the reader was given is one that was written behind enough finishes
+  each_read : (reads : List (ℕ × ℕ × ℕ)) → Settles (written p h s) (map (read_for (plan_of p s)) reads) → AreRead p h s (map dump_of reads) reads
+  each_read [] settles = tt
+  each_read (read ∷ reads) settles =
+      let P = λ (asked : ℕ × ℕ × ℕ). WasLast (written p h s) asked.0 asked.1 asked.2 in (
+        record { action = refl; place = refl; value = may_be_told p s (dump_of read) read.2 h (All-head P (read_for (plan_of p s) read) (map (read_for (plan_of p s)) reads) settles) },
+        each_read reads (All-tail P (read_for (plan_of p s) read) (map (read_for (plan_of p s)) reads) settles),
       )
 
-  pub stream_read : AreRead p h s (dumps_of p h s) (reads_now (result_of (state_of p h s)) (plan_of p s).dumps)
-  stream_read =
-      subst (λ (b : Bool). AreRead p h s (cond b [] (plan_of p s).dumps) (reads_now (result_of (state_of p h s)) (plan_of p s).dumps)) (sym kept)
-      (each_read (plan_of p s).dumps (dumps_lawful p h lawful legal complete s among))
+  -- what a client has read that is whole
+  pub whole_read : (plan : PlanData) (reads : List (ℕ × ℕ × ℕ)) → plan ≡ plan_of p s → (standing_of p h s).lost ≡ false → map dump_of reads ≡ plan.dumps → Settles (written p h s) (map (read_for plan) reads) → AreRead p h s (dumps_of p h s) reads
+  whole_read plan reads its kept whole settles =
+      let all : map dump_of reads ≡ (plan_of p s).dumps = whole ∙ ap (λ (plan : PlanData). plan.dumps) its in
+      subst (λ (lost : Bool). AreRead p h s (cond lost [] (plan_of p s).dumps) reads) (sym kept)
+      (subst (λ (dumps : List (ℕ × ℕ)). AreRead p h s dumps reads) all (each_read reads (subst (λ (plan : PlanData). Settles (written p h s) (map (read_for plan) reads)) its settles)))
 
--- a lost stream has none
-pub none_read : (p : PlansData) (h : List Event) (s : ℕ) (reads : List (ℕ × ℕ × ℕ)) → (standing_of p h s).lost ≡ true → reads ≡ [] → AreRead p h s (dumps_of p h s) reads
-none_read p h s reads lost is =
-    subst (λ (b : Bool). AreRead p h s (cond b [] (plan_of p s).dumps) reads) (sym lost) (subst (AreRead p h s []) (sym is) tt)
+  -- what the reader was given settles, once the hall has taken it back
+  pub settled_so : (plan : PlanData) (stream : ℕ) (reads list : List (ℕ × ℕ × ℕ)) → stream ≡ s → reads ≡ map (read_for plan) list → AreSettled (λ (w : WriterData). Some w.written) p h stream reads → Settles (written p h s) (map (read_for plan) list)
+  settled_so plan stream reads list at are settled =
+      subst (Settles (written p h s)) are (subst (λ (told : List Written). Settles told reads) (settled.told ∙ ap (written p h) at) settled.settled)
 
--- one stream more
+  -- of a lost stream there is none
+  pub none_read : (reads : List (ℕ × ℕ × ℕ)) → (standing_of p h s).lost ≡ true → reads ≡ [] → AreRead p h s (dumps_of p h s) reads
+  none_read reads lost is =
+      subst (λ (b : Bool). AreRead p h s (cond b [] (plan_of p s).dumps) reads) (sym lost) (subst (AreRead p h s []) (sym is) tt)
+
+-- ---- one stream more
+
 one_longer : (p : PlansData) (h : List Event) (from n : ℕ) (all : List (List (ℕ × ℕ × ℕ))) (reads : List (ℕ × ℕ × ℕ)) → AreAllRead p h (range_with_len from n) all → AreRead p h (from + n) (dumps_of p h (from + n)) reads
     → AreAllRead p h (range_with_len from (n + 1)) (all ++ reads ∷ [])
 one_longer p h from zero [] reads are is = subst (λ (s : ℕ). AreAllRead p h (s ∷ []) (reads ∷ [])) (let e : from + zero ≡ from = omega arith in e) (is, tt)
@@ -67,6 +62,8 @@ pub one_more_read : (p : PlansData) (h : List Event) (from n : ℕ) (all now : L
     → AreAllRead p h (range_with_len from (n + 1)) now
 one_more_read p h from n all now reads pushed are is = subst (AreAllRead p h (range_with_len from (n + 1))) (sym pushed) (one_longer p h from n all reads are is)
 
+-- ---- what a stream is doing says whether it is lost
+
 -- whether this is what a lost stream does
 abbrev is_lost : Doing → Bool
 is_lost Lost = true
@@ -74,12 +71,6 @@ is_lost Open = false
 is_lost AllDone = false
 is_lost Closed = false
 
--- what follows from the value of an answer that is Ok
-pub if_ok : {A E : Type 0} {P Q : A → Type 0} (r : Result A E) → ((x : A) → P x → Q x) → IfOk r P → IfOk r Q
-if_ok (Ok x) f p = f x p
-if_ok (Err e) f p = tt
-
--- what a stream is doing says whether it is lost
 lost_told : (lost closed done : Bool) (doing : Doing) → doing ≡ cond lost Lost (cond closed Closed (cond done AllDone Open)) → is_lost doing ≡ lost
 lost_told true closed done doing is = ap is_lost is
 lost_told false true done doing is = ap is_lost is

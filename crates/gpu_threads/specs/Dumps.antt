@@ -1,8 +1,10 @@
 -- What the clients of a run on threads have read.
-use Rattle.std.specs.Prelude.{◌≡◌, ℕ, List, [], ◌∷◌, map}
+use Rattle.std.specs.Prelude.{◌≡◌, ℕ, List, [], ◌∷◌, false}
 use Rattle.gpu_plan.specs.Plans.{PlansData}
 use Rattle.gpu_journal.specs.declared.event.Event.{Event}
+use Rattle.gpu_journal.specs.Waits.{standing_of}
 use Rattle.gpu_journal.specs.Dumps.{MayDump, dumps_of}
+use Rattle.gpu_threads.specs.Clients.{ClientData, IsWhole}
 
 -- this was read of a dump of stream s: the dump's action place and result place, and a value that may be told of it
 pub record IsRead (p : PlansData) (h : List Event) (s : ℕ) (dump : ℕ × ℕ) (read : ℕ × ℕ × ℕ) : Type 0 where
@@ -22,6 +24,6 @@ AreAllRead p h [] [] = Unit {0}
 AreAllRead p h (s ∷ streams) (reads ∷ more) = AreRead p h s (dumps_of p h s) reads × AreAllRead p h streams more
 AreAllRead p h _ _ = ⊥
 
--- the reads of these dumps where the results are so
-abbrev pub reads_now : (ℕ → ℕ) → List (ℕ × ℕ) → List (ℕ × ℕ × ℕ)
-reads_now result dumps = map (λ dump. (dump.0, dump.1, result dump.1)) dumps
+-- the client has read each dump of its plan, unless its stream is lost
+abbrev pub IsThrough : PlansData → List Event → ClientData → Type 0
+IsThrough p h client = (standing_of p h client.stream).lost ≡ false → IsWhole client

@@ -1,8 +1,10 @@
+pub mod Words
 pub mod Rows
 pub mod Clients
 pub mod Acts
 pub mod Turns
-pub mod Jobs
 pub mod Making
 pub mod Over
 pub mod Dumps
+pub mod Views
+pub mod Viewers

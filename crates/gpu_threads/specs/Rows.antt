@@ -1,5 +1,5 @@
 -- The words and the queues of all streams.
-use Rattle.std.specs.Prelude.{◌≡◌, ℕ, ◌-◌, List, length, slice_get, IfSome}
+use Rattle.std.specs.Prelude.{◌≡◌, ℕ, ◌-◌, List, length, map, slice_get, IfSome}
 use Rattle.atomic_table.specs.Seated.{TableId}
 use Rattle.gpu_plan.specs.Plans.{PlansData}
 use Rattle.sync_core.specs.Standing.{IsKnown}
@@ -10,9 +10,17 @@ pub record AreWordsOf {Words : Type 0} (words_of : Words → TableId → TableId
   pub count : length words ≡ length p.plans
   pub each : (s : ℕ) → IsKnown (length p.plans) s → IfSome (slice_get words (s - 1)) (λ own. words_of own (table_at tables s) (table_at results s))
 
--- these are the words and the queues of all streams, in order, by their names
-pub record AreShared (p : PlansData) (tables names words queues : List TableId) : Type 0 where
-  pub words_are : words ≡ tables
+-- the tables of the shared words, and those of the result words
+abbrev pub shared_in : List (TableId × TableId) → List TableId
+shared_in words = map (λ (own : TableId × TableId). own.0) words
+
+abbrev pub results_in : List (TableId × TableId) → List TableId
+results_in words = map (λ (own : TableId × TableId). own.1) words
+
+-- these are the words, the result words and the queues of all streams, in order, by their names
+pub record AreShared (p : PlansData) (tables results names : List TableId) (words : List (TableId × TableId)) (queues : List TableId) : Type 0 where
+  pub words_are : shared_in words ≡ tables
+  pub results_are : results_in words ≡ results
   pub queues_are : queues ≡ names
-  pub word_count : length tables ≡ length p.plans
+  pub word_count : length words ≡ length p.plans
   pub queue_count : length names ≡ length p.plans

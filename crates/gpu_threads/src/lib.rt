@@ -1,7 +1,8 @@
-//! Runs of whole scripts on threads: a client for each stream, and workers.
+//! Runs of whole scripts on threads: a client for each stream, workers, and viewers.
 #![tactic(auto)]
 
 mod client;
+mod full_pass;
 mod jobs;
 mod over;
 mod parts;
@@ -12,8 +13,11 @@ mod serving;
 mod tests;
 mod threads;
 mod turns;
+mod views;
+mod watch;
 
 pub use client::Client;
+pub use full_pass::FullPass;
 pub use serving::{Turn, serve_turn};
 pub use threads::run_threads;
 pub use turns::{ClientTurn, client_turn};

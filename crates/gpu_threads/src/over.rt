@@ -1,6 +1,7 @@
 //! Whether something is left to do.
 ghost use Rattle.std.specs.Prelude.{◌≡◌, ◌≢◌, length, IsTrue};
 ghost use Rattle.sync_core.specs.Standing.{IsKnown};
+ghost use Rattle.gpu_journal.specs.Waits.{standing_of};
 ghost use Rattle.gpu_journal.specs.Complete.{IsComplete};
 ghost use Rattle.gpu_house.specs.Ending.{doing_of};
 
@@ -43,5 +44,19 @@ pub(crate) fn is_gone<N: Naming, P: NamedSide, H: Hook>(hall: &Hall<N, P, H>, st
         Doing::AllDone => false,
         Doing::Lost => true,
         Doing::Closed => true,
+    }
+}
+
+/// Whether a stream is lost.
+#[tactic(auto, using(crate::proofs::Told::when_lost, crate::proofs::Told::when_open, crate::proofs::Told::when_done, crate::proofs::Told::when_closed))]
+pub(crate) fn is_lost<N: Naming, P: NamedSide, H: Hook>(hall: &Hall<N, P, H>, stream: u32) -> bool
+    requires { IsKnown (length N.plans.plans) stream }
+    ensures { result ≡ (standing_of N.plans hall.now stream).lost }
+{
+    match hall.state(stream) {
+        Doing::Open => false,
+        Doing::AllDone => false,
+        Doing::Lost => true,
+        Doing::Closed => false,
     }
 }

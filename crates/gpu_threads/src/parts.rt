@@ -1,27 +1,38 @@
 ghost use Rattle.std.specs.Prelude.{◌≡◌, ◌+◌, [], ◌∷◌, ◌++◌, length, List, IfOk, OnOk};
+ghost use Rattle.gpu_cmd.specs.Spans.{words_in};
 ghost use Rattle.gpu_plan.specs.Plans.{PlanData};
 ghost use Rattle.gpu_threads.specs.Making.{AreFreshFor};
 
 use crate::client::Client;
+use crate::full_pass::FullPass;
 use flush_queue::{FlushQueue, Taker};
 use gpu_books::{Book, Half};
+use gpu_cmd::words_in;
 use gpu_plan::{Plan, Plans};
 use gpu_word::Memory;
-use shm_words::{ServicePass, SharedWords};
+use result_words::{ResultWords, ResultWriter};
+use shm_words::SharedWords;
 use std::alloc::Global;
 use std::sync::Wait;
 
-/// What a run on threads is made of. Of each stream, in order: the words that it shares with its client, the client, the service's side
-/// of the words, its results, its book, the queue of its flushes, and the end at which they are taken.
+/// What a run on threads is made of. Of each stream, in order: the words and the result words that it shares with its client, the client,
+/// the service's side of the words, the writer of its results, its book, the queue of its flushes, and the end at which they are taken.
 #[derive(Drop)]
 pub(crate) struct Parts {
-    pub(crate) words: Vec<SharedWords>,
+    pub(crate) words: Vec<(SharedWords, ResultWords)>,
     pub(crate) clients: Vec<Client>,
-    pub(crate) sides: Vec<ServicePass>,
-    pub(crate) results: Vec<()>,
+    pub(crate) sides: Vec<FullPass>,
+    pub(crate) results: Vec<ResultWriter>,
     pub(crate) books: Vec<(Book, Half, Half)>,
     pub(crate) queues: Vec<FlushQueue>,
     pub(crate) takers: Vec<Taker>,
+}
+
+// How many result places a plan has.
+fn result_places(plan: &Plan) -> u32
+    ensures { result ≡ words_in plan.now.areas.results }
+{
+    words_in(&plan.areas().results) as u32
 }
 
 impl Parts {
@@ -53,12 +64,13 @@ impl Parts {
     {
         let (words, pass, side) = shm_words::make(alloc, plan)?;
         let (queue, poster, taker, pass) = flush_queue::make(rt, alloc, pass)?;
+        let (results, writer, reader) = result_words::make(alloc, result_places(plan))?;
         let book = gpu_books::make(alloc)?;
-        let client = Client::make(stream, pass, poster);
-        self.words.push(words)?;
+        let client = Client::make(alloc, stream, plan, pass, poster, reader)?;
+        self.words.push((words, results))?;
         self.clients.push(client)?;
-        self.sides.push(side)?;
-        self.results.push(())?;
+        self.sides.push(FullPass { pass: side })?;
+        self.results.push(writer)?;
         self.books.push(book)?;
         self.queues.push(queue)?;
         self.takers.push(taker)?;

@@ -1,78 +1,99 @@
-//! What the clients of a run have read.
-ghost use Rattle.std.specs.Prelude.{◌≡◌, length, IfOk};
+//! What the clients of a run have read, once nothing is left to do.
+ghost use Rattle.std.specs.Prelude.{◌≡◌, length, IfOk, IsTrue};
+ghost use Rattle.std.specs.List.{All};
 ghost use Rattle.sync_core.specs.Standing.{IsKnown};
-ghost use Rattle.stream_state.specs.State.{result_of};
-ghost use Rattle.gpu_journal.specs.Waits.{standing_of};
-ghost use Rattle.gpu_journal.specs.Complete.{IsComplete};
 ghost use Rattle.gpu_journal.specs.Dumps.{dumps_of};
 ghost use Rattle.gpu_journal.specs.Output.{streams_of};
-ghost use Rattle.serial_laws.specs.Scripts.{AreLawfulPlans};
-ghost use Rattle.gpu_threads.specs.Dumps.{AreRead, AreAllRead, reads_now};
+ghost use Rattle.gpu_threads.specs.Clients.{IsClientOf, AreClientsOf};
+ghost use Rattle.gpu_threads.specs.Dumps.{AreRead, AreAllRead, IsThrough};
+ghost use Rattle.gpu_threads.specs.Rows.{AreWordsOf};
+ghost use Rattle.gpu_threads.specs.Words.{of_tables};
 
-use gpu_house::{Doing, Report};
+use crate::client::Client;
+use crate::full_pass::FullPass;
+use crate::over::is_lost;
+use crate::rows::words_of;
+use gpu_hall::Hall;
+use gpu_house::Naming;
 use gpu_run::Dumps;
 use gpu_word::Memory;
-use serial_laws::plans_are_lawful;
+use result_words::ResultWords;
+use shm_words::SharedWords;
 use std::alloc::Global;
-use stream_state::StreamState;
+use wait_hooks::Hook;
 
-// These dumps of a stream, with what its results are.
-fn read_now(alloc: Global, planned: &[(u32, u32)], state: &StreamState) -> Result<Dumps, Memory>
-    ensures { IfOk result (λ dumps. dumps ≡ reads_now (result_of state.now) planned.now) }
+// Whether a client has read all its dumps, or its stream is lost.
+fn is_through<N: Naming, H: Hook>(hall: &Hall<N, FullPass, H>, client: &Client) -> bool
+    requires { IsKnown (length N.plans.plans) client.now.stream }
+    ensures { IsTrue result → IsThrough N.plans hall.now client.now }
 {
-    let mut dumps = Dumps::make(alloc, planned.len())?;
-    for dump in planned {
-        let (action, place) = *dump;
-        dumps.push(action, place, state.result(place))?;
+    if is_lost(hall, client.stream()) {
+        return true;
     }
-    Ok(dumps)
+    client.is_whole()
 }
 
-// Whether a stream was lost.
-#[tactic(auto, using(crate::proofs::Told::when_lost, crate::proofs::Told::when_open, crate::proofs::Told::when_done, crate::proofs::Told::when_closed))]
-fn is_lost(report: &Report, stream: u32) -> bool
-    requires { IsKnown (length report.now.plans.plans) stream }
-    ensures { result ≡ (standing_of report.now.plans report.now.past stream).lost }
+/// Whether this holds of each client.
+pub(crate) fn all_through<N: Naming, H: Hook>(
+    hall: &Hall<N, FullPass, H>,
+    clients: &[Client],
+) -> bool
+    requires { AreClientsOf N.plans N.words N.result_words N.queues clients.now }
+    ensures { IsTrue result → All (IsThrough N.plans hall.now) clients.now }
 {
-    match report.state(stream) {
-        Doing::Open => false,
-        Doing::AllDone => false,
-        Doing::Lost => true,
-        Doing::Closed => false,
+    for client in clients {
+        if !is_through(hall, client) {
+            return false;
+        }
     }
+    true
 }
 
-// The dumps of a stream, with what its results are now that the run is over. A lost stream has none.
-fn read_of(alloc: Global, report: &Report, stream: u32) -> Result<Dumps, Memory>
-    requires known { IsKnown (length report.now.plans.plans) stream }
-    requires lawful { AreLawfulPlans report.now.plans }
-    requires complete { IsComplete report.now.plans report.now.past }
-    ensures { IfOk result (AreRead report.now.plans report.now.past stream
-        (dumps_of report.now.plans report.now.past stream)) }
+// The dumps of a client that is through, whose reader the hall takes back: by that each value is one that was written. A lost stream has
+// none.
+fn read_of<N: Naming, H: Hook>(
+    hall: &mut Hall<N, FullPass, H>,
+    words: &[(SharedWords, ResultWords)],
+    client: Client,
+) -> Dumps
+    requires client { IsClientOf N.plans N.words N.result_words N.queues client }
+    requires words { AreWordsOf of_tables N.plans N.words N.result_words words.now }
+    requires through { IsThrough N.plans hall.old client }
+    ensures same { hall.new ≡ hall.old }
+    ensures read { AreRead N.plans hall.old client.stream (dumps_of N.plans hall.old client.stream) result }
 {
-    let _ = report.journal();
-    if is_lost(report, stream) {
-        return Dumps::make(alloc, 0);
+    let stream = client.stream();
+    let lost = is_lost(hall, stream);
+    let (reader, list) = client.into_parts();
+    hall.settle(stream, words_of::<N, FullPass>(words, stream), reader);
+    let mut dumps = Dumps::of(list);
+    if lost {
+        dumps.clear();
+        return dumps;
     }
-    let planned = report.plans().plan(stream).dumps();
-    read_now(alloc, planned, report.stream(stream))
+    dumps
 }
 
-/// The dumps of all streams, in order, once the run is over.
+/// The dumps of all clients, in the order of their streams.
 ///
 /// # Errors
 ///
-/// `Memory`: there is none for the list, or for a dump.
-pub(crate) fn all_read(alloc: Global, report: &Report) -> Result<Vec<Dumps>, Memory>
-    requires complete { IsComplete report.now.plans report.now.past }
-    ensures { IfOk result (λ all. AreAllRead report.now.plans report.now.past
-        (streams_of report.now.plans) all.items) }
+/// `Memory`: there is none for the list.
+pub(crate) fn all_read<N: Naming, H: Hook>(
+    alloc: Global,
+    hall: &mut Hall<N, FullPass, H>,
+    words: &[(SharedWords, ResultWords)],
+    clients: Vec<Client>,
+) -> Result<Vec<Dumps>, Memory>
+    requires clients { AreClientsOf N.plans N.words N.result_words N.queues clients.items }
+    requires through { All (IsThrough N.plans hall.old) clients.items }
+    requires words { AreWordsOf of_tables N.plans N.words N.result_words words.now }
+    ensures same { hall.new ≡ hall.old }
+    ensures read { IfOk result (λ all. AreAllRead N.plans hall.old (streams_of N.plans) all.items) }
 {
-    let plans = report.plans();
-    plans_are_lawful(plans);
-    let mut all = Vec::with_capacity(alloc, plans.count() as usize)?;
-    for done in 0..plans.count() {
-        all.push(read_of(alloc, report, done + 1)?)?;
+    let mut all = Vec::with_capacity(alloc, clients.len())?;
+    for client in clients {
+        all.push(read_of(hall, words, client))?;
     }
     Ok(all)
 }

@@ -1,16 +1,18 @@
 //! Turns of a worker.
 ghost use Rattle.std.specs.Prelude.{◌≡◌, drop, length, false, IfSome};
+ghost use Rattle.sync_core.specs.Standing.{IsKnown};
 ghost use Rattle.gpu_house.specs.Names.{table_at};
 ghost use Rattle.gpu_house.specs.Batches.{batch_words, AreChained};
 ghost use Rattle.gpu_hall.specs.Ready.{IsReady};
 ghost use Rattle.gpu_threads.specs.Rows.{AreWordsOf};
 
+use crate::over::is_lost;
 use crate::rows::words_of;
 use flush_queue::FlushQueue;
 use gpu_hall::{Hall, NamedSide};
 use gpu_house::{Batch, Naming, Run};
 use gpu_io::{Gate, Place};
-use std::sync::{Mutex, Wait};
+use std::sync::{Mutex, MutexGuard, Wait};
 use wait_hooks::Hook;
 
 /// What a turn of a worker came to.
@@ -34,7 +36,26 @@ fn begin<N: Naming, P: NamedSide, H: Hook, R: Wait>(
 {
     let mut hall = hall.lock(rt);
     hall.collect(rt, queues);
-    hall.take()
+    let run = hall.take();
+    MutexGuard::unlock(hall);
+    run
+}
+
+// Whether the journal has more finishes of a stream than before. Where it has, or where the stream is lost, viewers are shown so. Where
+// memory is wanted for that, nothing is lost: a later version shows more.
+fn show_end<N: Naming, P: NamedSide, H: Hook, R: Wait>(
+    rt: &R,
+    hall: &mut Hall<N, P, H>,
+    stream: u32,
+    before: u32,
+) -> bool
+    requires { IsKnown (length N.plans.plans) stream }
+{
+    let finished = hall.finishes(stream) > before;
+    if finished || is_lost(hall, stream) {
+        let _ = hall.publish(rt);
+    }
+    finished
 }
 
 // Finishes the order of a run, and says whether the journal has its finish. It has none where the stream was lost or closed.
@@ -53,7 +74,9 @@ fn finish<N: Naming, P: NamedSide, H: Hook, R: Wait>(
     let mut hall = hall.lock(rt);
     let before = hall.finishes(stream);
     hall.finish(run, words);
-    hall.finishes(stream) > before
+    let finished = show_end(rt, &mut hall, stream, before);
+    MutexGuard::unlock(hall);
+    finished
 }
 
 // Commits a batch of a run, and says whether the journal has the finish of its order then.
@@ -76,7 +99,21 @@ fn commit<N: Naming, P: NamedSide, H: Hook, R: Wait>(
     let mut hall = hall.lock(rt);
     let before = hall.finishes(stream);
     let on = hall.commit(run, words, batch);
-    (on, hall.finishes(stream) > before)
+    let finished = show_end(rt, &mut hall, stream, before);
+    MutexGuard::unlock(hall);
+    (on, finished)
+}
+
+// Loses the stream of a run for want of memory, and shows viewers so.
+fn lose<N: Naming, P: NamedSide, H: Hook, R: Wait>(
+    rt: &R,
+    hall: &Mutex<Hall<N, P, H>>,
+    run: Run<N, P>,
+) {
+    let mut hall = hall.lock(rt);
+    hall.lose(run);
+    let _ = hall.publish(rt);
+    MutexGuard::unlock(hall);
 }
 
 // Tells the gate of a finish, where there was one.
@@ -111,7 +148,7 @@ fn advance<N: Naming, P: NamedSide, H: Hook, R: Wait, G: Gate>(
     let fetched = run.fetch_batch(words);
     gate.reach(Place::AfterFetch { stream });
     let Ok(batch) = fetched else {
-        hall.lock(rt).lose(run);
+        lose(rt, hall, run);
         return None;
     };
     let (on, finished) = commit(rt, hall, words, run, batch);
@@ -140,7 +177,8 @@ fn run_out<N: Naming, P: NamedSide, H: Hook, R: Wait, G: Gate>(
 }
 
 /// Orders the flushes of all queues and lets the scheduler's choice run until its kept wait, its finish or its loss. Commands are fetched
-/// in batches with no lock, and each batch is committed under one. Where memory is wanted, the stream is lost.
+/// in batches with no lock, and each batch is committed under one. Where memory is wanted, the stream is lost. After a finish or a loss
+/// viewers are shown the whole journal, before the gate is told of the finish.
 pub fn serve_turn<N: Naming, P: NamedSide, H: Hook, R: Wait, G: Gate>(
     rt: &R,
     hall: &Mutex<Hall<N, P, H>>,

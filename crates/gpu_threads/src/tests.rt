@@ -3,3 +3,4 @@ mod gates;
 mod holding;
 mod running;
 mod scripts;
+mod viewing;

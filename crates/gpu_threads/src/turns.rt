@@ -4,7 +4,7 @@ ghost use Rattle.gpu_plan.specs.Plans.{plan_of, is_closed};
 ghost use Rattle.sync_core.specs.Standing.{IsKnown};
 ghost use Rattle.gpu_house.specs.Names.{table_at};
 ghost use Rattle.gpu_threads.specs.Clients.{IsClientOf};
-ghost use Rattle.gpu_threads.specs.Turns.{Turns};
+ghost use Rattle.gpu_threads.specs.Turns.{Turns, TurnsSo};
 
 use crate::client::{Act, Client};
 use crate::over::is_gone;
@@ -13,35 +13,47 @@ use flush_queue::FlushQueue;
 use gpu_hall::{Hall, NamedSide};
 use gpu_house::{Closing, Naming};
 use gpu_io::Gate;
+use result_words::ResultWords;
 use shm_words::SharedWords;
-use std::sync::{Mutex, Wait};
+use std::sync::{Mutex, MutexGuard, Wait};
 use wait_hooks::Hook;
 
 /// What a turn of a client came to.
 #[derive(Drop)]
 pub enum ClientTurn {
-    /// It did an action, or its held flush was posted.
+    /// It did an action, posted its held flush, or read the dump that was due.
     Went(Client),
-    /// It has to wait: its await does not pass, its queue is full, or its stream may not close yet.
+    /// It has to wait: its await does not pass, its queue did not take its note, too few finishes are counted for its dump, or its
+    /// stream may not close yet.
     Waiting(Client),
     /// It has come to its end: no action is left, or its stream is lost or closed.
     Ended(Client),
 }
 
+/// The same of a client that stays where it is.
+#[derive(Clone, Copy, Debug, PartialEq, Eq)]
+pub(crate) enum How {
+    Went,
+    Waiting,
+    Ended,
+}
+
 // A client that could not go on waits, unless its stream is lost or closed.
 fn wait_or_end<N: Naming, P: NamedSide, H: Hook, R: Wait>(
     rt: &R,
-    client: Client,
+    stream: u32,
     hall: &Mutex<Hall<N, P, H>>,
-) -> ClientTurn
-    requires known { IsKnown (length N.plans.plans) client.stream }
-    ensures { (result ≡ ClientTurn.Waiting client) ⊎ (result ≡ ClientTurn.Ended client) }
+) -> How
+    requires known { IsKnown (length N.plans.plans) stream }
+    ensures { (result ≡ How.Waiting) ⊎ (result ≡ How.Ended) }
 {
-    let gone = is_gone(&hall.lock(rt), client.stream());
+    let hall = hall.lock(rt);
+    let gone = is_gone(&hall, stream);
+    MutexGuard::unlock(hall);
     if gone {
-        return ClientTurn::Ended(client);
+        return How::Ended;
     }
-    ClientTurn::Waiting(client)
+    How::Waiting
 }
 
 // Closes a stream whose client stands at its Close, once all its flushes are collected. False where it is too early.
@@ -58,38 +70,67 @@ fn close<N: Naming, P: NamedSide, H: Hook, R: Wait>(
 {
     let mut hall = hall.lock(rt);
     hall.collect(rt, queues);
-    hall.close(stream) != Closing::Early
+    let closing = hall.close(stream);
+    MutexGuard::unlock(hall);
+    closing != Closing::Early
 }
 
-/// One action of a client, or the post of the flush that it holds. A note for which the queue has no room is held, and posted first in
-/// the next turn. The lock is taken only where the client cannot go on, to ask what its stream is doing, and at its Close, where the
-/// flushes of all queues are ordered and the stream is closed.
+/// A turn of a client that stays where it is.
+pub(crate) fn turn<N: Naming, P: NamedSide, H: Hook, R: Wait, G: Gate>(
+    rt: &R,
+    client: &mut Client,
+    hall: &Mutex<Hall<N, P, H>>,
+    words: &(SharedWords, ResultWords),
+    queues: &[FlushQueue],
+    gate: &G,
+) -> How
+    requires client { IsClientOf N.plans N.words N.result_words N.queues client.old }
+    requires words { words.now.0 ≡ table_at N.words client.old.stream }
+    requires results { words.now.1 ≡ table_at N.result_words client.old.stream }
+    requires queues { queues.now ≡ N.queues }
+    requires many { length N.queues ≡ length N.plans.plans }
+    ensures { TurnsSo client.old client.new result }
+{
+    let stream = client.stream();
+    let queue = queue_of(queues, stream);
+    match client.act(rt, words, queue, gate) {
+        Act::Went => How::Went,
+        Act::Full => wait_or_end(rt, stream, hall),
+        Act::NotYet => wait_or_end(rt, stream, hall),
+        Act::Unread => wait_or_end(rt, stream, hall),
+        Act::AtClose => {
+            if close(rt, stream, hall, queues) {
+                return How::Ended;
+            }
+            How::Waiting
+        }
+        Act::End => How::Ended,
+    }
+}
+
+/// One action of a client, the post of the flush that it holds, or the read of the dump that is due. A note for which the queue has no
+/// room is held, and posted first in the next turn; a dump that could not be read stays due, and no action comes before it. The lock is
+/// taken only where the client cannot go on, to ask what its stream is doing, and at its Close, where the flushes of all queues are
+/// ordered and the stream is closed.
 pub fn client_turn<N: Naming, P: NamedSide, H: Hook, R: Wait, G: Gate>(
     rt: &R,
     client: Client,
     hall: &Mutex<Hall<N, P, H>>,
-    words: &SharedWords,
+    words: &(SharedWords, ResultWords),
     queues: &[FlushQueue],
     gate: &G,
 ) -> ClientTurn
-    requires client { IsClientOf N.plans N.words N.queues client }
-    requires words { words.now ≡ table_at N.words client.stream }
+    requires client { IsClientOf N.plans N.words N.result_words N.queues client }
+    requires words { words.now.0 ≡ table_at N.words client.stream }
+    requires results { words.now.1 ≡ table_at N.result_words client.stream }
     requires queues { queues.now ≡ N.queues }
     requires many { length N.queues ≡ length N.plans.plans }
     ensures { Turns client result }
 {
     let mut client = client;
-    let queue = queue_of(queues, client.stream());
-    match client.act(rt, words, queue, gate) {
-        Act::Went => ClientTurn::Went(client),
-        Act::Full => wait_or_end(rt, client, hall),
-        Act::NotYet => wait_or_end(rt, client, hall),
-        Act::AtClose => {
-            if close(rt, client.stream(), hall, queues) {
-                return ClientTurn::Ended(client);
-            }
-            ClientTurn::Waiting(client)
-        }
-        Act::End => ClientTurn::Ended(client),
+    match turn(rt, &mut client, hall, words, queues, gate) {
+        How::Went => ClientTurn::Went(client),
+        How::Waiting => ClientTurn::Waiting(client),
+        How::Ended => ClientTurn::Ended(client),
     }
 }

@@ -175,10 +175,6 @@ module _ (p : PlansData) (h : List Event) (lawful : AreLawfulPlans p) (legal : I
             let few = flushes_all (plan_of p s).actions (reach p h s) in
             finish_passes (plan_of p s).actions k.finished at k.tokens (lawful_of p s lawful among).closes_last (omega (arith, few, finished)) is
 
-    -- so the flushes that stand before it are finished
-    pub all_finished : (at : ℕ) → slice_get (plan_of p s).actions at ≡ Some actions.Finish → flushes (take at (plan_of p s).actions) ≤ (known p h s).finished
-    all_finished at is = passed_enough p s at is h (all_passed at is)
-
     each_told : (dumps : List (ℕ × ℕ)) → All (IsDump (plan_of p s).areas.results (plan_of p s).actions) dumps → AreDumps p h s dumps (flat_map (dump_line p h s) dumps)
     each_told [] all = refl
     each_told (dump ∷ dumps) all =
@@ -190,7 +186,7 @@ module _ (p : PlansData) (h : List Event) (lawful : AreLawfulPlans p) (legal : I
           each_told dumps (All-tail (IsDump (plan_of p s).areas.results (plan_of p s).actions) dump dumps all),
         )
 
-  pub dumps_lawful : (s : ℕ) → IsKnown (length p.plans) s → All (IsDump (plan_of p s).areas.results (plan_of p s).actions) (plan_of p s).dumps
+  dumps_lawful : (s : ℕ) → IsKnown (length p.plans) s → All (IsDump (plan_of p s).areas.results (plan_of p s).actions) (plan_of p s).dumps
   dumps_lawful zero among = absurd (let low = among.0 in omega (arith, low))
   dumps_lawful (suc k) among = (lawful.each k no_plan (let high = among.1 in omega (arith, high))).1
 

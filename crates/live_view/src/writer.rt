@@ -1,4 +1,4 @@
-ghost use Rattle.std.specs.Prelude.{◌≡◌, ◌⊎◌, ◌∷◌, ◌++◌, ◌<◌, [], OnOk, OnErr};
+ghost use Rattle.std.specs.Prelude.{◌≡◌, ◌⊎◌, ◌∷◌, ◌++◌, ◌-◌, ◌<◌, ◌≤◌, [], OnOk, OnErr};
 ghost use Rattle.gpu_store.specs.Images.{HasItsTexels};
 ghost use Rattle.live_view.specs.Versions.{blank, IsLatest, drawn_by};
 ghost use Rattle.live_view.specs.Copies.{published, pending};
@@ -66,16 +66,16 @@ impl ViewWriter {
         }
     }
 
-    /// Makes room for one more operation.
+    /// Makes room for so many more operations.
     ///
     /// # Errors
     ///
     /// `Memory`: for the room. Nothing changes.
-    pub fn reserve(&mut self) -> Result<(), Memory>
-        ensures room { OnOk result (0 < self.new.spare) }
+    pub fn reserve(&mut self, more: usize) -> Result<(), Memory>
+        ensures room { OnOk result (more ≤ self.new.spare) }
         ensures same { self.new ≡ record self.old { spare = self.new.spare } }
     {
-        self.waiting.reserve(1)?;
+        self.waiting.reserve(more)?;
         Ok(())
     }
 
@@ -83,7 +83,7 @@ impl ViewWriter {
     pub fn note(&mut self, op: Op)
         requires room { 0 < self.old.spare }
         requires texels { HasItsTexels op }
-        ensures { self.new ≡ record self.old { noted = self.old.noted ++ op ∷ []; spare = self.new.spare } }
+        ensures { self.new ≡ record self.old { noted = self.old.noted ++ op ∷ []; spare = self.old.spare - 1 } }
     {
         self.waiting.push_back_reserved(Drawn::of(op));
     }

@@ -6,7 +6,7 @@ use std::thread;
 use std::thread::Threads;
 
 /// How often the writer writes both places and counts a finish.
-const ROUNDS: u32 = 200;
+const ROUNDS: u32 = 100_000;
 
 /// How many turns the reader takes before it gives up.
 const TURNS: u32 = 10_000_000;

@@ -1,12 +1,11 @@
 -- Pieces of a text, one after the other.
 use Rattle.std.proofs.Common.{◌≡◌, ℕ, ◌+◌, ◌<◌, ◌≤◌, List, [], ◌∷◌, ◌++◌, Option, Some, None, inl, inr, length, take, drop, get_or, sym, ap, subst, ◌∙◌, append_assoc, refl, arith}
-use Rattle.std.specs.Prelude.{slice_index_or, Result, Ok, Err, OnOk, OnErr, IsErr}
+use Rattle.std.specs.Prelude.{slice_index_or, Result, Ok, Err, OnOk, IsErr}
 use Rattle.std.specs.List.{concat}
 use Rattle.std.specs.Io.KnownBytes.{Appends}
 use Rattle.std.proofs.lemmas.List.{append-nil, take_more, take-append-drop}
 use Rattle.std.proofs.lemmas.List.Folds.{concat-append}
 use Rattle.gpu_io.specs.Faults.{HasRisen}
-use Rattle.gpu_io.specs.declared.failed.Failed.{Failed}
 use Rattle.run_output.specs.Pieces.{AppendsFront, Adds, IsPut, Puts}
 use Rattle.run_output.proofs.Appending.{Appends-then}
 

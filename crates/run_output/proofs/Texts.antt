@@ -1,9 +1,10 @@
 -- The texts of the parts of the output.
-use Rattle.std.proofs.Common.{◌≡◌, ℕ, zero, suc, List, [], ◌∷◌, ◌++◌, ◌+◌, ◌<◌, Option, Some, inl, inr, map, length, get_or, reverse, sym, ap, ◌∙◌, append_assoc, refl, arith}
+use Rattle.std.proofs.Common.{◌≡◌, ℕ, zero, suc, List, [], ◌∷◌, ◌++◌, ◌+◌, ◌<◌, Option, Some, inl, inr, map, length, get_or, sym, ap, ◌∙◌, refl, arith}
 use Rattle.std.proofs.lemmas.Bool.{ne_eqb}
-use Rattle.std.specs.Prelude.{◌≢◌, slice_get, slice_index_or, option_map}
+use Rattle.std.specs.Prelude.{◌≢◌, slice_get, slice_index_or, option_map, Vec}
+use Rattle.std.specs.declared.alloc.Global.{Global}
 use Rattle.std.specs.List.{concat, flat_map, range_with_len}
-use Rattle.std.proofs.lemmas.List.{get_or-map, length-map}
+use Rattle.std.proofs.lemmas.List.{get_or-map, length-map, append-nil}
 use Rattle.std.proofs.lemmas.List.Folds.{flat_map-map}
 use Rattle.std.proofs.lemmas.List.FromFn.{length-range_with_len}
 use Rattle.std.proofs.lemmas.Option.{slice_get-map, slice_get_cases}
@@ -13,15 +14,16 @@ use Rattle.gpu_journal.specs.Picture.{head_text as image_head, row_text, image_t
 use Rattle.gpu_journal.specs.Dumps.{dump_line, dumps_of, dump_lines}
 use Rattle.gpu_run.specs.Dumps.{dump_read, dumps_read, all_dumps}
 use Rattle.gpu_plan.specs.Plans.{PlansData, plan_of}
+use Rattle.live_view.specs.declared.look.Look.{Look}
 use Rattle.wait_hooks.specs.Marks.{mark}
 use Rattle.gpu_journal.specs.declared.event.Event.{Event}
 use Rattle.gpu_journal.specs.Text.{event_text, journal_text, tally_of, stream_text}
 use Rattle.gpu_journal.specs.Lines.{journal_head, name_text, mark_text}
-use Rattle.gpu_journal.specs.World.{state_of, replay}
+use Rattle.gpu_journal.specs.World.{state_of}
 use Rattle.gpu_journal.specs.Waits.{endings_in}
 use Rattle.gpu_journal.specs.Output.{streams_of, end_of, head_lines, stream_lines, mark_lines, output}
-use Rattle.run_output.specs.Runs.{RunData, run_text}
-use Rattle.run_output.specs.Parts.{heads, streams, marks, image_lines, dump_read_text, dump_texts}
+use Rattle.run_output.specs.Runs.{RunData, behind_text, run_text}
+use Rattle.run_output.specs.Parts.{heads, streams, marks, image_lines, dump_read_text, dump_texts, look_text, view_texts}
 
 -- the text of each item is that of all of them
 pub concat-map : {A : Type 0} (f : A → List ℕ) (xs : List A) → concat (map f xs) ≡ flat_map f xs
@@ -103,10 +105,24 @@ dumps_text p h = dumps_from p h 1 (length p.plans)
 pub length_all_dumps : (p : PlansData) (h : List Event) → length (all_dumps p h) ≡ length p.plans
 length_all_dumps p h = length-map (streams_of p) (dumps_read p h) ∙ length-range_with_len 1 (length p.plans)
 
+-- ---- looks
+
+pub length-view_texts : (v : ℕ) (looks : List (Vec Look Global)) → length (view_texts v looks) ≡ length looks
+length-view_texts v [] = refl
+length-view_texts v (own ∷ more) = ap suc (length-view_texts (v + 1) more)
+
+pub looks_at : (v : ℕ) (looks : List (Vec Look Global)) (i : ℕ) (d : Vec Look Global) → i < length looks → slice_index_or (view_texts v looks) i [] ≡ flat_map (look_text (i + v)) (get_or looks i d).items
+looks_at v [] i d lt = absurd (omega arith)
+looks_at v (own ∷ more) zero d lt = ap (λ n. flat_map (look_text n) own.items) (omega arith)
+looks_at v (own ∷ more) (suc i) d lt =
+    let next : i + (v + 1) ≡ suc i + v = omega arith in
+    looks_at (v + 1) more i d (omega arith) ∙ ap (λ n. flat_map (look_text n) (get_or more i d).items) next
+
 -- ---- the whole output
 
--- where the dumps are those that the run on one thread reads, the whole output has their lines behind it
-pub serial_text : (run : RunData) → run.dumps ≡ all_dumps run.report.plans run.report.past → run_text run ≡ output run.report.plans (mark run.report.base) run.report.past ++ dump_lines run.report.plans run.report.past
-serial_text run are =
-    ap (λ (d : List (List (ℕ × ℕ × ℕ))). output run.report.plans (mark run.report.base) run.report.past ++ concat (dump_texts 1 d)) are
-    ∙ ap (λ (r : List ℕ). output run.report.plans (mark run.report.base) run.report.past ++ r) (dumps_text run.report.plans run.report.past)
+-- where the dumps are those that the run on one thread reads, and nobody has looked, the whole output has the lines of the dumps behind it
+pub serial_text : (run : RunData) → run.dumps ≡ all_dumps run.report.plans run.report.past → run.looks ≡ [] → run_text run ≡ output run.report.plans (mark run.report.base) run.report.past ++ dump_lines run.report.plans run.report.past
+serial_text run are none =
+    ap (λ (d : List (List (ℕ × ℕ × ℕ))). output run.report.plans (mark run.report.base) run.report.past ++ behind_text d run.looks) are
+    ∙ ap (λ (l : List (Vec Look Global)). output run.report.plans (mark run.report.base) run.report.past ++ behind_text (all_dumps run.report.plans run.report.past) l) none
+    ∙ ap (λ (r : List ℕ). output run.report.plans (mark run.report.base) run.report.past ++ r) (append-nil (concat (dump_texts 1 (all_dumps run.report.plans run.report.past))) ∙ dumps_text run.report.plans run.report.past)

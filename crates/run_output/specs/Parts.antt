@@ -1,13 +1,15 @@
 -- The parts of the output as lists of lines.
-use Rattle.std.specs.Prelude.{ℕ, ◌+◌, ◌<◌, ◌≤◌, List, [], ◌∷◌, length, map, Option, Some, None}
+use Rattle.std.specs.Prelude.{ℕ, ◌+◌, ◌<◌, ◌≤◌, List, [], ◌∷◌, length, map, Option, Some, None, Vec}
 use Rattle.std.specs.List.{All, flat_map, range_with_len}
+use Rattle.std.specs.declared.alloc.Global.{Global}
 use Rattle.gpu_store.specs.Picture.{Picture, row_of}
 use Rattle.gpu_plan.specs.Plans.{PlansData, plan_of}
 use Rattle.wait_hooks.specs.Marks.{mark}
 use Rattle.gpu_journal.specs.declared.event.Event.{Event}
 use Rattle.gpu_journal.specs.Text.{words_of, tally_of, stream_text}
 use Rattle.gpu_journal.specs.Picture.{head_text, row_text}
-use Rattle.gpu_journal.specs.Lines.{journal_head, name_text, mark_text, dump_text}
+use Rattle.gpu_journal.specs.Lines.{journal_head, name_text, mark_text, dump_text, view_text}
+use Rattle.live_view.specs.declared.look.Look.{Look}
 use Rattle.gpu_journal.specs.World.{state_of}
 use Rattle.gpu_journal.specs.Waits.{endings_in}
 use Rattle.gpu_journal.specs.Output.{streams_of, end_of}
@@ -43,3 +45,12 @@ dump_read_text s found = dump_text s found.0 found.1 found.2
 abbrev pub dump_texts : ℕ → List (List (ℕ × ℕ × ℕ)) → List (List ℕ)
 dump_texts s [] = []
 dump_texts s (dumps ∷ more) = flat_map (dump_read_text s) dumps ∷ dump_texts (s + 1) more
+
+-- the line of a look of a viewer: its number of events, and its sum
+abbrev pub look_text : ℕ → Look → List ℕ
+look_text viewer look = view_text viewer look.events look.sum
+
+-- the lines of the looks of each viewer, counted from viewer v on
+abbrev pub view_texts : ℕ → List (Vec Look Global) → List (List ℕ)
+view_texts v [] = []
+view_texts v (looks ∷ more) = flat_map (look_text v) looks.items ∷ view_texts (v + 1) more

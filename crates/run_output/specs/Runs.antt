@@ -1,26 +1,35 @@
 -- The output of a run, and what is made ready before any of it is written.
-use Rattle.std.specs.Prelude.{◌≡◌, ℕ, ◌≤◌, List, [], ◌++◌, length, map, reverse}
+use Rattle.std.specs.Prelude.{◌≡◌, ℕ, ◌≤◌, List, ◌++◌, length, map, reverse, Vec}
 use Rattle.std.specs.List.{All, concat}
+use Rattle.std.specs.declared.alloc.Global.{Global}
 use Rattle.wait_hooks.specs.Marks.{mark}
+use Rattle.live_view.specs.declared.look.Look.{Look}
 use Rattle.gpu_journal.specs.declared.end.End.{End}
 use Rattle.gpu_journal.specs.Output.{streams_of, end_of, output}
 use Rattle.gpu_house.specs.House.{ReportData}
 use Rattle.run_output.specs.Page.{PageData, blank_page}
-use Rattle.run_output.specs.Parts.{HasRoom, dump_texts}
+use Rattle.run_output.specs.Parts.{HasRoom, dump_texts, view_texts}
 
--- a run, with the dumps that the client of each stream has read: action place, result place and value
+-- a run, with the dumps that the client of each stream has read: action place, result place and value; and with the looks of each
+-- viewer
 pub record RunData : Type 0 where
   pub report : ReportData
   pub dumps : List (List (ℕ × ℕ × ℕ))
+  pub looks : List (Vec Look Global)
 
--- the output of a run, and the lines of its dumps
+-- the lines of the dumps, and then those of the looks
+abbrev pub behind_text : List (List (ℕ × ℕ × ℕ)) → List (Vec Look Global) → List ℕ
+behind_text dumps looks = concat (dump_texts 1 dumps) ++ concat (view_texts 1 looks)
+
+-- the output of a run, and the lines behind it
 abbrev pub run_text : RunData → List ℕ
-run_text run = output run.report.plans (mark run.report.base) run.report.past ++ concat (dump_texts 1 run.dumps)
+run_text run = output run.report.plans (mark run.report.base) run.report.past ++ behind_text run.dumps run.looks
 
--- the output of a run can be written: each event's line has room, the streams are few, how they ended is told, and the
--- page is blank
+-- the output of a run can be written: each event's line has room, the streams and the viewers are few, how the streams ended is told,
+-- and the page is blank
 pub record IsReady (run : RunData) (ends : List End) (page : PageData) : Type 0 where
   pub room : All HasRoom (reverse run.report.past)
   pub few : length run.dumps ≤ 16
+  pub few_viewers : length run.looks ≤ 4
   pub ended : ends ≡ map (end_of run.report.past) (streams_of run.report.plans)
   pub blank : page ≡ blank_page

@@ -6,6 +6,7 @@ mod ends;
 mod event_lines;
 mod image_lines;
 mod lines;
+mod look_lines;
 mod mark_lines;
 mod name_lines;
 mod output;

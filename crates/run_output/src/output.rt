@@ -6,12 +6,13 @@ ghost use Rattle.gpu_journal.specs.Picture.{picture_text};
 ghost use Rattle.gpu_journal.specs.World.{replay};
 ghost use Rattle.gpu_journal.specs.Output.{streams_of, end_of, head_lines, stream_lines, mark_lines, output};
 ghost use Rattle.run_output.specs.Pieces.{Adds, Puts};
-ghost use Rattle.run_output.specs.Parts.{HasRoom, dump_texts};
-ghost use Rattle.run_output.specs.Runs.{run_text};
+ghost use Rattle.run_output.specs.Parts.{HasRoom, dump_texts, view_texts};
+ghost use Rattle.run_output.specs.Runs.{behind_text, run_text};
 
 use crate::dump_lines::DumpLines;
 use crate::event_lines::EventLines;
 use crate::image_lines::ImageLines;
+use crate::look_lines::LookLines;
 use crate::mark_lines::MarkLines;
 use crate::name_lines::NameLines;
 use crate::page::Page;
@@ -22,6 +23,7 @@ use gpu_journal::{End, Event};
 use gpu_plan::Plans;
 use gpu_run::Dumps;
 use gpu_store::Images;
+use live_view::Look;
 
 // Puts the head and the names of a script of version 2, and nothing of one of version 1.
 #[tactic(auto, using(crate::proofs::Texts::head_text, crate::proofs::Texts::no_head, crate::proofs::Pieces::puts_nothing))]
@@ -98,6 +100,38 @@ fn put_dumps<K: Sink>(page: &mut Page, sink: &mut K, dumps: &[Dumps]) -> Result<
         page.put_all(sink, &own)?;
     }
     Ok(())
+}
+
+// Puts the lines of what each viewer saw.
+fn put_looks<K: Sink>(page: &mut Page, sink: &mut K, looks: &[Vec<Look>]) -> Result<(), Failed>
+    requires { length looks.now ≤ 4 }
+    ensures { Puts K.written K.faults sink.old page.old.gathered sink.new page.new.gathered result
+        (concat (view_texts 1 looks.now)) }
+{
+    for index in 0..looks.len() {
+        let own = LookLines {
+            viewer: index as u32 + 1,
+            looks: looks[index].as_slice(),
+        };
+        page.put_all(sink, &own)?;
+    }
+    Ok(())
+}
+
+// Puts the lines that stand behind the output of a run.
+fn put_behind<K: Sink>(
+    page: &mut Page,
+    sink: &mut K,
+    dumps: &[Dumps],
+    looks: &[Vec<Look>],
+) -> Result<(), Failed>
+    requires few { length dumps.now ≤ 16 }
+    requires few_viewers { length looks.now ≤ 4 }
+    ensures { Puts K.written K.faults sink.old page.old.gathered sink.new page.new.gathered result
+        (behind_text dumps.now looks.now) }
+{
+    put_dumps(page, sink, dumps)?;
+    put_looks(page, sink, looks)
 }
 
 // Puts the head and the names of a run's script.
@@ -180,39 +214,43 @@ fn put_run<K: Sink>(
     put_marks(page, sink, report)
 }
 
-// Puts the output of a run, and then the lines of the dumps that its clients have read.
+// Puts the output of a run, and then the lines behind it.
 fn put_whole<K: Sink>(
     page: &mut Page,
     sink: &mut K,
     report: &Report,
     dumps: &[Dumps],
+    looks: &[Vec<Look>],
     ends: &[End],
 ) -> Result<(), Failed>
     requires room { All HasRoom (reverse report.now.past) }
     requires few { length dumps.now ≤ 16 }
+    requires few_viewers { length looks.now ≤ 4 }
     requires ends { ends.now ≡ map (end_of report.now.past) (streams_of report.now.plans) }
     ensures { Puts K.written K.faults sink.old page.old.gathered sink.new page.new.gathered result
-        (run_text (record { report = report.now; dumps = dumps.now })) }
+        (run_text (record { report = report.now; dumps = dumps.now; looks = looks.now })) }
 {
     put_run(page, sink, report, ends)?;
-    put_dumps(page, sink, dumps)
+    put_behind(page, sink, dumps, looks)
 }
 
-/// Writes the output of a run and the lines of its dumps, by way of an empty page. After a fault a front of both stands.
+/// Writes the output of a run and the lines behind it, by way of an empty page. After a fault a front of all stands.
 pub(crate) fn write_output<K: Sink>(
     page: &mut Page,
     sink: &mut K,
     report: &Report,
     dumps: &[Dumps],
+    looks: &[Vec<Look>],
     ends: &[End],
 ) -> Result<(), Failed>
     requires empty { page.old.gathered ≡ [] }
     requires room { All HasRoom (reverse report.now.past) }
     requires few { length dumps.now ≤ 16 }
+    requires few_viewers { length looks.now ≤ 4 }
     requires ends { ends.now ≡ map (end_of report.now.past) (streams_of report.now.plans) }
     ensures { Adds K.written K.faults sink.old sink.new result
-        (run_text (record { report = report.now; dumps = dumps.now })) }
+        (run_text (record { report = report.now; dumps = dumps.now; looks = looks.now })) }
 {
-    put_whole(page, sink, report, dumps, ends)?;
+    put_whole(page, sink, report, dumps, looks, ends)?;
     page.give(sink)
 }

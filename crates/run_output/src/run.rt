@@ -13,6 +13,7 @@ use gpu_io::{Failed, Sink};
 use gpu_journal::End;
 use gpu_run::Dumps;
 use gpu_word::Memory;
+use live_view::Look;
 use serial_laws::plans_are_lawful;
 use std::alloc::Global;
 use std::marker::Model;
@@ -35,11 +36,13 @@ fn lines_have_room(report: &Report)
     report.journal();
 }
 
-/// A run with all memory that writing its output takes, seen as the run and the dumps that its clients have read.
+/// A run with all memory that writing its output takes, seen as the run, the dumps that its clients have read, and the looks of its
+/// viewers.
 #[derive(Drop)]
 pub struct RunOutput {
     report: Report,
     dumps: Vec<Dumps>,
+    looks: Vec<Vec<Look>>,
     ends: Vec<End>,
     page: Page,
 }
@@ -49,17 +52,25 @@ impl Model for RunOutput {
 
     ghost Value = { RunData };
 
-    ghost view = { λ run. record { report = run.report; dumps = run.dumps.items } };
+    ghost view = { λ run. record { report = run.report; dumps = run.dumps.items; looks = run.looks.items } };
 
-    ghost invariant = { λ run. IsReady (record { report = run.report; dumps = run.dumps.items }) run.ends.items run.page };
+    ghost invariant = { λ run. IsReady (record { report = run.report; dumps = run.dumps.items; looks = run.looks.items })
+        run.ends.items run.page };
 }
 
 impl RunOutput {
     /// Takes all memory that writing the output of a run takes.
-    pub fn make(alloc: Global, report: Report, dumps: Vec<Dumps>) -> Result<RunOutput, Memory>
-        requires { length dumps.items ≡ length report.plans.plans }
+    pub fn make(
+        alloc: Global,
+        report: Report,
+        dumps: Vec<Dumps>,
+        looks: Vec<Vec<Look>>,
+    ) -> Result<RunOutput, Memory>
+        requires dumps { length dumps.items ≡ length report.plans.plans }
+        requires looks { length looks.items ≤ 4 }
         ensures report { IfOk result (λ run. run.report ≡ report) }
         ensures dumps { IfOk result (λ run. run.dumps ≡ dumps.items) }
+        ensures looks { IfOk result (λ run. run.looks ≡ looks.items) }
     {
         lines_have_room(&report);
         let ends = ends_in(alloc, &report)?;
@@ -67,6 +78,7 @@ impl RunOutput {
         Ok(RunOutput {
             report,
             dumps,
+            looks,
             ends,
             page,
         })
@@ -79,16 +91,17 @@ impl RunOutput {
         &self.report
     }
 
-    /// Writes the output and the lines of the dumps. After a fault a front of both stands.
+    /// Writes the output, the lines of the dumps, and those of the looks. After a fault a front of all stands.
     pub fn write<K: Sink>(self, sink: &mut K) -> Result<(), Failed>
         ensures { Adds K.written K.faults sink.old sink.new result (run_text self) }
     {
         let RunOutput {
             report,
             dumps,
+            looks,
             ends,
             mut page,
         } = self;
-        write_output(&mut page, sink, &report, &dumps, &ends)
+        write_output(&mut page, sink, &report, &dumps, &looks, &ends)
     }
 }

@@ -1,5 +1,6 @@
 -- What the clients of a run on threads have read, as the lines of its dumps.
 use Rattle.std.proofs.Common.{◌≡◌, ℕ, zero, suc, List, [], ◌∷◌, ◌++◌, ◌+◌, length, reverse, refl, ap, ◌∙◌}
+use Rattle.std.specs.Prelude.{Result, Ok, Err, IfOk}
 use Rattle.std.specs.List.{concat, flat_map, range_with_len}
 use Rattle.std.proofs.lemmas.List.FromFn.{length-range_with_len}
 use Rattle.gpu_plan.specs.Plans.{PlansData}
@@ -10,10 +11,11 @@ use Rattle.gpu_journal.specs.Legal.{IsLegal}
 use Rattle.gpu_journal.specs.Complete.{IsComplete}
 use Rattle.gpu_journal.specs.Output.{streams_of, output}
 use Rattle.gpu_journal.specs.Dumps.{AreDumps, AreDumpsOf, dumps_of}
-use Rattle.run_output.specs.Parts.{dump_read_text, dump_texts}
-use Rattle.run_output.specs.Runs.{RunData, run_text}
+use Rattle.run_output.specs.Parts.{dump_read_text, dump_texts, view_texts}
+use Rattle.run_output.specs.Runs.{RunData, behind_text, run_text}
 use Rattle.gpu_threads.specs.Dumps.{AreRead, AreAllRead}
-use Rattle.script_main.specs.Runs.{IsRun, IsOutput, run_ending}
+use Rattle.gpu_threads.specs.Views.{AreAllLooks}
+use Rattle.script_main.specs.Runs.{IsViewedRun, IsOutput, run_ending}
 
 -- the text of what was read of some dumps of a stream is one that may be told of them
 reads_are_told : (p : PlansData) (h : List Event) (s : ℕ) (dumps : List (ℕ × ℕ)) (reads : List (ℕ × ℕ × ℕ)) → AreRead p h s dumps reads → AreDumps p h s dumps (flat_map (dump_read_text s) reads)
@@ -43,15 +45,34 @@ length_all p h (s ∷ streams) (reads ∷ more) are = ap suc (length_all p h str
 pub length_all_read : (p : PlansData) (h : List Event) (all : List (List (ℕ × ℕ × ℕ))) → AreAllRead p h (streams_of p) all → length all ≡ length p.plans
 length_all_read p h all are = length_all p h (streams_of p) all are ∙ length-range_with_len 1 (length p.plans)
 
--- the text of a run whose history is legal and complete, with what its clients have read behind it, is its output by the rule of threads
-pub threads_output : (p : PlansData) (base : ℕ) (run : RunData) → run.report.plans ≡ p → run.report.base ≡ base → IsLegal p run.report.past → IsComplete p run.report.past → AreAllRead p run.report.past (streams_of p) run.dumps → IsOutput IsRun p base (run_ending (reverse run.report.past)) (run_text run)
-threads_output p base run plans based legal complete are =
-    let behind = concat (dump_texts 1 run.dumps) in
+-- the text of a run whose history is legal and complete, with what its clients have read and its viewers have seen behind it, is its
+-- output by the rule of threads
+pub threads_output : (p : PlansData) (base viewers : ℕ) (run : RunData) → run.report.plans ≡ p → run.report.base ≡ base → IsLegal p run.report.past → IsComplete p run.report.past → AreAllRead p run.report.past (streams_of p) run.dumps
+    → AreAllLooks p run.report.past viewers run.looks → IsOutput (IsViewedRun viewers) p base (run_ending (reverse run.report.past)) (run_text run)
+threads_output p base viewers run plans based legal complete are looks =
+    let dumps = concat (dump_texts 1 run.dumps) in
+    let views = concat (view_texts 1 run.looks) in
+    let behind = behind_text run.dumps run.looks in
     let same : run_text run ≡ output p (mark base) run.report.past ++ behind = ap (λ (q : PlansData). output q (mark run.report.base) run.report.past ++ behind) plans ∙ ap (λ (b : ℕ). output p (mark b) run.report.past ++ behind) based in
     record {
       history = run.report.past;
       behind = behind;
-      ran = record { legal = legal; complete = complete; dumped = all_are_told p run.report.past 1 (length p.plans) run.dumps are };
+      ran = record {
+        dumps = dumps;
+        views = views;
+        run = record { legal = legal; complete = complete; dumped = all_are_told p run.report.past 1 (length p.plans) run.dumps are };
+        seen = record { looks = run.looks; seen = looks; are = refl };
+        are = refl;
+      };
       ends = refl;
       told = same;
     }
+
+-- the same of the output that is made ready of what a run on threads gives, where there is memory for it
+pub ready_output : {E : Type 0} (p : PlansData) (base viewers : ℕ) (gives : RunData) (made : Result RunData E)
+    → gives.report.plans ≡ p → gives.report.base ≡ base → IsLegal p gives.report.past → IsComplete p gives.report.past → AreAllRead p gives.report.past (streams_of p) gives.dumps → AreAllLooks p gives.report.past viewers gives.looks
+    → IfOk made (λ run. run.report ≡ gives.report) → IfOk made (λ run. run.dumps ≡ gives.dumps) → IfOk made (λ run. run.looks ≡ gives.looks)
+    → IfOk made (λ run. IsOutput (IsViewedRun viewers) p base (run_ending (reverse run.report.past)) (run_text run))
+ready_output p base viewers gives (Err e) plans based legal complete read seen reported dumped looked = tt
+ready_output p base viewers gives (Ok run) plans based legal complete read seen reported dumped looked =
+    threads_output p base viewers run (rw reported plans) (rw reported based) (rw reported legal) (rw reported complete) (rw (reported, dumped) read) (rw (reported, looked) seen)

@@ -25,7 +25,17 @@ behind_equals word = if bytes_eq (take 10 word) (codes "--workers=") then Some (
 
 -- a run with so many workers; with none it is on one thread
 abbrev pub run_with : ℕ → Command
-run_with workers = if workers == 0 then Run else RunOnThreads workers
+run_with workers = if workers == 0 then Run else RunOnThreads workers 0
+
+-- the number of viewers that a word says: it is one of the words `1` to `4`
+abbrev pub views_in : List ℕ → Option ℕ
+views_in (digit ∷ []) = if nat_le 49 digit && nat_le digit 52 then Some (digit - 48) else None
+views_in _ = None
+
+-- a run with so many workers and viewers, where both are there; without workers there are no viewers
+abbrev pub viewed_with : Option ℕ → Option ℕ → Option Command
+viewed_with (Some workers) (Some views) = if workers == 0 then None else Some (RunOnThreads workers views)
+viewed_with _ _ = None
 
 -- one word: `run`, `check` or `verify`
 abbrev pub of_one : List ℕ → Option Command
@@ -52,22 +62,34 @@ of_three name first second =
     else (if bytes_eq name (codes "trial") then with_both Trial (sized (decimal_of first)) (decimal_of second)
     else None))
 
+-- four words behind `run`: `--workers N --views V`
+abbrev pub of_views : List ℕ → List ℕ → List ℕ → List ℕ → Option Command
+of_views first second third fourth =
+    if bytes_eq first (codes "--workers") && bytes_eq third (codes "--views") then viewed_with (workers_in second) (views_in fourth)
+    else None
+
+-- five words: `run --workers N --views V`
+abbrev pub of_five : List ℕ → List ℕ → List ℕ → List ℕ → List ℕ → Option Command
+of_five name first second third fourth =
+    if bytes_eq name (codes "run") then of_views first second third fourth else None
+
 -- the command that some words are, where they are one
 abbrev pub command_of : List (List ℕ) → Option Command
 command_of (name ∷ []) = of_one name
 command_of (name ∷ word ∷ []) = of_two name word
 command_of (name ∷ first ∷ second ∷ []) = of_three name first second
+command_of (name ∷ first ∷ second ∷ third ∷ fourth ∷ []) = of_five name first second third fourth
 command_of _ = None
 
 -- the words are plain: they ask for no run on threads
 abbrev pub is_plain : Option Command → Bool
-is_plain (Some (RunOnThreads workers)) = false
+is_plain (Some (RunOnThreads workers views)) = false
 is_plain _ = true
 
--- a size that was read is one that the generator takes, and a number of workers one that a run on threads may have
+-- a size that was read is one that the generator takes, and numbers of workers and viewers are those that a run on threads may have
 abbrev pub IsSized : Command → Type 0
 IsSized Run = Unit {0}
-IsSized (RunOnThreads workers) = (1 ≤ workers) × (workers ≤ 8)
+IsSized (RunOnThreads workers views) = (1 ≤ workers) × (workers ≤ 8) × (views ≤ 4)
 IsSized Check = Unit {0}
 IsSized Verify = Unit {0}
 IsSized (Generate size seed) = (1 ≤ size) × (size ≤ 2000)

@@ -1,6 +1,7 @@
 -- Runs of scripts: their histories, what is written of them, and how they end.
-use Rattle.std.specs.Prelude.{◌≡◌, ℕ, Bool, true, false, List, ◌++◌, reverse, if◌then◌else◌, Ok}
-use Rattle.std.specs.List.{All, list_any}
+use Rattle.std.specs.Prelude.{◌≡◌, ℕ, Bool, true, false, List, ◌++◌, reverse, if◌then◌else◌, Ok, Vec}
+use Rattle.std.specs.List.{All, concat, list_any}
+use Rattle.std.specs.declared.alloc.Global.{Global}
 use Rattle.script_generator.specs.Generator.{generated}
 use Rattle.gpu_plan.specs.Plans.{PlansData}
 use Rattle.gpu_plan.specs.Script.{script_of}
@@ -15,6 +16,9 @@ use Rattle.gpu_journal.specs.Dumps.{dump_lines, AreDumpLines}
 use Rattle.gpu_journal.specs.Serial.{serial}
 use Rattle.serial_laws.specs.Going.{wants_memory}
 use Rattle.generated_scripts.specs.Trials.{trial_text}
+use Rattle.live_view.specs.declared.look.Look.{Look}
+use Rattle.gpu_threads.specs.Views.{AreAllLooks}
+use Rattle.run_output.specs.Parts.{view_texts}
 use Rattle.script_main.specs.declared.status.Status.{Status}
 use Rattle.script_main.specs.declared.status.Status.TheVariants as status
 
@@ -28,6 +32,20 @@ pub record IsRun (p : PlansData) (history : List Event) (dumps : List ℕ) : Typ
   pub legal : IsLegal p history
   pub complete : IsComplete p history
   pub dumped : AreDumpLines p history dumps
+
+-- these are lines of looks: 17 for each of so many viewers, in order
+pub record AreViewLines (p : PlansData) (history : List Event) (viewers : ℕ) (lines : List ℕ) : Type 0 where
+  pub looks : List (Vec Look Global)
+  pub seen : AreAllLooks p history viewers looks
+  pub are : lines ≡ concat (view_texts 1 looks)
+
+-- the rule of threads with so many viewers: it is such a run, and behind the lines of its dumps are those of looks
+pub record IsViewedRun (viewers : ℕ) (p : PlansData) (history : List Event) (behind : List ℕ) : Type 0 where
+  pub dumps : List ℕ
+  pub views : List ℕ
+  pub run : IsRun p history dumps
+  pub seen : AreViewLines p history viewers views
+  pub are : behind ≡ dumps ++ views
 
 -- the rule of one thread: it is such a run, and its history is the serial one, which loses no stream for want of memory;
 -- so are the dumps

@@ -12,12 +12,12 @@ use Rattle.script_main.specs.declared.command.Command.TheVariants.{Run, RunOnThr
 use Rattle.script_main.specs.declared.status.Status.{Status}
 use Rattle.script_main.specs.declared.status.Status.TheVariants as status
 use Rattle.script_main.specs.Counts.{check_text}
-use Rattle.script_main.specs.Runs.{IsRun, IsSerialRun, IsOutput, IsTrial}
+use Rattle.script_main.specs.Runs.{IsSerialRun, IsViewedRun, IsOutput, IsTrial}
 
 -- the command reads its source
 abbrev pub reads : Option Command → Bool
 reads (Some Run) = true
-reads (Some (RunOnThreads workers)) = true
+reads (Some (RunOnThreads workers views)) = true
 reads (Some Check) = true
 reads (Some Verify) = true
 reads _ = false
@@ -37,12 +37,12 @@ IsYesText input text =
     (images : Pictures) × (events : ℕ) × IsRight input images events × (text ≡ yes_line events ++ picture_text images)
 
 -- a command that ends so writes this text of an input, with the marks of a run over a base; the run goes by the rule of one
--- thread, or by that of threads
+-- thread, or by that of threads with so many viewers
 abbrev pub Writes : Command → ℕ → List ℕ → Status → List ℕ → Type 0
 Writes Run base input ending text =
     (p : PlansData) × (script_of input ≡ Ok p) × IsOutput IsSerialRun p base ending text
-Writes (RunOnThreads workers) base input ending text =
-    (p : PlansData) × (script_of input ≡ Ok p) × IsOutput IsRun p base ending text
+Writes (RunOnThreads workers views) base input ending text =
+    (p : PlansData) × (script_of input ≡ Ok p) × IsOutput (IsViewedRun views) p base ending text
 Writes Check base input ending text =
     (p : PlansData) × (script_of input ≡ Ok p) × (ending ≡ status.Ok) × (text ≡ check_text p)
 Writes (Generate size seed) base input ending text = (ending ≡ status.Ok) × (text ≡ generated size seed)

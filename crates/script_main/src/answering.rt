@@ -34,7 +34,7 @@ fn run_plans<H: Hook>(alloc: Global, plans: Plans, hook: H) -> Result<RunOutput,
     serial_history_is_legal_and_complete();
     dumps_may_be_told();
     let (report, dumps) = run_one(alloc, plans, hook)?;
-    RunOutput::make(alloc, report, dumps)
+    RunOutput::make(alloc, report, dumps, Vec::new(alloc))
 }
 
 // What `run` says of an input.

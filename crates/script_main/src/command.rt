@@ -1,7 +1,7 @@
 ghost use Rattle.std.specs.Prelude.{◌≡◌, ◌≤◌, Some, map, string_bytes, option_map, IfSome};
 ghost use Rattle.script_words.specs.Numbers.{decimal_of};
 ghost use Rattle.script_main.specs.declared.command.Command.TheVariants.{Generate, Trial};
-ghost use Rattle.script_main.specs.Commands.{sized, with_both, workers_in, behind_equals, run_with, of_one, of_two, of_workers, of_three, command_of, is_plain, IsSized};
+ghost use Rattle.script_main.specs.Commands.{sized, with_both, workers_in, behind_equals, run_with, views_in, viewed_with, of_one, of_two, of_workers, of_three, of_views, of_five, command_of, is_plain, IsSized};
 ghost use Rattle.script_main.specs.Says.{reads};
 
 use script_words::decimal_u32;
@@ -12,13 +12,16 @@ const MOST_SIZE: u32 = 2000;
 /// The most workers that a run may have.
 const MOST_WORKERS: u32 = 8;
 
+/// The most viewers that a run may have.
+const MOST_VIEWS: u32 = 4;
+
 /// What the words of the command line ask for.
 #[derive(Clone, Copy, Debug, PartialEq, Eq)]
 pub enum Command {
     /// Runs the script on standard input on one thread, and writes the output.
     Run,
-    /// Runs the script on standard input on threads, with 1 to 8 workers, and writes the output.
-    RunOnThreads { workers: u32 },
+    /// Runs the script on standard input on threads, with 1 to 8 workers and up to 4 viewers, and writes the output.
+    RunOnThreads { workers: u32, views: u32 },
     /// Reads a script, and writes how much it has.
     Check,
     /// Writes the generated script of a size, from 1 to 2000, and a seed.
@@ -106,7 +109,7 @@ fn run_with(word: &[u8]) -> Option<Command>
     if workers == 0 {
         return Some(Command::Run);
     }
-    Some(Command::RunOnThreads { workers })
+    Some(Command::RunOnThreads { workers, views: 0 })
 }
 
 fn of_two(name: &str, word: &str) -> Option<Command>
@@ -147,6 +150,53 @@ fn of_three(name: &str, first: &str, second: &str) -> Option<Command>
     None
 }
 
+// The number of viewers that a word says, from 1 to 4.
+fn views_in(word: &[u8]) -> Option<u32>
+    ensures views { result ≡ views_in word.now }
+    ensures range { IfSome result (λ views. views ≤ MOST_VIEWS) }
+{
+    let [digit] = word else {
+        return None;
+    };
+    if *digit < b'1' || *digit > b'4' {
+        return None;
+    }
+    Some(u32::from(*digit - b'0'))
+}
+
+// The run with the workers and the viewers that two words say; with no worker there is none.
+fn viewed_with(workers: &[u8], views: &[u8]) -> Option<Command>
+    ensures command { result ≡ viewed_with (workers_in workers.now) (views_in views.now) }
+    ensures sized { IfSome result IsSized }
+{
+    let workers = workers_in(workers)?;
+    let views = views_in(views)?;
+    if workers == 0 {
+        return None;
+    }
+    Some(Command::RunOnThreads { workers, views })
+}
+
+fn of_views(first: &str, second: &str, third: &str, fourth: &str) -> Option<Command>
+    ensures command { result ≡ of_views first.now second.now third.now fourth.now }
+    ensures sized { IfSome result IsSized }
+{
+    if first != "--workers" || third != "--views" {
+        return None;
+    }
+    viewed_with(second.as_bytes(), fourth.as_bytes())
+}
+
+fn of_five(name: &str, first: &str, second: &str, third: &str, fourth: &str) -> Option<Command>
+    ensures command { result ≡ of_five name.now first.now second.now third.now fourth.now }
+    ensures sized { IfSome result IsSized }
+{
+    if name != "run" {
+        return None;
+    }
+    of_views(first, second, third, fourth)
+}
+
 /// The command that the words of the command line are, or `None` where they are none.
 pub fn command_of(words: &[String]) -> Option<Command>
     ensures command { result ≡ command_of (map string_bytes words.now) }
@@ -156,6 +206,13 @@ pub fn command_of(words: &[String]) -> Option<Command>
         [name] => of_one(name.as_str()),
         [name, word] => of_two(name.as_str(), word.as_str()),
         [name, first, second] => of_three(name.as_str(), first.as_str(), second.as_str()),
+        [name, first, second, third, fourth] => of_five(
+            name.as_str(),
+            first.as_str(),
+            second.as_str(),
+            third.as_str(),
+            fourth.as_str(),
+        ),
         _ => None,
     }
 }

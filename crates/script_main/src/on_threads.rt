@@ -3,7 +3,7 @@ ghost use Rattle.run_output.specs.Runs.{run_text};
 ghost use Rattle.gpu_io.specs.Whole.{most_bytes};
 ghost use Rattle.script_main.specs.declared.command.Command.TheVariants.{RunOnThreads};
 ghost use Rattle.script_main.specs.Commands.{IsSized};
-ghost use Rattle.script_main.specs.Runs.{IsRun, IsOutput, run_ending};
+ghost use Rattle.script_main.specs.Runs.{IsViewedRun, IsOutput, run_ending};
 ghost use Rattle.script_main.specs.Says.{Says};
 ghost use Rattle.script_main.specs.Answers.{answer_ending, answer_text};
 
@@ -22,37 +22,41 @@ use std::thread::Threads;
 use wait_hooks::Hook;
 
 // Runs a script on threads, and takes all memory that writing its output takes.
-#[tactic(auto, using(crate::proofs::OnThreads::threads_output, crate::proofs::OnThreads::length_all_read))]
+#[tactic(auto, using(crate::proofs::OnThreads::length_all_read))]
 fn run_plans<H: Hook + Send, G: Gate + Sync, R: Threads + Wait + Sync>(
     rt: &R,
     alloc: Global,
     plans: Plans,
     workers: u32,
+    views: u32,
     gate: &G,
     hook: H,
 ) -> Result<RunOutput, Memory>
+    requires { views ≤ 4 }
     ensures { IfOk result (λ run.
-        IsOutput IsRun plans (H.base hook) (run_ending (reverse run.report.past)) (run_text run)) }
+        IsOutput (IsViewedRun views) plans (H.base hook) (run_ending (reverse run.report.past)) (run_text run)) }
 {
-    let (report, dumps) = run_threads(rt, alloc, plans, workers, hook, gate)?;
-    RunOutput::make(alloc, report, dumps)
+    let (report, looks, dumps) = run_threads(rt, alloc, plans, workers, views, hook, gate)?;
+    RunOutput::make(alloc, report, dumps, looks)
 }
 
-// What `run` says of an input with so many workers.
+// What `run` says of an input with so many workers and viewers.
 fn run_answer<H: Hook + Send, G: Gate + Sync, R: Threads + Wait + Sync>(
     rt: &R,
     alloc: Global,
     workers: u32,
+    views: u32,
     input: &[u8],
     gate: &G,
     hook: H,
 ) -> Result<Answer, Memory>
-    requires { length input.now ≤ most_bytes }
+    requires short { length input.now ≤ most_bytes }
+    requires views { views ≤ 4 }
     ensures { IfOk result (λ answer.
-        Says (RunOnThreads workers) (H.base hook) input.now (answer_ending answer) (answer_text answer)) }
+        Says (RunOnThreads workers views) (H.base hook) input.now (answer_ending answer) (answer_text answer)) }
 {
     match parse(alloc, input) {
-        Ok(plans) => Ok(Answer::Ran(run_plans(rt, alloc, plans, workers, gate, hook)?)),
+        Ok(plans) => Ok(Answer::Ran(run_plans(rt, alloc, plans, workers, views, gate, hook)?)),
         Err(ScriptFault::Refused { line, kind }) => Ok(Answer::Found(Status::Refused {
             line,
             kind,
@@ -76,7 +80,9 @@ pub(crate) fn answer_on<H: Hook + Send, G: Gate + Sync, R: Threads + Wait + Sync
         Says command (H.base hook) input.now (answer_ending answer) (answer_text answer)) }
 {
     match command {
-        Command::RunOnThreads { workers } => run_answer(rt, alloc, workers, input, gate, hook),
+        Command::RunOnThreads { workers, views } => {
+            run_answer(rt, alloc, workers, views, input, gate, hook)
+        }
         _ => answer_to(alloc, command, input, hook),
     }
 }

@@ -20,8 +20,9 @@ use wait_hooks::Hook;
 /// The program: it does what its words ask for, on threads where they say so.
 ///
 /// For plain words it does what `plain_top` does, and each clause says what that of `plain_top` says. `run` with 1 to 8
-/// workers runs the script on threads, the clients of the streams and the workers side by side, and writes the output of
-/// one history, which is legal and complete; which one that is may differ from run to run. It may wait.
+/// workers runs the script on threads, the clients of the streams, the workers and the viewers side by side, and writes the
+/// output of one history, which is legal and complete; which one that is may differ from run to run. Behind it are 17 lines
+/// for each viewer. It may wait.
 #[tactic(auto, using(crate::proofs::Endings::said_speaks))]
 pub fn top<S: Source, K: Sink, G: Gate + Sync, H: Hook + Send, R: Threads + Wait + Sync>(
     rt: &R,

@@ -1,8 +1,8 @@
 use crate::client::Client;
-use crate::jobs::Job;
+use crate::full_pass::FullPass;
+use crate::watch::Watch;
 use gpu_hall::Hall;
 use gpu_house::Naming;
-use shm_words::ServicePass;
 use wait_hooks::Hook;
 
 fn sent<T: Send>(value: &T) {
@@ -13,10 +13,10 @@ fn client(client: &Client) {
     sent(client);
 }
 
-fn job(job: &Job) {
-    sent(job);
+fn watch(watch: &Watch) {
+    sent(watch);
 }
 
-fn hall<N: Naming + Send, H: Hook + Send>(hall: &Hall<N, ServicePass, H>) {
+fn hall<N: Naming + Send, H: Hook + Send>(hall: &Hall<N, FullPass, H>) {
     sent(hall);
 }

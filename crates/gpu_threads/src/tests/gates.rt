@@ -11,16 +11,16 @@ use std::thread;
 /// How often a held thread looks whether it may go on, before it goes on all the same.
 const TURNS: u32 = 10_000_000;
 
-fn one_more(count: &AtomicU64) {
+pub(super) fn one_more(count: &AtomicU64) {
     let _ = count.fetch_add(1, Ordering::SeqCst);
 }
 
-fn value_of(count: &AtomicU64) -> u64 {
+pub(super) fn value_of(count: &AtomicU64) -> u64 {
     count.load(Ordering::SeqCst)
 }
 
 // Holds a thread until a place was reached, or for so many turns.
-fn hold_until(reached: &AtomicU64, late: &AtomicU64) {
+pub(super) fn hold_until(reached: &AtomicU64, late: &AtomicU64) {
     for _ in 0..TURNS {
         if value_of(reached) > 0 {
             return;

@@ -3,19 +3,25 @@ ghost use Rattle.std.specs.Prelude.{◌≡◌, length};
 ghost use Rattle.gpu_journal.specs.Legal.{IsLegal};
 ghost use Rattle.house_core.specs.Core.{names_of};
 ghost use Rattle.gpu_house.specs.Waiting.{HaveTargets, FormNoCycle};
+ghost use Rattle.gpu_threads.specs.Clients.{AreClientsOf};
 ghost use Rattle.gpu_threads.specs.Making.{AreFreshFor};
+ghost use Rattle.gpu_threads.specs.Rows.{AreShared, shared_in, results_in};
 
 use super::scripts::{ONE_CLOSES, doing, plans_of};
-use crate::jobs::{Job, run_job};
+use crate::client::Client;
+use crate::full_pass::FullPass;
+use crate::jobs::play;
 use crate::parts::Parts;
+use flush_queue::FlushQueue;
 use gpu_hall::{Hall, NamedSide};
 use gpu_house::{Doing, House, Naming, Report};
 use gpu_io::OpenGate;
 use gpu_plan::Plans;
-use shm_words::ServicePass;
+use result_words::ResultWords;
+use shm_words::SharedWords;
 use std::alloc::Global;
 use std::marker::Brand;
-use std::sync::{Mutex, Wait};
+use std::sync::{Mutex, MutexGuard, Wait};
 use std::test::Fail;
 use wait_hooks::{Hook, Marker};
 
@@ -32,10 +38,31 @@ fn wants_the_headline<N: Naming, P: NamedSide, H: Hook>(hall: &Hall<N, P, H>) ->
 fn look<N: Naming, P: NamedSide, H: Hook, R: Wait>(rt: &R, hall: &Mutex<Hall<N, P, H>>) -> u32 {
     let hall = hall.lock(rt);
     hall.holds();
-    wants_the_headline(&hall)
+    let count = wants_the_headline(&hall);
+    MutexGuard::unlock(hall);
+    count
 }
 
-// Plays each client to its end, one after the other, and looks at the hall between them.
+// Plays each client to its end, one after the other, and looks at the hall behind each. Whether there were two streams each time.
+fn look_between<N: Naming, R: Wait>(
+    rt: &R,
+    hall: &Mutex<Hall<N, FullPass, Marker>>,
+    words: &[(SharedWords, ResultWords)],
+    queues: &[FlushQueue],
+    clients: &mut [Client],
+) -> bool
+    requires clients { AreClientsOf N.plans N.words N.result_words N.queues clients.old }
+    requires shared { AreShared N.plans N.words N.result_words N.queues words.now queues.now }
+{
+    let mut two = true;
+    for client in clients.iter_mut() {
+        play(rt, hall, words, queues, &OpenGate, client);
+        two &= look(rt, hall) == 2;
+    }
+    two
+}
+
+// The report of a run in which each client is played to its end, one after the other.
 fn looked<N: Naming, R: Wait>(
     rt: &R,
     alloc: Global,
@@ -45,7 +72,8 @@ fn looked<N: Naming, R: Wait>(
     requires plans { plans ≡ N.plans }
     requires base { 1000 ≡ N.base }
     requires fresh { AreFreshFor N.plans.plans parts }
-    requires words { parts.words.items ≡ N.words }
+    requires words { shared_in parts.words.items ≡ N.words }
+    requires results { results_in parts.words.items ≡ N.result_words }
     requires books { names_of parts.books.items ≡ N.books }
     requires queues { parts.queues.items ≡ N.queues }
 {
@@ -59,18 +87,16 @@ fn looked<N: Naming, R: Wait>(
         takers,
     } = parts;
     let hook = Marker::make(1000);
-    let made = House::<N, ServicePass, Marker>::make(
-        alloc, plans, hook, sides, results, books,
-    ).ok();
+    let made = House::<N, FullPass, Marker>::make(alloc, plans, hook, sides, results, books).ok();
     let house = made.ok_or("memory is ample")?;
-    let hall = Mutex::new(Hall::make(house, takers));
-    for client in clients {
-        run_job(rt, Job::Plays(client), &hall, &words, &queues, &OpenGate);
-        if look(rt, &hall) != 2 {
-            return Err("two streams".into());
-        }
+    let hall = Mutex::new(Hall::make(house, takers, None));
+    let mut clients = clients;
+    let two = look_between(rt, &hall, &words, &queues, &mut clients);
+    let report = hall.into_inner().end(rt);
+    if !two {
+        return Err("two streams".into());
     }
-    Ok(hall.into_inner().end())
+    Ok(report)
 }
 
 #[test]

@@ -1,10 +1,12 @@
 //! Scripts of the tests, and what their runs leave.
+ghost use Rattle.std.specs.Prelude.{◌≤◌};
 
 use crate::run_threads;
 use gpu_house::{Doing, Report};
 use gpu_io::Gate;
 use gpu_journal::journal_text;
 use gpu_plan::{Plans, parse};
+use live_view::Look;
 use std::alloc::Global;
 use std::sync::Wait;
 use std::test::Fail;
@@ -69,6 +71,19 @@ flush 22
 fill 0 0 ccbbaa99
 ";
 
+/// A client that uploads a word, waits for its flush, and uploads another.
+pub(crate) const READ_BACK: &str = "gpu-script 1
+stream 1 normal 32
+memory 0 1
+put 0 20400004 1 1 1 20c00009 1 0 0 1 1 1 0 0
+fill 0 0 44332211
+flush 13
+finish
+fill 0 0 88776655
+put 13 20c00009 1 0 0 1 1 1 0 0
+flush 22
+";
+
 // The plans of a script.
 pub(crate) fn plans_of(alloc: Global, script: &str) -> Result<Plans, Fail> {
     if script.len() > 16_777_216 {
@@ -85,10 +100,25 @@ pub(crate) fn led<G: Gate + Sync, R: Threads + Wait + Sync>(
     workers: u32,
     gate: &G,
 ) -> Result<Report, Fail> {
-    let plans = plans_of(alloc, script)?;
-    let ran = run_threads(rt, alloc, plans, workers, Marker::make(1000), gate).ok();
-    let (report, _) = ran.ok_or("memory is ample")?;
+    let (report, _) = viewed(rt, alloc, script, workers, 0, gate)?;
     Ok(report)
+}
+
+// The same with so many viewers, and what each of them saw.
+pub(crate) fn viewed<G: Gate + Sync, R: Threads + Wait + Sync>(
+    rt: &R,
+    alloc: Global,
+    script: &str,
+    workers: u32,
+    views: u32,
+    gate: &G,
+) -> Result<(Report, Vec<Vec<Look>>), Fail>
+    requires { views ≤ 4 }
+{
+    let plans = plans_of(alloc, script)?;
+    let ran = run_threads(rt, alloc, plans, workers, views, Marker::make(1000), gate).ok();
+    let (report, looks, _) = ran.ok_or("memory is ample")?;
+    Ok((report, looks))
 }
 
 // The lines of a report's journal.

@@ -52,7 +52,7 @@ pub(super) fn noted(writer: &mut ViewWriter, op: Op) -> bool
     ensures view { writer.new.view ≡ writer.old.view }
     ensures all { writer.new.versions ++ writer.new.tried ≡ writer.old.versions ++ writer.old.tried }
 {
-    if writer.reserve().is_err() {
+    if writer.reserve(1).is_err() {
         return false;
     }
     writer.note(op);

@@ -112,6 +112,37 @@ fn dumps_are_written_behind_the_output(rt: HostRuntime) -> Result<(), Fail> {
     Ok(())
 }
 
+// How many lines of a text are this one.
+fn count_of(text: &str, wanted: &str) -> usize {
+    text.lines().filter(|line| *line == wanted).count()
+}
+
+#[test]
+fn looks_are_written_behind_all_else(rt: HostRuntime) -> Result<(), Fail> {
+    let words = ["run", "--workers", "1", "--views", "2"];
+    let (status, stands) = ended(&rt, rt.alloc(), &words, TWO_TEXELS, &steady(), &OpenGate)?;
+    assert_eq!(rt; status, Status::Ok);
+    assert!(rt; is_front(TWO_TEXELS_OUTPUT, &stands));
+    if stands.len() < TWO_TEXELS_OUTPUT.len() {
+        return Err("the output of the run".into());
+    }
+    let (_, behind) = stands.split_at(TWO_TEXELS_OUTPUT.len());
+    let text = String::from_utf8_lossy(rt.alloc(), behind)?;
+    for (none, whole) in [
+        ("view 1 0 00000000", "view 1 4 fe0001fe"),
+        ("view 2 0 00000000", "view 2 4 fe0001fe"),
+    ] {
+        assert!(rt; count_of(&text, whole) > 0);
+        assert_eq!(rt;
+            count_of(&text, none).wrapping_add(count_of(&text, whole)),
+            17
+        );
+    }
+    assert_eq!(rt; text.lines().count(), 34);
+    assert!(rt; text.ends_with("view 2 4 fe0001fe\n"));
+    Ok(())
+}
+
 #[test]
 fn a_lost_stream_is_told_with_workers(rt: HostRuntime) -> Result<(), Fail> {
     let text = b"gpu-script 1\nstream 1 normal 16\nput 0 6\nflush 4\n";

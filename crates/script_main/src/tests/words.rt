@@ -18,12 +18,34 @@ fn one_to_eight_workers_are_on_threads(rt: HostRuntime) -> Result<(), Fail> {
         ("5", "--workers=5", 5),
         ("8", "--workers=8", 8),
     ] {
-        let command = Some(Command::RunOnThreads { workers });
+        let command = Some(Command::RunOnThreads { workers, views: 0 });
         assert_eq!(rt;
             asked(rt.alloc(), &["run", "--workers", word])?,
             (command, false)
         );
         assert_eq!(rt; asked(rt.alloc(), &["run", other])?, (command, false));
+    }
+    Ok(())
+}
+
+#[test]
+fn one_to_four_viewers_are_for_runs_with_workers(rt: HostRuntime) -> Result<(), Fail> {
+    for (workers, views) in [("1", "1"), ("8", "4")] {
+        let words = ["run", "--workers", workers, "--views", views];
+        let (command, plain) = asked(rt.alloc(), &words)?;
+        assert!(rt; matches!(command, Some(Command::RunOnThreads { views: 1..=4, .. })));
+        assert!(rt; !plain);
+    }
+    let lists: [&[&str]; 6] = [
+        &["run", "--views", "1"],
+        &["run", "--workers", "0", "--views", "1"],
+        &["run", "--workers", "1", "--views", "0"],
+        &["run", "--workers", "1", "--views", "5"],
+        &["run", "--workers=1", "--views", "1"],
+        &["run", "--views", "1", "--workers", "1"],
+    ];
+    for words in lists {
+        assert_eq!(rt; asked(rt.alloc(), words)?, (None, true));
     }
     Ok(())
 }

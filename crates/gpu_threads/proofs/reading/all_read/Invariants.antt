@@ -1,7 +1,15 @@
-use Rattle.std.specs.List.{range_with_len}
-use Rattle.gpu_threads.specs.Dumps.{AreAllRead}
+use Rattle.std.proofs.Common.{◌≡◌, suc, ◌+◌, length}
+use Rattle.std.specs.List.{All, range_with_len}
+use Rattle.gpu_threads.specs.Clients.{AreClientsFrom}
+use Rattle.gpu_threads.specs.Dumps.{AreAllRead, IsThrough}
 use Rattle.gpu_threads.proofs.reading.all_read.Given as goal
 
--- those of the streams up to here
-abbrev pub invariant-loop-done : goal.invariant-loop-done
-invariant-loop-done l = AreAllRead l.report.plans l.report.past (range_with_len 1 l.done) l.all.items
+-- those of the clients up to here
+abbrev pub invariant-loop-client : goal.invariant-loop-client
+invariant-loop-client g l = record {
+  same : l.hall ≡ l.fn.hall;
+  left : AreClientsFrom g.N.Naming.plans g.N.Naming.words g.N.Naming.result_words g.N.Naming.queues (suc (length l.all.items)) l.client-iterator.rest.items;
+  through : All (IsThrough g.N.Naming.plans l.hall) l.client-iterator.rest.items;
+  many : length l.all.items + length l.client-iterator.rest.items ≡ length g.N.Naming.plans.plans;
+  done : AreAllRead g.N.Naming.plans l.hall (range_with_len 1 (length l.all.items)) l.all.items;
+}

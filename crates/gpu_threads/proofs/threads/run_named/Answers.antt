@@ -1,14 +1,27 @@
-use Rattle.std.proofs.Common.{length, sym, ap, ◌∙◌}
+use Rattle.std.proofs.Common.{List, sym, subst}
+use Rattle.atomic_table.specs.Seated.{TableId}
 use Rattle.gpu_plan.specs.Plans.{PlansData}
-use Rattle.gpu_house.specs.Names.{table_at}
-use Rattle.gpu_threads.proofs.Made.{no_results, clients_named, clients_fit}
+use Rattle.gpu_threads.specs.Making.{AreFreshWriters}
+use Rattle.gpu_threads.specs.Rows.{AreShared}
+use Rattle.gpu_threads.proofs.Made.{fresh_writers, clients_named, clients_fit, shared_named}
 use Rattle.gpu_threads.proofs.threads.run_named.Goals as goal
 
 pub make-requires-clause-results : goal.make-requires-clause-results
 make-requires-clause-results g c =
-    no_results (table_at g.N.Naming.result_words) 1 c.args.plans.plans c.args.parts.results.items (c.requires.fresh.results ∙ ap (λ (p : PlansData). length p.plans) (sym c.requires.plans))
-
-pub jobs_of-requires : goal.jobs_of-requires
-jobs_of-requires g c =
     let N = g.N.Naming in
-    clients_fit N.plans N.words N.queues c.args.parts.clients.items (clients_named N.plans.plans c.args.parts N.words N.queues c.requires.words c.requires.queues c.requires.fresh)
+    let writers = c.args.parts.results.items in
+    fresh_writers c.args.plans N.result_words writers
+    (subst (λ (p : PlansData). AreFreshWriters p.plans N.result_words writers) (sym c.requires.plans)
+    (subst (λ (row : List TableId). AreFreshWriters N.plans.plans row writers) c.requires.results c.requires.fresh.writers))
+
+pub run_hall-requires-clause-clients : goal.run_hall-requires-clause-clients
+run_hall-requires-clause-clients g c κs within =
+    let N = g.N.Naming in
+    clients_fit N.plans N.words N.result_words N.queues c.args.parts.clients.items (clients_named N.plans.plans c.args.parts N.words N.result_words N.queues c.requires.words c.requires.results c.requires.queues c.requires.fresh)
+
+pub run_hall-requires-clause-shared : goal.run_hall-requires-clause-shared
+run_hall-requires-clause-shared g c κs within =
+    let N = g.N.Naming in
+    subst (λ (words : List (TableId × TableId)). AreShared N.plans N.words N.result_words N.queues words c.deref-2.result.now) (sym c.deref.ensures.value)
+    (subst (λ (queues : List TableId). AreShared N.plans N.words N.result_words N.queues c.args.parts.words.items queues) (sym c.deref-2.ensures.value)
+    (shared_named N.plans c.args.parts N.words N.result_words N.queues c.requires.words c.requires.results c.requires.queues c.requires.fresh))

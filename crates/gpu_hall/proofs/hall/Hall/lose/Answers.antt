@@ -3,11 +3,12 @@ use Rattle.sync_core.specs.Standing.{is_open}
 use Rattle.gpu_journal.specs.declared.event.Event.TheVariants.{Lost}
 use Rattle.gpu_journal.specs.declared.event.Why.TheVariants.{Memory}
 use Rattle.gpu_journal.specs.Waits.{standing_of}
-use Rattle.gpu_hall.proofs.Takers.{takers_while}
+use Rattle.gpu_hall.proofs.Fitting.{fits_while}
 use Rattle.gpu_hall.proofs.hall.Hall.lose.Goals as goal
 
 pub invariant_of-self : goal.invariant_of-self
 invariant_of-self g c =
     let N = g.N.Naming in
     let h = c.self.inside.house.core.past in
-    takers_while N.plans N.words N.queues (Lost c.args.run.run.stream Memory []) h c.lose.new.self.core.past c.self.inside.takers.items (is_open (standing_of N.plans h c.args.run.run.stream)) refl c.lose.ensures.event c.lose.ensures.over c.self.invariant
+    fits_while N.plans N.words N.queues N.view c.self.inside.takers.items c.self.inside.view (Lost c.args.run.run.stream Memory []) h c.lose.new.self.core.past (is_open (standing_of N.plans h c.args.run.run.stream)) refl refl
+    c.lose.ensures.event c.lose.ensures.over c.self.invariant

@@ -3,11 +3,12 @@ use Rattle.sync_core.specs.Standing.{is_open}
 use Rattle.gpu_journal.specs.declared.event.Event.TheVariants.{Lost}
 use Rattle.gpu_journal.specs.declared.event.Why.TheVariants.{Memory}
 use Rattle.gpu_journal.specs.Waits.{standing_of}
-use Rattle.gpu_hall.proofs.Takers.{takers_while}
+use Rattle.gpu_hall.proofs.Fitting.{fits_while}
 use Rattle.gpu_hall.proofs.hall.Hall.lose_client.Goals as goal
 
 pub invariant_of-self : goal.invariant_of-self
 invariant_of-self g c =
     let N = g.N.Naming in
     let h = c.self.inside.house.core.past in
-    takers_while N.plans N.words N.queues (Lost c.args.stream Memory []) h c.lose_client.new.self.core.past c.self.inside.takers.items (is_open (standing_of N.plans h c.args.stream)) refl (λ o. (c.lose_client.ensures.event o).past) (λ o. (c.lose_client.ensures.over o).past) c.self.invariant
+    fits_while N.plans N.words N.queues N.view c.self.inside.takers.items c.self.inside.view (Lost c.args.stream Memory []) h c.lose_client.new.self.core.past (is_open (standing_of N.plans h c.args.stream)) refl refl
+    (λ o. (c.lose_client.ensures.event o).past) (λ o. (c.lose_client.ensures.over o).past) c.self.invariant

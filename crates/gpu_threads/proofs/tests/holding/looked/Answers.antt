@@ -1,29 +1,29 @@
-use Rattle.std.proofs.Common.{length, sym, ap, subst, ◌∙◌}
-use Rattle.std.proofs.lemmas.List.Elements.{All-head, All-rest}
-use Rattle.std.specs.List.{All}
+use Rattle.std.proofs.Common.{List, sym, subst}
+use Rattle.atomic_table.specs.Seated.{TableId}
 use Rattle.gpu_plan.specs.Plans.{PlansData}
-use Rattle.gpu_house.specs.Names.{table_at}
-use Rattle.gpu_threads.specs.Clients.{IsClientOf}
-use Rattle.gpu_threads.proofs.Made.{no_results, clients_named, clients_fit}
+use Rattle.gpu_threads.specs.Clients.{AreClientsOf}
+use Rattle.gpu_threads.specs.Making.{AreFreshWriters}
+use Rattle.gpu_threads.specs.Rows.{AreShared}
+use Rattle.gpu_threads.proofs.Made.{fresh_writers, clients_named, clients_fit, shared_named}
 use Rattle.gpu_threads.proofs.tests.holding.looked.Goals as goal
 
 pub make-requires-clause-results : goal.make-requires-clause-results
 make-requires-clause-results g c =
-    no_results (table_at g.N.Naming.result_words) 1 c.args.plans.plans c.args.parts.results.items (c.requires.fresh.results ∙ ap (λ (p : PlansData). length p.plans) (sym c.requires.plans))
-
-pub loop-client-init : goal.loop-client-init
-loop-client-init g c =
     let N = g.N.Naming in
-    subst (All (IsClientOf N.plans N.words N.queues)) (sym c.into_iter-client-iterator.ensures.into_iter_gives.0)
-    (clients_fit N.plans N.words N.queues c.args.parts.clients.items (clients_named N.plans.plans c.args.parts N.words N.queues c.requires.words c.requires.queues c.requires.fresh))
+    let writers = c.args.parts.results.items in
+    fresh_writers c.args.plans N.result_words writers
+    (subst (λ (p : PlansData). AreFreshWriters p.plans N.result_words writers) (sym c.requires.plans)
+    (subst (λ (row : List TableId). AreFreshWriters N.plans.plans row writers) c.requires.results c.requires.fresh.writers))
 
-pub run_job-requires-clause-job : goal.run_job-requires-clause-job
-run_job-requires-clause-job g c =
+pub look_between-two-requires-clause-clients : goal.look_between-two-requires-clause-clients
+look_between-two-requires-clause-clients g c =
     let N = g.N.Naming in
-    let Of = IsClientOf N.plans N.words N.queues in
-    All-head Of c.in-Some.client c.next.new.self.rest.items (subst (All Of) c.in-Some.ensures.steps.0 c.loop-client.invariant)
+    subst (AreClientsOf N.plans N.words N.result_words N.queues) (sym c.deref_mut.ensures.value)
+    (clients_fit N.plans N.words N.result_words N.queues c.args.parts.clients.items (clients_named N.plans.plans c.args.parts N.words N.result_words N.queues c.requires.words c.requires.results c.requires.queues c.requires.fresh))
 
-pub loop-client-preserved : goal.loop-client-preserved
-loop-client-preserved g c =
+pub look_between-two-requires-clause-shared : goal.look_between-two-requires-clause-shared
+look_between-two-requires-clause-shared g c =
     let N = g.N.Naming in
-    All-rest (IsClientOf N.plans N.words N.queues) c.in-Some.client c.next.new.self.rest.items c.loop-client.client-iterator.rest.items c.in-Some.ensures.steps.0 c.loop-client.invariant
+    subst (λ (words : List (TableId × TableId)). AreShared N.plans N.words N.result_words N.queues words c.deref-2.result.now) (sym c.deref.ensures.value)
+    (subst (λ (queues : List TableId). AreShared N.plans N.words N.result_words N.queues c.args.parts.words.items queues) (sym c.deref-2.ensures.value)
+    (shared_named N.plans c.args.parts N.words N.result_words N.queues c.requires.words c.requires.results c.requires.queues c.requires.fresh))

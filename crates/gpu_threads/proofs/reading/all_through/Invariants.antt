@@ -1,0 +1,6 @@
+use Rattle.std.specs.List.{AllWithin}
+use Rattle.gpu_threads.specs.Dumps.{IsThrough}
+use Rattle.gpu_threads.proofs.reading.all_through.Given as goal
+
+abbrev pub invariant-loop-client : goal.invariant-loop-client
+invariant-loop-client g l = AllWithin (IsThrough g.N.Naming.plans l.hall) l.clients 0 l.client-index

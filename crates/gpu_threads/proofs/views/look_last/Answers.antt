@@ -1,0 +1,25 @@
+use Rattle.std.proofs.Common.{◌≡◌, length, map, ap, subst, ◌∙◌}
+use Rattle.std.specs.List.{All}
+use Rattle.std.specs.List.Sorted.{IsNonDecreasingBy}
+use Rattle.live_view.specs.declared.look.Sight.{Sight}
+use Rattle.live_view.specs.Looks.{IsOf}
+use Rattle.gpu_hall.specs.Views.{ShownData}
+use Rattle.gpu_threads.specs.Views.{IsTold, SawTold}
+use Rattle.gpu_threads.proofs.Watched.{all_seen}
+use Rattle.gpu_threads.proofs.views.look_last.Goals as goal
+
+-- what was told after the last look is what was told before it, and no look came after it
+pub returns-clause-looks : goal.returns-clause-looks
+returns-clause-looks g c =
+    let shown = c.args.shown.now in
+    let now = c.look.new.self in
+    let same : c.confirm.new.watch.looks ≡ now.looks = c.confirm.ensures.looks in
+    let told = c.confirm.ensures.told in
+    let saw : SawTold shown now = record {
+      told = told.told;
+      is_told = subst (λ (s : ShownData). IsTold s told.told) c.inform.ensures.same told.is_told;
+      each = subst (All (IsOf told.told.versions)) same told.each;
+    } in
+    all_seen shown c.inform.new.watch now (ap length c.inform.ensures.looks ∙ c.requires.watched) c.inform.ensures.told c.look.ensures saw c.into_seen.result.items
+    (c.into_seen.ensures.seen ∙ ap (map (λ (s : Sight). s.look)) same)
+    (subst (IsNonDecreasingBy (λ (s : Sight). s.look.events)) same c.into_seen.ensures.kept.events)

@@ -1,0 +1,71 @@
+-- What the viewers of a run on threads see.
+use Rattle.std.specs.Prelude.{◌≡◌, ℕ, ◌-◌, ◌<◌, ◌≤◌, List, [], ◌∷◌, ◌++◌, length, map, slice_get, slice_index_or, option_map, Some, Vec}
+use Rattle.std.specs.List.{All}
+use Rattle.std.specs.List.Sorted.{IsNonDecreasingBy}
+use Rattle.std.specs.declared.alloc.Global.{Global}
+use mathlib.Core.List.{IsPrefix}
+use Rattle.logbook.specs.Pages.{Book}
+use Rattle.gpu_plan.specs.Plans.{PlansData}
+use Rattle.gpu_journal.specs.declared.event.Event.{Event}
+use Rattle.live_view.specs.declared.look.Look.{Look}
+use Rattle.live_view.specs.Looks.{sight, IsOf}
+use Rattle.live_view.specs.Fronts.{FrontData}
+use Rattle.live_view.specs.Seen.{ViewerData}
+use Rattle.gpu_hall.specs.Looks.{IsLookOf}
+use Rattle.gpu_hall.specs.Views.{ShowAll, ShownData}
+
+-- ---- what comes of a run
+
+-- the looks of one viewer: there are 17; each is of so many first events of the journal; the number of events does not fall from look to
+-- look; and the last look is of all events
+pub record AreViewerLooks (p : PlansData) (h : List Event) (looks : List Look) : Type 0 where
+  pub count : length looks ≡ 17
+  pub each : All (IsLookOf p h) looks
+  pub rising : IsNonDecreasingBy (λ look. look.events) looks
+  pub last : option_map (λ (look : Look). look.events) (slice_get looks 16) ≡ Some (length h)
+
+-- there are so many viewers, and these are the looks of each, in order
+pub record AreAllLooks (p : PlansData) (h : List Event) (viewers : ℕ) (all : List (Vec Look Global)) : Type 0 where
+  pub many : length all ≡ viewers
+  pub each : All (λ looks. AreViewerLooks p h looks.items) all
+
+-- ---- a viewer on its thread
+
+-- it keeps a list of what it saw, which has room for 17 looks
+pub record IsWatch (viewer : ViewerData) (seen : List Look) (capacity : ℕ) : Type 0 where
+  pub seen_is : seen ≡ map (λ sight. sight.look) viewer.looks
+  pub room : 17 ≤ capacity
+
+-- it is of this view, and has looked so often
+pub record HasWatched (view : Book) (count : ℕ) (viewer : ViewerData) : Type 0 where
+  pub view_is : viewer.view ≡ view
+  pub count_is : length viewer.looks ≡ count
+
+-- it has not looked
+abbrev pub HasNotLooked : ViewerData → Type 0
+HasNotLooked viewer = length viewer.looks ≡ 0
+
+-- each of these viewers is of the same view as before, and has looked so often
+pub record HaveWatched (count : ℕ) (old new : List ViewerData) : Type 0 where
+  pub many : length new ≡ length old
+  pub each : (k : ℕ) (other : ViewerData) → k < length old → HasWatched (slice_index_or old k other).view count (slice_index_or new k other)
+
+-- it looked once more, at the last version that it knows of then
+pub record HasLooked (old new : ViewerData) : Type 0 where
+  pub view : new.view ≡ old.view
+  pub longer : IsPrefix old.versions new.versions
+  pub look : Look
+  pub looks : new.looks ≡ old.looks ++ sight (length new.versions - 1) look ∷ []
+
+-- ---- the end
+
+-- the view was told
+pub record IsTold (shown : ShownData) (told : FrontData) : Type 0 where
+  pub its : shown.view ≡ Some told
+  pub all : ShowAll shown.plans shown.past told.versions
+
+-- each look of the viewer was at a version that was told
+pub record SawTold (shown : ShownData) (viewer : ViewerData) : Type 0 where
+  pub told : FrontData
+  pub is_told : IsTold shown told
+  pub each : All (IsOf told.versions) viewer.looks

@@ -1,0 +1,106 @@
+ghost use Rattle.std.specs.Prelude.{◌≡◌, ◌<◌, [], length, map, IfOk, IsTrue};
+ghost use Rattle.std.specs.List.{All};
+ghost use mathlib.Core.List.{IsPrefix};
+ghost use Rattle.live_view.specs.Looks.{IsOf, AreLooks};
+ghost use Rattle.gpu_threads.specs.Views.{HasNotLooked, HasWatched, HasLooked};
+
+use gpu_io::{Gate, Place};
+use gpu_word::Memory;
+use live_view::{Look, Told, Viewer};
+use std::alloc::Global;
+use std::marker::Model;
+use std::sync::Wait;
+
+/// How often a viewer looks while the run goes on.
+const LOOKS: u32 = 16;
+
+/// How often it looks in all: once more when the run is over.
+const ALL_LOOKS: usize = 17;
+
+/// A viewer of a run, on a thread of its own, with its number, counted from 1, and what it saw.
+///
+/// Seen as its viewer.
+#[derive(Drop)]
+pub(crate) struct Watch {
+    number: u32,
+    viewer: Viewer,
+    seen: Vec<Look>,
+}
+
+impl Model for Watch {
+    ghost use Rattle.std.specs.Prelude.{vec_capacity};
+    ghost use Rattle.live_view.specs.Seen.{ViewerData};
+    ghost use Rattle.gpu_threads.specs.Views.{IsWatch};
+
+    ghost Value = { ViewerData };
+
+    ghost view = { λ watch. watch.viewer };
+
+    ghost invariant = { λ watch. IsWatch watch.viewer watch.seen.items (vec_capacity watch.seen) };
+}
+
+impl Watch {
+    /// A viewer that has not looked, with room for what it will see.
+    pub(crate) fn make(alloc: Global, number: u32, viewer: Viewer) -> Result<Watch, Memory>
+        requires { viewer.looks ≡ [] }
+        ensures { IfOk result (λ watch. watch ≡ viewer) }
+    {
+        Ok(Watch {
+            number,
+            viewer,
+            seen: Vec::with_capacity(alloc, ALL_LOOKS)?,
+        })
+    }
+
+    /// Looks once.
+    pub(crate) fn look<R: Wait>(&mut self, rt: &R)
+        requires { length self.old.looks < 17 }
+        ensures { HasLooked self.old self.new }
+    {
+        let look = self.viewer.look(rt);
+        self.seen.push_reserved(look);
+    }
+
+    // Looks once, where the gate lets it.
+    fn look_at<R: Wait, G: Gate>(&mut self, rt: &R, gate: &G, look: u32)
+        requires { length self.old.looks < 17 }
+        ensures { HasLooked self.old self.new }
+    {
+        gate.reach(Place::BeforeLook {
+            viewer: self.number,
+            look,
+        });
+        self.look(rt);
+    }
+
+    /// All looks that are done while the run goes on.
+    pub(crate) fn watch<R: Wait, G: Gate>(&mut self, rt: &R, gate: &G)
+        requires { HasNotLooked self.old }
+        ensures { HasWatched self.old.view 16 self.new }
+    {
+        for done in 0..LOOKS {
+            self.look_at(rt, gate, done + 1);
+        }
+    }
+
+    /// Takes in what the writer told, and says whether all looks were at versions that were told.
+    pub(crate) fn learn<R: Wait>(&mut self, rt: &R, told: Told) -> bool
+        requires { told.view ≡ self.old.view }
+        ensures view { self.new.view ≡ self.old.view }
+        ensures told { IsPrefix told.versions self.new.versions }
+        ensures looks { self.new.looks ≡ self.old.looks }
+        ensures each { IsTrue result → All (IsOf told.versions) self.old.looks }
+    {
+        self.viewer.learn(rt, told)
+    }
+
+    /// What it saw.
+    pub(crate) fn into_seen(self) -> Vec<Look>
+        ensures seen { result.items ≡ map (λ sight. sight.look) self.looks }
+        ensures kept { AreLooks self.versions self.looks }
+    {
+        let Watch { viewer, seen, .. } = self;
+        let _ = viewer.looks();
+        seen
+    }
+}
