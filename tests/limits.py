@@ -70,6 +70,18 @@ def widest_spans():
     return script, model.answer(["run"], script.encode())[1]
 
 
+def largest_command():
+    """A command of as many entries as follow in a ring, and a Noop of as many; what the first one brought is read back."""
+    entries = 4096 - 3
+    size = 4 * (entries - 4)
+    values = " ".join(f"{(2654435761 * place + 7) % 2**32:x}" for place in range(entries - 4))
+    script = HEAD + lines("stream 1 normal 4096", f"results 0 {entries - 4}", f"put 0 400003 0 {size:x}", "flush 3", "finish",
+                          f"put 3 {(4 << 21) + entries:x} 0 0 {size:x} {values}", "flush 0", "finish",
+                          f"put 0 c00006 0 0 {size:x} 0 0", "flush 6", "dump 0 0", f"dump 0 {entries - 5}",
+                          f"put 6 {4096 - 6:x}", "flush 0")
+    return script, model.answer(["run"], script.encode())[1]
+
+
 def most_events():
     """Two streams that each fetch as many words as they may, one a command: above two million events."""
     flushes = FETCHED_AT_MOST // 2048
@@ -99,4 +111,4 @@ def generated_2000_1():
 
 MAKERS = {maker.__name__: maker for maker in (
     flushes_of_one, flushes_of_sixteen, flush_past_the_limit, most_actions, action_past_the_limit, widest_spans,
-    most_events, verify_late_fault, generated_2000_1)}
+    largest_command, most_events, verify_late_fault, generated_2000_1)}

@@ -2,14 +2,16 @@
 
 The run may be one on threads, so there are many histories of a script. `judged(script, output)` reads the journal of an output,
 and answers a `History`, or raises `Wrong`: the journal breaks a rule, is not complete, or the other lines are not those that
-follow from it. `verdict(script, lines)` is what `verify` has to say of a journal. Nothing of it is shared with the crates.
+follow from it. An output may have the lines of so many viewers, which model_views.py judges. `verdict(script, lines)` is what
+`verify` has to say of a journal. Nothing of it is shared with the crates.
 """
 
 import re
 from bisect import bisect_right
 
 import model
-from model_run import Lost, Run, Stream, fetched_command, shown
+import model_views
+from model_run import COPY, CREATE, DELETE, Lost, Run, Stream, fetched_command, shown
 
 NUMBER = "(0|[1-9][0-9]{0,9})"
 WORDS = "((?: (?:0|[1-9][0-9]{0,9}):[0-9a-f]{8})*)"
@@ -114,6 +116,7 @@ class History(Run):
         self.names = {plan.name: number for number, plan in enumerate(script.plans, 1)}
         self.images, self.events, self.endings, self.marks_made = {}, [], [], {}
         self.pending, self.orders = [], 0
+        self.sum, self.sums, self.looks = 0, [0], model_views.Looks()  # of all texels: now, and after so many events
         # What only threads give, and what they give more often.
         self.newer_words = self.torn_commands = self.early_orders = self.late_orders = self.late_dumps = 0
 
@@ -125,6 +128,7 @@ class History(Run):
         getattr(self, "take_" + kind)(s, *numbers, *([words] if kind in ("step", "lost") else []))
         if len(self.events) < self.at:
             self.events.append(line)
+        self.sums.append(self.sum % 2**32)
         if s:
             s.go()
 
@@ -208,10 +212,26 @@ class History(Run):
         self.need(s.ordered == len(s.places) and s.next == len(s.plan.actions) - 1, 12)
         self.end(number, s, "closed", f"close {number}")
 
+    def is_complete(self):
+        return all(s.gone or (not s.plan.closed() and s.finished == len(s.places)) for s in self.streams)
+
     def need_complete(self):
-        for s in self.streams:
-            if not s.gone and (s.plan.closed() or s.finished < len(s.places)):
-                raise NotComplete
+        if not self.is_complete():
+            raise NotComplete
+
+    def draw(self, s, command, a, data):
+        """The commands on images, with the sum of the texels that they change."""
+        before = self.covered(command, a)
+        error = super().draw(s, command, a, data)
+        if error is None:
+            self.sum += self.covered(command, a) - before
+        return error
+
+    def covered(self, command, a):
+        """The sum of the texels that a command changes, now: those of a rectangle, or of an image that comes or goes."""
+        if command in (CREATE, DELETE):
+            return sum(self.images[a[0]][2]) if a[0] in self.images else 0
+        return model_views.sum_of(self.images, *(a[3:8] if command == COPY else a[:5]))
 
     # --- The dump lines ---
 
@@ -238,6 +258,13 @@ class History(Run):
                 raise Wrong(f"`{line}` stands where `{heads[0]}`, or a later value, is due")
             self.late_dumps += line != heads[0]
 
+    # --- The view lines ---
+
+    def judge_views(self, lines, viewers):
+        fault, self.looks = model_views.fault_of(lines, viewers, self.sums)
+        if fault:
+            raise Wrong(fault)
+
 
 def is_torn(s, words, could):
     """Whether no one moment gives all of these words, which the places could have one by one."""
@@ -263,8 +290,9 @@ def history_of(script, lines):
     return history
 
 
-def judged(script, output):
-    """The history of an output, whose other lines are those that follow from it; what is wrong is raised."""
+def judged(script, output, viewers=0):
+    """The history of an output, whose other lines are those that follow from it, or that so many viewers may give; what is wrong
+    is raised."""
     lines = output.decode("latin-1").split("\n")
     if lines.pop():
         raise Wrong("the last line has no line feed")
@@ -281,8 +309,37 @@ def judged(script, output):
             raise Wrong(f"line {line} behind the journal: {want[:90]!r} follows from it, and {have[:90]!r} stands there")
     if len(rest) < len(due):
         raise Wrong(f"line {len(rest) + 1} behind the journal is missing: {due[len(rest)][:90]!r}")
-    history.judge_dumps(rest[len(due):])
+    rest = rest[len(due):]
+    end = next((at for at, line in enumerate(rest) if line.startswith("view ")), len(rest))
+    history.judge_dumps(rest[:end])
+    history.judge_views(rest[end:], viewers)
     return history
+
+
+def judged_front(script, output):
+    """Judges the first lines of an output as far as they go, but for dumps and view lines.
+
+    It answers whether the journal is whole, and None where the lines before it are not all there.
+    """
+    lines = output.decode("latin-1").split("\n")[:-1]
+    history = History(script)
+    before = model.head(history)
+    if lines[:len(before)] != before[:len(lines)]:
+        raise Wrong("the head or the names are not those of the script")
+    if len(lines) < len(before):
+        return None
+    lines = lines[len(before):]
+    end = next((at for at, line in enumerate(lines) if line.startswith(tuple(part + " " for part in OTHER_PARTS))), len(lines))
+    for number, line in enumerate(lines[:end], 1):
+        if read_event(line) is None:
+            raise NoEvent(number)
+        history.take(line)
+    if end < len(lines):
+        history.need_complete()
+        for want, have in zip(model.rest(history), lines[end:]):
+            if want != have:
+                raise Wrong(f"{want[:90]!r} follows from the journal, and {have[:90]!r} stands there")
+    return history.is_complete()
 
 
 def verdict(script, lines):

@@ -8,6 +8,7 @@ import subprocess
 import sys
 
 PARTS = ("workers", "memory", "pictures", "traces", "mutations", "explaining", "manual", "releases", "pages")
+ASIDE = ("greatest",)  # parts that take long, and come only where they are asked for
 
 # Faults that the parts have to find, for the test of the check itself: a part, a file, what stands there, what is put there.
 PLANTED = (

@@ -1,4 +1,6 @@
-"""Sees that crates.txt lists for each crate no library that the crate's files never name.
+"""Sees that each crate is described once, and that crates.txt lists for it no library that its files never name.
+
+A crate is described by its row in the tables of docs/ARCHITECTURE.md, which names as what it stands on crates that it lists.
 
 A file of src/, specs/ or proofs/ names a library by a path: `Rattle.NAME.` in a definition or a proof, and in code
 `NAME::` or `use NAME`. What a remark says is no name.
@@ -7,7 +9,8 @@ A file of src/, specs/ or proofs/ names a library by a path: `Rattle.NAME.` in a
 import os
 import re
 
-LIST = "crates.txt"
+LIST, TABLE = "crates.txt", "docs/ARCHITECTURE.md"
+ROW = re.compile(r"^\| `(\w+)` \|[^|]+\| ([^|]*) \|[^|]+\|$", re.MULTILINE)
 REMARK = {".rt": re.compile(r"(?<!:)//[^\n]*"), ".antt": re.compile(r"(?:^|(?<=\s))--[^\n]*", re.MULTILINE)}
 NAMES = {
     ".rt": re.compile(r"\bRattle\.(\w+)\.|(?<![\w:])(\w+)::|\buse (\w+)\b(?!\.)"),
@@ -34,8 +37,21 @@ def named(folder):
     return found
 
 
+def check_rows(top, tally):
+    """Tells of each crate that has no row or two, and of each row that names what its crate does not list."""
+    crates = dict(listed(top))
+    rows = ROW.findall((top / TABLE).read_text(encoding="utf-8"))
+    for crate in sorted(crates.keys() | {name for name, _ in rows}):
+        found = [below for name, below in rows if name == crate]
+        tally.tell(f"{TABLE}: {crate}", None if len(found) == 1 and crate in crates else f"it has {len(found)} rows")
+    for crate, below in rows:
+        strange = [name for name in re.findall(r"`(\w+)`", below) if name not in crates.get(crate, ())]
+        tally.tell(f"{TABLE}: what {crate} stands on", f"{LIST} does not list {strange[0]}" if strange else None)
+
+
 def check(top, tally):
-    """Tells of each crate the first library that it lists and never names."""
+    """Tells of each crate the first library that it lists and never names, and whether it is described once."""
+    check_rows(top, tally)
     for crate, libraries in listed(top):
         names = named(top / "crates" / crate)
         needless = [library for library in libraries if library not in names]

@@ -5,13 +5,14 @@ A run with 1 to 8 workers prints one of many histories. So of each output it is 
 - the run ends as its journal says, and never for want of memory;
 - `verify` says yes to it, and shows its picture;
 - the model (tests/model_history.py), a second reading of the rules, finds the journal legal and complete, and the images, the
-  lines of the streams, the marks and the dumps to be those that follow from it;
+  lines of the streams, the marks, the dumps and the view lines to be those that follow from it;
 - it is what is fixed for the case.
 
 What is fixed is the whole stored output where a stream is alone and each of its flushes but the first stands behind an await
-that only the finish before it lets pass, and where a script is refused: these cases are WHOLE. For the cases of SHAPES it is
-which lines there are, and how often; in what order they stand, the rules say. For all others nothing more is fixed: so it is
-for `results_during_the_run`, since the dumps of a run with workers are read when it is over, so far.
+that only the finish before it lets pass, and where a script is refused: these cases are WHOLE. A dump is such an await too, and
+is read before anything behind it is flushed. For the cases of SHAPES it is which lines there are, and how often; in what order
+they stand, the rules say. For all others nothing more is fixed. Of view lines nothing is fixed but what the model says; they
+stand behind all else, and `verify` passes over them.
 """
 
 import functools
@@ -23,18 +24,25 @@ from concurrent.futures import ThreadPoolExecutor
 from fnmatch import fnmatch
 from pathlib import Path
 
+import large
 import model_history
 from model_script import Reader
 
 SECONDS = 120
+INPUT_AT_MOST = 16_777_216
 COUNTS = (1, 2, 4, 8)
 CASES = "tests/cases"
 FOLDERS = ("hostile", "lost", "refused", "results", "runs", "waits")
 BESIDE = ("large/generated_200_1",)
+LARGE, LARGE_COUNTS = ("large/largest_command", "large/widest_spans"), (2,)
+VIEWS, VIEWERS = "runs/views", (1, 4)
 RANDOM, RANDOM_CASES, RANDOM_COUNTS = "random", 200, (1, 4)
+# Of the random cases: how many with dumps, and with how many workers; how many with viewers, and with what.
+DUMP_CASES, DUMP_COUNTS = 100, (1, 2, 4)
+VIEW_CASES, VIEW_WORKERS, VIEW_VIEWERS = 100, 2, 4
 
-WHOLE = ("hostile/*", "lost/*", "refused/*", "results/result_*", "results/results", "results/results_and_close",
-         "runs/bucket_upload", "runs/byte_range", "runs/empty_*", "runs/head_*", "runs/overlapping_copy", "runs/two_texels",
+WHOLE = ("hostile/*", "large/largest_*", "large/widest_spans", "lost/*", "refused/*", "results/*", "runs/bucket_upload",
+         "runs/byte_range", "runs/empty_*", "runs/head_*", "runs/overlapping_copy", "runs/two_texels", "runs/views",
          "runs/wrap_at_the_end", "runs/write_is_read_back")
 
 # How often each line comes, and what it looks like; the first pattern that fits a line is its own.
@@ -130,8 +138,10 @@ def run(program, words, text, seconds=SECONDS):
     return Ran(ran.returncode, ran.stdout, ran.stderr)
 
 
-def words_of(workers):
-    """The words for so many workers; both spellings come."""
+def words_of(workers, viewers=0):
+    """The words for so many workers; both spellings come, where no viewer asks for one of them."""
+    if viewers:
+        return ["run", "--workers", str(workers), "--views", str(viewers)]
     return ["run", f"--workers={workers}"] if workers % 4 == 2 else ["run", "--workers", str(workers)]
 
 
@@ -171,9 +181,15 @@ def faults_of_verify(program, script, output, seconds=SECONDS):
     return answer, None if picture == picture_of(output) else "it shows another picture"
 
 
-def fault_of_model(reader, output):
+def without_views(output):
+    """What stands before the view lines."""
+    begin = 0 if output.startswith(b"view ") else output.find(b"\nview ") + 1 or len(output)
+    return output[:begin]
+
+
+def fault_of_model(reader, output, viewers=0):
     try:
-        model_history.judged(reader, output)
+        model_history.judged(reader, output, viewers)
     except model_history.Wrong as wrong:
         return str(wrong)
     return None
@@ -196,18 +212,25 @@ def fault_of_shape(shape, output):
 
 
 class Case:
-    """A stored case that is a plain `run`."""
+    """A stored case that is a plain `run`, or one with viewers; what is stored of its output is what stands before their lines.
 
-    def __init__(self, top, name):
+    It has its output where it is WHOLE, or `whole` asks for it.
+    """
+
+    def __init__(self, top, name, whole=False):
         base = top / CASES / name
+        made = []
 
-        def part(ending, default=b""):
+        def part(ending, place=None):
             path = base.with_name(base.name + ending)
-            return path.read_bytes() if path.exists() else default
+            if place is not None and path.with_name(path.name + ".sum").exists():
+                made.extend([] if made else large.MAKERS[base.name]())
+                return made[place].encode()
+            return path.read_bytes() if path.exists() else b""
 
-        self.name, self.script, self.fault = name, part(".script"), part(".stderr")
-        self.status, self.output = int(part(".status", b"0")), part(".stdout")
         self.is_whole = any(fnmatch(name, pattern) for pattern in WHOLE)
+        self.name, self.script, self.fault = name, part(".script", 0), part(".stderr")
+        self.status, self.output = int(part(".status") or 0), part(".stdout", 1) if whole or self.is_whole else b""
 
     @functools.cached_property
     def reader(self):
@@ -215,13 +238,14 @@ class Case:
 
     def fault_of_fixed(self, ran):
         """How a run differs from what is fixed for the case."""
-        if self.is_whole and (ran.status, ran.output, ran.fault) != (self.status, self.output, self.fault):
+        output = without_views(ran.output)
+        if self.is_whole and (ran.status, output, ran.fault) != (self.status, self.output, self.fault):
             return "it gives another output, status or line on standard error than is stored"
-        return fault_of_shape(SHAPES[self.name], ran.output) if self.name in SHAPES else None
+        return fault_of_shape(SHAPES[self.name], output) if self.name in SHAPES else None
 
-    def faults(self, program, workers, seconds=SECONDS):
-        """What is asked of a run with so many workers, each with what is wrong, or None."""
-        ran = run(program, words_of(workers), self.script, seconds)
+    def faults(self, program, workers, seconds=SECONDS, viewers=0):
+        """What is asked of a run with so many workers and viewers, each with what is wrong, or None."""
+        ran = run(program, words_of(workers, viewers), self.script, seconds)
         yield "what is fixed", self.fault_of_fixed(ran)
         if self.status not in (0, 1):
             return
@@ -229,43 +253,65 @@ class Case:
         yield "its end", fault if fault or ran.status != 8 else "streams were lost for want of memory"
         if ran.status not in (0, 1, 8):
             return
-        answer, picture = faults_of_verify(program, self.script, ran.output, seconds)
-        yield "verify", answer
-        yield "the picture of verify", picture
-        yield "the model", fault_of_model(self.reader, ran.output)
+        if len(journal_input(self.script, ran.output)) <= INPUT_AT_MOST:
+            answer, picture = faults_of_verify(program, self.script, ran.output, seconds)
+            yield "verify", answer
+            yield "the picture of verify", picture
+        yield "the model", fault_of_model(self.reader, ran.output, viewers)
 
 
-def cases_of(top):
-    """Each stored case that is run with workers, and with how many."""
-    for folder in FOLDERS:
-        for path in sorted((top / CASES / folder).glob("*.script")):
-            if not path.with_suffix(".words").exists():
-                yield Case(top, f"{folder}/{path.stem}"), COUNTS
-    for name in BESIDE:
-        yield Case(top, name), COUNTS
+def stored_runs(top):
+    """Each stored case that is no random one, with each number of workers and of viewers that it is run with."""
+    names = [f"{folder}/{path.stem}" for folder in FOLDERS for path in sorted((top / CASES / folder).glob("*.script"))
+             if not path.with_suffix(".words").exists()]
+    for name in (*names, *BESIDE):
+        case = Case(top, name)
+        yield from ((case, workers, 0) for workers in COUNTS)
+    for name in LARGE:
+        case = Case(top, name)
+        yield from ((case, workers, 0) for workers in LARGE_COUNTS)
+    case = Case(top, VIEWS)
+    yield from ((case, workers, viewers) for workers in COUNTS for viewers in VIEWERS)
+
+
+def random_runs(top):
+    """The same of the random cases: the first of all that are lawful, of those with dumps, and of all once more with viewers."""
     lawful = [case for case in (Case(top, f"{RANDOM}/{path.stem}") for path in sorted((top / CASES / RANDOM).glob("*.script")))
               if case.status in (0, 1)]
-    for case in lawful[:RANDOM_CASES]:
-        yield case, RANDOM_COUNTS
+    with_dumps = [case for case in lawful if re.search(rb"^dump ", case.script, re.MULTILINE)]
+    runs = [(case, workers, 0) for case in lawful[:RANDOM_CASES] for workers in RANDOM_COUNTS]
+    there = {(case.name, workers) for case, workers, _ in runs}
+    runs += [(case, workers, 0) for case in with_dumps[:DUMP_CASES] for workers in DUMP_COUNTS
+             if (case.name, workers) not in there]
+    return runs + [(case, VIEW_WORKERS, VIEW_VIEWERS) for case in lawful[:VIEW_CASES]], len(lawful), len(with_dumps)
 
 
 def check(top, program, tally):
-    """Tells of each case and number of workers what is asked of the run."""
-    runs = [(case, workers) for case, counts in cases_of(top) for workers in counts]
-    there = {case.name for case, _ in runs}
-    for name in (*SHAPES, *BESIDE):
+    """Tells of each case, number of workers and number of viewers what is asked of the run."""
+    drawn, lawful, with_dumps = random_runs(top)
+    runs = [*stored_runs(top), *drawn]
+    there = {case.name for case, _, _ in runs}
+    for name in SHAPES:
         tally.tell(f"{name} with workers", None if name in there else "there is no such case")
-    drawn = sum(name.startswith(RANDOM) for name in there)
-    tally.tell("random cases with workers", None if drawn == RANDOM_CASES else f"there are {drawn}")
+    tally.tell("random cases with workers", None if lawful >= RANDOM_CASES else f"there are {lawful}")
+    tally.tell("random cases with workers and dumps", None if with_dumps >= DUMP_CASES else f"there are {with_dumps}")
+    tell_runs(program, tally, runs)
+
+
+def tell_runs(program, tally, runs):
     with ThreadPoolExecutor(os.cpu_count()) as pool:
-        for (case, workers), found in zip(runs, pool.map(lambda item: list(item[0].faults(program, item[1])), runs)):
+        found_of = pool.map(lambda item: list(item[0].faults(program, item[1], viewers=item[2])), runs)
+        for (case, workers, viewers), found in zip(runs, found_of):
+            beside = f" and {viewers} viewers" if viewers else ""
             for what, fault in found:
-                tally.tell(f"{case.name} with {workers} workers: {what}", fault)
+                tally.tell(f"{case.name} with {workers} workers{beside}: {what}", fault)
 
 
 # --- The test of these checks ---
 
 MEMORY_LOST = ("order 1 1 11", "lost 1 memory", "stream 1 lost memory entries 0 release 0 token 0 words 0 errors 0 0 0")
+# What the first and the second view line say, in place of what they are.
+FALLING = '/^view/ { n++ } n == 1 { $0 = "view 1 4 fe0001fe" } /^view/ && n == 2 { $0 = "view 1 0 00000000" } 1'
 STALE_WORD = "s/^(step 1 13:.*) 32:88776655$/\\1 32:44332211/; s/^55667788$/11223344/"
 
 # Wrong answers that have to be found: by which check, in which case, of which command, and how the shell makes it.
@@ -289,6 +335,17 @@ PLANTED = (
     ("the model", "runs/write_is_read_back", "run", f'real "$@" | sed -E "{STALE_WORD}"'),
     ("the model", "results/results", "run", 'real "$@" | sed "s/^dump 1 17 0 00000006/dump 1 17 0 00000007/"'),
     ("the model", "results/results", "run", 'real "$@" | sed "/^dump 1 19/d"'),
+    ("the model", "runs/views", "run", 'real "$@" | sed "s/^view 1 4 fe0001fe/view 1 4 00000000/"'),
+    ("the model", "runs/views", "run", f"real \"$@\" | awk '{FALLING}'"),
+    ("the model", "runs/views", "run", 'real "$@" | sed "0,/^view/ { /^view/d }"'),
+    ("the model", "runs/views", "run", 'real "$@"; echo view 1 4 fe0001fe'),
+    ("the model", "runs/views", "run", 'real "$@" | sed "s/^view .*/view 1 3 fe0001fe/"'),
+    ("the model", "runs/views", "run", 'real "$@" | sed "\\$ s/^view 1 4/view 1 5/"'),
+    ("the model", "runs/views", "run", 'real "$@" | sed "\\$ s/^view 1/view 2/"'),
+    ("the model", "runs/views", "run", 'real "$@" | sed "\\$ s/fe0001fe/FE0001FE/"'),
+    ("the model", "runs/views", "run", 'real "$@" | sed "/^view/d"'),
+    ("what is fixed", "runs/views", "run", 'real "$@" | sed "s/^stream 1 done/stream 1 closed/"'),
+    ("what is fixed", "results/results_during_the_run", "run", 'real "$@" | sed "s/^dump 1 11 0 00000006/dump 1 11 0 00000007/"'),
     ("what is fixed", "runs/two_texels", "run", 'real "$@" | sed "s/10:ff0000ff/10:ff0000fe/"'),
     ("what is fixed", "hostile/first_size_zero", "run", 'real "$@" 2>&1'),
     ("what is fixed", "refused/bad_value", "run", "exit 5"),
@@ -311,11 +368,15 @@ def wrapped(program, folder, words, line):
 
 def selftest(top, program, tally):
     """Shows that each check finds the wrong answers that are planted for it."""
+    def faults_of(program, name, seconds=SECONDS):
+        found = Case(top, name).faults(program, 2, seconds, 1 if name == VIEWS else 0)
+        return [(what, fault) for what, fault in found if fault]
+
     for name in sorted({planted[1] for planted in PLANTED}):
-        found = [(what, fault) for what, fault in Case(top, name).faults(program, 2) if fault]
+        found = faults_of(program, name)
         tally.tell(f"{name} with 2 workers, nothing planted", f"{found[0][0]}: {found[0][1]}" if found else None)
     with tempfile.TemporaryDirectory() as folder:
         for wanted, name, words, line in PLANTED:
             seconds = 5 if "sleep" in line else SECONDS
-            found = [what for what, fault in Case(top, name).faults(wrapped(program, folder, words, line), 2, seconds) if fault]
+            found = [what for what, _ in faults_of(wrapped(program, folder, words, line), name, seconds)]
             tally.tell(f"{line!r} for {words} of {name}", None if wanted in found else f"{wanted} did not find it")
