@@ -1,4 +1,4 @@
-ghost use Rattle.std.specs.Prelude.{◌≡◌};
+ghost use Rattle.std.specs.Prelude.{◌≡◌, ◌≤◌, IfSome};
 
 use crate::{ResultReader, ResultWords, ResultWriter, make};
 use std::test::Fail;
@@ -7,6 +7,9 @@ use std::thread::Threads;
 
 /// How often the writer writes both places and counts a finish.
 const ROUNDS: u32 = 100_000;
+
+/// How often the reader reads both places, at the least.
+const READS: u32 = 100_000;
 
 /// How many turns the reader takes before it gives up.
 const TURNS: u32 = 10_000_000;
@@ -75,32 +78,56 @@ fn write_all(writer: &mut ResultWriter, words: &ResultWords)
     }
 }
 
-// Whether the last round is read within the turns. Each value is the number of a round, of the one asked for or of a later
-// one, and what is read of the first place, which is written first, is no older than what was read of the second.
-fn read_all(reader: &mut ResultReader, words: &ResultWords) -> bool
+// A later read than that of round `found`, or of it again: the round in the second place, or
+// `None` where what is read is not what the writer wrote. The finish of round `found` may be still
+// to come, but that of the round before it was counted. Each value is the number of a round, of
+// the last one asked for or of a later one, and what is read of the first place, which is written
+// first, is no older than what was read of the second.
+fn read_round(reader: &mut ResultReader, words: &ResultWords, found: u32) -> Option<u32>
+    requires table { words.now ≡ reader.old.table }
+    requires places { reader.old.places ≡ 2 }
+    requires found { found ≤ ROUNDS }
+
+    ensures table { words.now ≡ reader.new.table }
+    ensures places { reader.new.places ≡ 2 }
+    ensures round { IfSome result (λ round. round ≤ ROUNDS) }
+{
+    let (asked, least, second) = match reader.read(words, 1, found + 1) {
+        Some(second) => (found + 1, found + 1, second),
+        None => {
+            thread::yield_now();
+            let asked = found.saturating_sub(1);
+            (asked, found, reader.read(words, 1, asked)?)
+        }
+    };
+    let first = reader.read(words, 0, asked)?;
+    if second < least || first < second || first > ROUNDS {
+        return None;
+    }
+    Some(second)
+}
+
+// How many rounds were read, and which was the last, or `None` where a read was wrong. It goes on
+// until there were enough reads and the last round was among them, or until there are no more
+// turns. What is read before the first round counts for nothing.
+fn read_all(reader: &mut ResultReader, words: &ResultWords) -> Option<(u32, u32)>
     requires table { words.now ≡ reader.old.table }
     requires places { reader.old.places ≡ 2 }
 
     ensures table { words.now ≡ reader.new.table }
 {
-    let mut asked = 1;
+    let mut found = 0;
+    let mut reads = 0u32;
     for _ in 0..TURNS {
-        let Some(second) = reader.read(words, 1, asked) else {
-            thread::yield_now();
-            continue;
-        };
-        let Some(first) = reader.read(words, 0, asked) else {
-            return false;
-        };
-        if second < asked || first < second || first > ROUNDS {
-            return false;
+        found = read_round(reader, words, found)?;
+        if found > 0 {
+            reads = reads.saturating_add(1);
         }
-        if second == ROUNDS {
-            return true;
+        if reads >= READS && found == ROUNDS {
+            break;
         }
-        asked = second + 1;
     }
-    false
+    Some((reads, found))
 }
 
 // Both threads at work on the same words.
@@ -109,7 +136,7 @@ fn race<R: Threads>(
     words: &ResultWords,
     writer: ResultWriter,
     reader: ResultReader,
-) -> (ResultWriter, (ResultReader, bool))
+) -> (ResultWriter, (ResultReader, Option<(u32, u32)>))
     requires writer { (words.now ≡ writer.table) × (writer.places ≡ 2) }
     requires reader { (words.now ≡ reader.table) × (reader.places ≡ 2) }
 
@@ -141,7 +168,9 @@ fn race<R: Threads>(
 fn a_reader_sees_what_a_writer_on_another_thread_writes(rt: HostRuntime) -> Result<(), Fail> {
     let (words, writer, reader) = make(rt.alloc(), 2).ok().ok_or("memory is ample")?;
     let (mut writer, (mut reader, all)) = race(&rt, &words, writer, reader);
-    assert!(rt; all);
+    let (reads, last) = all.ok_or("each read is of what was written")?;
+    assert!(rt; reads >= READS);
+    assert_eq!(rt; last, ROUNDS);
     assert_eq!(rt; reader.read(&words, 0, ROUNDS), Some(ROUNDS));
     assert_eq!(rt; reader.read(&words, 1, ROUNDS + 1), None);
     writer.settle(&words, reader);

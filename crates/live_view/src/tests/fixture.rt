@@ -18,26 +18,26 @@ pub(super) fn pair<R: Wait>(rt: &R, alloc: Global) -> Result<(ViewWriter, Option
     Ok((writer, viewers.pop()))
 }
 
-/// An image of two texels.
-pub(super) fn create() -> Op
+/// An image of so many texels.
+pub(super) fn create(width: u32, height: u32) -> Op
     ensures { HasItsTexels result }
 {
     Op::Create {
         image: 3,
-        width: 2,
-        height: 1,
+        width,
+        height,
     }
 }
 
-/// A texel in both of them.
-pub(super) fn clear(texel: u32) -> Op
+/// One texel in all places of that image.
+pub(super) fn clear(width: u32, height: u32, texel: u32) -> Op
     ensures { HasItsTexels result }
 {
     let rect = Rect {
         x: 0,
         y: 0,
-        w: 2,
-        h: 1,
+        w: width,
+        h: height,
     };
     Op::Clear {
         image: 3,

@@ -9,34 +9,50 @@ use std::test::Fail;
 use std::thread;
 use std::thread::Threads;
 
-/// How many versions the writer publishes behind that of the blank image.
-const VERSIONS: u32 = 40;
+/// How many texels the image has on each side.
+const SIDE: u32 = 256;
 
-/// How often the viewer looks beside it.
-const LOOKS: u32 = 16;
+/// How many versions the writer publishes beside the viewer.
+const VERSIONS: u32 = 10_000;
 
-// Publishes a blank image, and then versions whose texels are their number of events.
+/// How often the viewer looks beside the writer.
+const LOOKS: u32 = 100_000;
+
+// Publishes a version whose texels are all one more than its number of events.
+fn shown<R: Wait>(rt: &R, writer: &mut ViewWriter, events: u32) -> bool
+    requires { IsLatest (writer.old.versions ++ writer.old.tried) events }
+    ensures { IsLatest (writer.new.versions ++ writer.new.tried) events }
+{
+    let texel = events.wrapping_add(1);
+    noted(writer, clear(SIDE, SIDE, texel)) && published(rt, writer, events)
+}
+
+// Publishes the image, which the viewer finds when it begins.
+fn begin<R: Wait>(rt: &R, writer: &mut ViewWriter) -> bool
+    requires { IsLatest (writer.old.versions ++ writer.old.tried) 0 }
+    ensures { IsLatest (writer.new.versions ++ writer.new.tried) 0 }
+{
+    noted(writer, create(SIDE, SIDE)) && shown(rt, writer, 0)
+}
+
+// Publishes all versions behind that.
 fn publish_all<R: Wait>(rt: &R, writer: &mut ViewWriter) -> bool
     requires { IsLatest (writer.old.versions ++ writer.old.tried) 0 }
 {
-    if !noted(writer, create()) || !published(rt, writer, 0) {
-        return false;
-    }
     for events in 1..=VERSIONS {
-        if !noted(writer, clear(events)) || !published(rt, writer, events) {
+        if !shown(rt, writer, events) {
             return false;
         }
-        thread::yield_now();
     }
     true
 }
 
-// Whether a look is of a version that the writer publishes.
+// Whether a look is of a version that the writer publishes with the image.
 fn is_whole(look: Look) -> bool {
-    look.events <= VERSIONS && look.sum == look.events.wrapping_mul(2)
+    look.events <= VERSIONS && look.sum == (look.events + 1).wrapping_mul(SIDE * SIDE)
 }
 
-// Whether each look is of a version, and none of an earlier one than the look before.
+// Whether each look is of such a version, and none of an earlier one than the look before.
 fn look_all<R: Wait>(rt: &R, viewer: &mut Viewer) -> bool {
     let mut events = 0;
     for _ in 0..LOOKS {
@@ -45,12 +61,12 @@ fn look_all<R: Wait>(rt: &R, viewer: &mut Viewer) -> bool {
             return false;
         }
         events = look.events;
-        thread::yield_now();
     }
     true
 }
 
-// Both at work at once.
+// Both at work at once. Neither waits for the other to be done: a viewer that looks all the time
+// holds the writer up, but only until it has looked so often.
 fn race<R: Threads + Wait + Sync>(
     rt: &R,
     writer: &mut ViewWriter,
@@ -70,6 +86,7 @@ fn race<R: Threads + Wait + Sync>(
 #[test]
 fn looks_beside_the_writer_are_whole(rt: HostRuntime) -> Result<(), Fail> {
     let (mut writer, viewer) = pair(&rt, rt.alloc())?;
+    let begun = begin(&rt, &mut writer);
     let raced = match viewer {
         Some(mut viewer) => {
             let answers = race(&rt, &mut writer, &mut viewer);
@@ -79,7 +96,7 @@ fn looks_beside_the_writer_are_whole(rt: HostRuntime) -> Result<(), Fail> {
     };
     writer.end(&rt);
     let (answers, last, count) = raced.ok_or("one viewer")?;
-    assert_eq!(rt; answers, (true, true));
+    assert_eq!(rt; (begun, answers), (true, (true, true)));
     assert!(rt; last.events == VERSIONS && is_whole(last));
     assert_eq!(rt; count, LOOKS + 1);
     Ok(())

@@ -13,8 +13,8 @@ fn follow<R: Wait>(rt: &R, writer: &mut ViewWriter, viewer: &mut Viewer) -> ([Lo
     requires first { IsLatest (writer.old.versions ++ writer.old.tried) 0 }
 {
     let first = viewer.look(rt);
-    let created = noted(writer, create());
-    let cleared = noted(writer, clear(0x8000_0001));
+    let created = noted(writer, create(2, 1));
+    let cleared = noted(writer, clear(2, 1, 0x8000_0001));
     let still = viewer.look(rt);
     let early = writer.tell();
     let shown = published(rt, writer, 0);
