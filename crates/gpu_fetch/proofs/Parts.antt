@@ -1,9 +1,9 @@
 -- What is fetched of a command, at each point where the fetching stops.
-use Rattle.std.proofs.Common.{◌≡◌, ℕ, zero, suc, ◌+◌, ◌-◌, ◌<◌, ◌≤◌, true, false, Result, Ok, Err, inr, List, [], ◌∷◌, ◌++◌, length, map, refl, sym, ap, ◌∙◌, subst, arith, append_assoc, IsOkAnd}
-use Rattle.std.specs.Prelude.{◌==◌, slice_index}
+use Rattle.std.proofs.Common.{◌≡◌, ℕ, zero, suc, ◌+◌, ◌-◌, ◌<◌, ◌≤◌, true, false, Result, Ok, Err, inr, List, [], ◌∷◌, ◌++◌, length, drop, map, refl, sym, ap, ◌∙◌, subst, arith, append_assoc, IsOkAnd}
+use Rattle.std.specs.Prelude.{◌==◌, slice_index, slice_range}
 use Rattle.std.specs.List.{range_with_len}
 use Rattle.std.proofs.lemmas.Bool.Decides.{nat_tests}
-use Rattle.std.proofs.lemmas.List.{map-append}
+use Rattle.std.proofs.lemmas.List.{map-append, length-drop, take_all}
 use Rattle.gpu_cmd.specs.declared.error.CmdError.{CmdError}
 use Rattle.gpu_cmd.specs.declared.error.CmdError.TheVariants.{OutOfBounds}
 use Rattle.gpu_cmd.specs.declared.facts.StreamFacts.{StreamFacts}
@@ -12,9 +12,9 @@ use Rattle.gpu_cmd.specs.declared.decoded.Decoded.{Decoded}
 use Rattle.gpu_cmd.specs.Checks.{headed, decoded}
 use Rattle.gpu_cmd.specs.Copied.{fetched_places, places_decoded, ring_places, value_in, words_at, places_listed, IsCopy}
 use Rattle.gpu_cmd.proofs.Copies.{put_out_of_range, header_refused, entries_refused, command_copied, header_goes_on, places_at}
-use Rattle.gpu_fetch.specs.Side.{SideData, Fetches}
-use Rattle.gpu_fetch.specs.Fetched.{FetchesSome, FetchesRow, FetchesRowInPart, FetchesRows}
-use Rattle.gpu_fetch.proofs.Fetching.{fetches_then}
+use Rattle.gpu_fetch.specs.Side.{SideData, MayFetch, with_words, Fetches}
+use Rattle.gpu_fetch.specs.Fetched.{added, FetchesSome, FetchesRow, FetchesRowInPart, FetchesRows}
+use Rattle.gpu_fetch.proofs.Fetching.{fetches_one, fetches_then, appends, row_behind}
 
 -- ---- words at places in a row
 
@@ -113,6 +113,23 @@ ring_fetched s m t facts entry shape list longer header is some row = record {
   fetches = fetches_then s m t ((facts.get, entry) ∷ []) (words_at (facts.get + 1) row.values) header row.fetches;
   listed = row.appended ∙ ap (λ (l : List (ℕ × ℕ)). l ++ words_at (facts.get + 1) row.values) is;
 }
+
+-- the header behind the words that a list had
+pub header_onto : (facts : StreamFacts) (entry : ℕ) (were room pushed : List (ℕ × ℕ)) → room ≡ were → pushed ≡ room ++ (facts.get, entry) ∷ [] → pushed ≡ were ++ (facts.get, entry) ∷ []
+header_onto facts entry were room pushed same push = push ∙ ap (λ (l : List (ℕ × ℕ)). l ++ (facts.get, entry) ∷ []) same
+
+-- all ring words behind the words that a list had
+pub ring_onto : (s m t : SideData) (facts : StreamFacts) (entry : ℕ) (shape : Shape) (were room pushed longer : List (ℕ × ℕ)) → m ≡ with_words s ((facts.get, entry) ∷ []) → MayFetch s (facts.get, entry) → room ≡ were → pushed ≡ room ++ (facts.get, entry) ∷ []
+    → 1 ≤ shape.ring_words → FetchesRow m t (facts.get + 1) (shape.ring_words - 1) pushed longer → RingFetched s t facts entry shape (added were longer)
+ring_onto s m t facts entry shape were room pushed longer grows may same push some row =
+    let one : List (ℕ × ℕ) = (facts.get, entry) ∷ [] in
+    ring_fetched s m t facts entry shape one (added were longer) (fetches_one s m facts.get entry grows may) refl some
+    (row_behind m t (facts.get + 1) (shape.ring_words - 1) were one pushed longer (header_onto facts entry were room pushed same push) row)
+
+-- the words behind those that a list had, as they are read
+pub added_read : (were list longer : List (ℕ × ℕ)) (from : ℕ) → list ≡ longer → from ≡ length were → slice_range list from (length list) ≡ added were longer
+added_read were list longer from same at =
+    take_all (length list - from) (drop from list) (let long = length-drop from list in omega (arith, long)) ∙ ap (λ (n : ℕ). drop n list) at ∙ ap (drop (length were)) same
 
 -- the entries that the decoder is given
 pub ring_entries : (s t : SideData) (facts : StreamFacts) (entry : ℕ) (shape : Shape) (list : List (ℕ × ℕ)) (entries : List ℕ) (ring : RingFetched s t facts entry shape list) → entries ≡ map (λ word. word.1) list → entries ≡ entry ∷ ring.values

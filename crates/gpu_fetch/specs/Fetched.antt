@@ -1,5 +1,5 @@
 -- What is fetched of a command.
-use Rattle.std.specs.Prelude.{◌≡◌, ◌≢◌, ℕ, ◌≤◌, ◌⊎◌, List, [], ◌∷◌, ◌++◌, length, Result, IsOkAnd}
+use Rattle.std.specs.Prelude.{◌≡◌, ◌≢◌, ℕ, ◌≤◌, ◌⊎◌, List, [], ◌∷◌, ◌++◌, length, drop, Result, IsOkAnd}
 use Rattle.gpu_cmd.specs.declared.command.Command.{Command}
 use Rattle.gpu_cmd.specs.declared.error.CmdError.{CmdError}
 use Rattle.gpu_cmd.specs.declared.facts.StreamFacts.{StreamFacts}
@@ -19,6 +19,10 @@ pub record IsFetched (found : FetchedData) : Type 0 where
   pub lawful : IsLawfulFacts found.facts
   pub more : found.facts.get ≢ found.facts.put
   pub copy : IsCopy found.words found.facts found.verdict
+
+-- what a list has behind all that it had
+abbrev pub added : List (ℕ × ℕ) → List (ℕ × ℕ) → List (ℕ × ℕ)
+added list longer = drop (length list) longer
 
 -- the side fetched the first of the places that are to be fetched by the words that it had, in order
 pub record FetchesSome (old new : SideData) (facts : StreamFacts) : Type 0 where

@@ -6,4 +6,5 @@ pub mod Side
 pub mod Shared
 pub mod Plain
 pub mod Fetched
+pub mod Parts
 pub mod Stirred

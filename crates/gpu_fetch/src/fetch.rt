@@ -1,15 +1,16 @@
-ghost use Rattle.std.specs.Prelude.{◌≡◌, ◌≢◌, ℕ, ◌+◌, ◌≤◌, ◌<◌, ◌^◌, ◌⊎◌, IfOk, IfErr, OnOk};
+ghost use Rattle.std.specs.Prelude.{◌≡◌, ◌≢◌, ℕ, ◌+◌, ◌≤◌, ◌<◌, ◌^◌, ◌⊎◌, ◌++◌, IfOk, IfErr, OnOk};
 ghost use Rattle.std.specs.List.{All};
 ghost use Rattle.std.specs.List.Sorted.{IsStrictlyIncreasing};
-ghost use Rattle.gpu_cmd.specs.Copied.{copied, fetched_places, places_listed};
+ghost use Rattle.gpu_cmd.specs.Copied.{copied, fetched_places, places_listed, IsCopy};
 ghost use Rattle.gpu_cmd.specs.Lawful.{IsLawfulFacts, places_of};
 ghost use Rattle.gpu_fetch.specs.Side.{Fetches};
-ghost use Rattle.gpu_fetch.specs.Fetched.{FetchesRow, FetchesRowInPart, FetchesSome, FetchesRows};
+ghost use Rattle.gpu_fetch.specs.Fetched.{added, FetchesRow, FetchesRowInPart, FetchesSome, FetchesRows};
 
 use crate::fetched::Fetched;
 use crate::side::ServiceSide;
-use gpu_cmd::{CmdError, StreamFacts, decode, head};
-use gpu_word::{Memory, values_of};
+use fetched_words::Words;
+use gpu_cmd::{CmdError, Command, StreamFacts, decode, head};
+use gpu_word::{Memory, copy_values};
 use std::alloc::Global;
 
 // Fetches the words of so many places that follow one another, in rising order, and appends them to a list.
@@ -25,7 +26,7 @@ fn fetch_row<P: ServiceSide>(
     requires few { from + count < 2 ^ 32 }
 
     ensures row { OnOk result (FetchesRow (P.side side.old) (P.side side.new) from count list.old.items list.new.items) }
-    ensures shows { OnOk result (All (P.shows words.now) list.old.items → All (P.shows words.now) list.new.items) }
+    ensures shows { OnOk result (All (P.shows words.now) (added list.old.items list.new.items)) }
     ensures whole { IfErr result (λ _. P.wants ⊎ (P.side side.new ≡ P.side side.old)) }
     ensures part { IfErr result (λ _. FetchesRowInPart (P.side side.old) (P.side side.new) from count) }
     ensures belongs { P.belongs side.new words.now }
@@ -40,8 +41,60 @@ fn fetch_row<P: ServiceSide>(
     Ok(())
 }
 
-/// Fetches the next command of a stream: its header alone, then its other ring entries, then its transfer words, each
-/// place once and in order, as far as the checks let it come. No place is fetched for a put out of range.
+/// Fetches the next command of a stream and adds its words to a list: its header alone, then its other ring entries, then
+/// its transfer words, each place once and in order, as far as the checks let it come. No place is fetched for a put out of
+/// range. The answer is the verdict. The values of the command's ring entries are left in a list of their own, so that the
+/// next fetch takes no memory for them.
+///
+/// # Errors
+///
+/// `Memory`: the side fetched the first of the places that were to be fetched. Where the side itself never wants memory,
+/// these are no place, the header's place, or all ring places of the command.
+pub fn fetch_onto<P: ServiceSide>(
+    side: &mut P,
+    words: &P::Words,
+    facts: &StreamFacts,
+    list: &mut Vec<(u32, u32)>,
+    values: &mut Vec<u32>,
+) -> Result<Result<Command, CmdError>, Memory>
+    requires belongs { P.belongs side.old words.now }
+    requires lawful { IsLawfulFacts facts.now }
+    requires more { facts.now.get ≢ facts.now.put }
+    requires areas { facts.now.areas ≡ (P.side side.old).plan.areas }
+
+    ensures adds { IfOk result (λ _. list.new.items ≡ list.old.items ++ added list.old.items list.new.items) }
+    ensures fetches { IfOk result (λ _. Fetches (P.side side.old) (P.side side.new) (added list.old.items list.new.items)) }
+    ensures shows { IfOk result (λ _. All (P.shows words.now) (added list.old.items list.new.items)) }
+    ensures copy { IfOk result (IsCopy (added list.old.items list.new.items) facts.now) }
+    ensures some { IfErr result (λ _. FetchesSome (P.side side.old) (P.side side.new) facts.now) }
+    ensures rows { IfErr result (λ _. P.wants ⊎ FetchesRows (P.side side.old) (P.side side.new) facts.now) }
+    ensures belongs { P.belongs side.new words.now }
+    ensures notes { (n : P.Note) → P.note_belongs side.old words.now n → P.note_belongs side.new words.now n }
+    ensures table { P.table side.new ≡ P.table side.old }
+{
+    if facts.put >= facts.areas.ring {
+        return Ok(Err(CmdError::OutOfBounds));
+    }
+    let from = list.len();
+    list.reserve(1)?;
+    let entry = side.fetch(words, facts.get)?;
+    list.push((facts.get, entry))?;
+    let shape = match head(entry, facts) {
+        Ok(shape) => shape,
+        Err(error) => return Ok(Err(error)),
+    };
+    fetch_row(side, words, list, facts.get + 1, shape.ring_words - 1)?;
+    copy_values(values, &list[from..])?;
+    match decode(values, facts) {
+        Ok(found) => {
+            fetch_row(side, words, list, found.from, found.count)?;
+            Ok(Ok(found.command))
+        }
+        Err(error) => Ok(Err(error)),
+    }
+}
+
+/// Fetches the next command of a stream, as `fetch_onto` does, with a list of its own for its words.
 ///
 /// # Errors
 ///
@@ -70,23 +123,8 @@ pub fn fetch_command<P: ServiceSide>(
     ensures notes { (n : P.Note) → P.note_belongs side.old words.now n → P.note_belongs side.new words.now n }
     ensures table { P.table side.new ≡ P.table side.old }
 {
-    let mut list = Vec::with_capacity(alloc, 1)?;
-    if facts.put >= facts.areas.ring {
-        return Ok(Fetched::of(list, Err(CmdError::OutOfBounds), facts));
-    }
-    let entry = side.fetch(words, facts.get)?;
-    list.push((facts.get, entry))?;
-    let shape = match head(entry, facts) {
-        Ok(shape) => shape,
-        Err(error) => return Ok(Fetched::of(list, Err(error), facts)),
-    };
-    fetch_row(side, words, &mut list, facts.get + 1, shape.ring_words - 1)?;
-    let entries = values_of(alloc, &list)?;
-    match decode(&entries, facts) {
-        Ok(found) => {
-            fetch_row(side, words, &mut list, found.from, found.count)?;
-            Ok(Fetched::of(list, Ok(found.command), facts))
-        }
-        Err(error) => Ok(Fetched::of(list, Err(error), facts)),
-    }
+    let mut list = Vec::new(alloc);
+    let mut values = Vec::new(alloc);
+    let verdict = fetch_onto(side, words, facts, &mut list, &mut values)?;
+    Ok(Fetched::of(Words::taken(list), verdict, facts))
 }

@@ -3,6 +3,7 @@ ghost use Rattle.std.specs.List.Sorted.{IsStrictlyIncreasing};
 ghost use Rattle.gpu_cmd.specs.Lawful.{IsLawfulFacts};
 ghost use Rattle.gpu_cmd.specs.Copied.{IsCopy, copied, fetched_places, places_listed};
 
+use fetched_words::Words;
 use gpu_cmd::{CmdError, Command, StreamFacts};
 use std::marker::Model;
 
@@ -10,7 +11,7 @@ use std::marker::Model;
 /// of the stream that the verdict rests on.
 #[derive(Debug, Drop)]
 pub struct Fetched {
-    words: Vec<(u32, u32)>,
+    words: Words,
     verdict: Result<Command, CmdError>,
     facts: StreamFacts,
 }
@@ -20,23 +21,23 @@ impl Model for Fetched {
 
     ghost Value = { FetchedData };
 
-    ghost view = { λ f. record { words = f.words.items; verdict = f.verdict; facts = f.facts } };
+    ghost view = { λ f. record { words = f.words; verdict = f.verdict; facts = f.facts } };
 
-    ghost invariant = { λ f. IsFetched (record { words = f.words.items; verdict = f.verdict; facts = f.facts }) };
+    ghost invariant = { λ f. IsFetched (record { words = f.words; verdict = f.verdict; facts = f.facts }) };
 }
 
 impl Fetched {
     // The words of a command with the verdict on them.
     pub(crate) fn of(
-        words: Vec<(u32, u32)>,
+        words: Words,
         verdict: Result<Command, CmdError>,
         facts: &StreamFacts,
     ) -> Fetched
         requires lawful { IsLawfulFacts facts.now }
         requires more { facts.now.get ≢ facts.now.put }
-        requires copy { IsCopy words.items facts.now verdict }
+        requires copy { IsCopy words facts.now verdict }
 
-        ensures is { result ≡ record { words = words.items; verdict = verdict; facts = facts.now } }
+        ensures is { result ≡ record { words = words; verdict = verdict; facts = facts.now } }
         ensures places { places_listed result.words ≡ fetched_places result.words facts.now }
         ensures once { IsStrictlyIncreasing (places_listed result.words) }
         ensures verdict { copied result.words facts.now ≡ result.verdict }
@@ -55,13 +56,13 @@ impl Fetched {
         ensures copy { IsCopy result.now self.now.facts self.now.verdict }
         ensures more { self.now.facts.get ≢ self.now.facts.put }
     {
-        &self.words
+        self.words.as_slice()
     }
 
     /// The words fetched, which take no memory anew.
-    pub fn into_words(self) -> Vec<(u32, u32)>
-        ensures value { result.items ≡ self.words }
-        ensures copy { IsCopy result.items self.facts self.verdict }
+    pub fn into_words(self) -> Words
+        ensures value { result ≡ self.words }
+        ensures copy { IsCopy result self.facts self.verdict }
         ensures more { self.facts.get ≢ self.facts.put }
     {
         let Fetched { words, .. } = self;

@@ -1,5 +1,5 @@
 -- The members of a batch while it is fetched.
-use Rattle.std.proofs.Common.{◌≡◌, ◌≢◌, ℕ, ◌+◌, ◌-◌, ◌<◌, ◌≤◌, true, false, ◌⊎◌, List, [], ◌∷◌, ◌++◌, length, take, Option, Some, None, get_or, refl, sym, ap, subst, ◌∙◌, arith, length-append}
+use Rattle.std.proofs.Common.{◌≡◌, ◌≢◌, ℕ, ◌+◌, ◌-◌, ◌<◌, ◌≤◌, true, false, ◌⊎◌, inl, inr, ⊎_elim, suc, List, [], ◌∷◌, ◌++◌, length, take, drop, Option, Some, None, get_or, refl, sym, ap, subst, ◌∙◌, arith, length-append}
 use Rattle.std.specs.Prelude.{◌==◌, Result, Ok, Err, IfOk, IfErr, IfSome, slice_get, if◌then◌else◌}
 use Rattle.std.specs.List.{All}
 use Rattle.std.proofs.lemmas.Bool.Decides.{nat_tests}
@@ -9,6 +9,7 @@ use Rattle.std.proofs.lemmas.List.Elements.{All-nil, All-cons, All-append}
 use Rattle.atomic_table.specs.Seated.{TableId}
 use Rattle.gpu_word.specs.Header.{size_of}
 use Rattle.gpu_cmd.specs.declared.command.Command.{Command}
+use Rattle.gpu_cmd.specs.declared.error.CmdError.{CmdError}
 use Rattle.gpu_cmd.specs.declared.facts.StreamFacts.{StreamFacts}
 use Rattle.gpu_cmd.specs.Copied.{value_in, copied, fetched_places, places_listed, IsCopy}
 use Rattle.gpu_cmd.specs.Lawful.{IsLawfulFacts}
@@ -16,15 +17,18 @@ use Rattle.gpu_cmd.specs.Laws.{LeavesRoom}
 use Rattle.gpu_cmd.proofs.Fitting.{accepted_leaves_room}
 use Rattle.gpu_plan.specs.Plans.{PlansData}
 use Rattle.gpu_fetch.specs.Side.{SideData, Fetches}
-use Rattle.gpu_fetch.specs.Fetched.{FetchedData, IsFetched, FetchesSome}
+use Rattle.gpu_fetch.specs.declared.sharing.FetchedPart.{FetchedPart}
+use Rattle.gpu_fetch.specs.Fetched.{FetchedData, added, IsFetched, FetchesSome}
+use Rattle.gpu_fetch.specs.Parts.{words_in, parts_of}
 use Rattle.gpu_fetch.proofs.Fetching.{fetches_none, fetches_then}
+use Rattle.gpu_fetch.proofs.Cutting.{parts_more, words_whole}
 use Rattle.stream_state.specs.Steps.{header_in}
 use Rattle.stream_state.proofs.Accepting.{told, says}
 use Rattle.house_core.specs.Answers.{further}
 use Rattle.house_core.specs.Desks.{RunData}
 use Rattle.gpu_house.specs.Slots.{RunFits}
 use Rattle.gpu_house.proofs.Running.{fetched_again}
-use Rattle.gpu_house.specs.Batches.{facts_after, facts_behind, member_words, batch_words, AreChained, is_last, most_members, EndsExactly, FetchesInPart}
+use Rattle.gpu_house.specs.Batches.{facts_after, facts_behind, member_words, batch_words, AreChained, ends_by, is_last, most_members, EndsExactly, FetchesInPart}
 
 -- ---- behind a command that passed its checks
 
@@ -45,25 +49,19 @@ passed_ends words facts command lawful copy =
       quota = room.quota;
     }
 
--- a member that passed its checks, as it is read
-pub member_ends : (member : FetchedData) (command : Command) (words : List (ℕ × ℕ)) (facts : StreamFacts) → words ≡ member.words → facts ≡ member.facts → IsLawfulFacts facts → IsCopy words member.facts member.verdict → member.verdict ≡ Ok command → Ends words facts
-member_ends member command words facts same is lawful copy passed =
-    passed_ends words facts command lawful (subst (λ (f : StreamFacts). IsCopy words f (Ok command)) (sym is) (subst (IsCopy words member.facts) passed copy))
-
 -- the header is the value of the first word
 first_value : (words : List (ℕ × ℕ)) → (get_or words 0 (0, 0)).1 ≡ header_in words
 first_value [] = refl
 first_value (word ∷ words) = refl
 
 -- the facts behind it, as they are computed
-pub behind_is : (member : FetchedData) (words : List (ℕ × ℕ)) (facts : StreamFacts) (size get : ℕ) → words ≡ member.words → facts ≡ member.facts → size ≡ size_of (get_or words 0 (0, 0)).1 → get ≡ further facts.areas.ring facts.get size
-    → record { areas = facts.areas; get = get; put = facts.put; fetched = facts.fetched + length words } ≡ facts_after member.facts member.words
-behind_is member words facts size get same is sized at =
+pub behind_is : (words : List (ℕ × ℕ)) (facts : StreamFacts) (size get : ℕ) → size ≡ size_of (get_or words 0 (0, 0)).1 → get ≡ further facts.areas.ring facts.get size
+    → record { areas = facts.areas; get = get; put = facts.put; fetched = facts.fetched + length words } ≡ facts_after facts words
+behind_is words facts size get sized at =
     ap (λ (g : ℕ). record facts { get = g; fetched = facts.fetched + length words }) (at ∙ ap (further facts.areas.ring facts.get) (sized ∙ ap size_of (first_value words)))
-    ∙ ap (λ (f : StreamFacts). facts_after f words) is ∙ ap (facts_after member.facts) same
 
 -- the facts behind it are lawful again
-behind_lawful : (words : List (ℕ × ℕ)) (facts : StreamFacts) → IsLawfulFacts facts → Ends words facts → IsLawfulFacts (facts_after facts words)
+pub behind_lawful : (words : List (ℕ × ℕ)) (facts : StreamFacts) → IsLawfulFacts facts → Ends words facts → IsLawfulFacts (facts_after facts words)
 behind_lawful words facts lawful ends =
     let ring = facts.areas.ring in
     let in_ring = lawful.get in
@@ -76,11 +74,6 @@ behind_lawful words facts lawful ends =
   where
     wraps : (ring end : ℕ) → 0 < ring → end ≤ ring → (if end == ring then 0 else end) < ring
     wraps ring end some le = grind (arith, nat_tests)
-
-pub member_lawful : (member : FetchedData) (command : Command) (words : List (ℕ × ℕ)) (facts : StreamFacts) → words ≡ member.words → facts ≡ member.facts → IsLawfulFacts facts → IsCopy words member.facts member.verdict → member.verdict ≡ Ok command → IsLawfulFacts (facts_after member.facts member.words)
-member_lawful member command words facts same is lawful copy passed =
-    subst (λ (f : StreamFacts). IsLawfulFacts (facts_after f member.words)) is
-    (subst (λ (w : List (ℕ × ℕ)). IsLawfulFacts (facts_after facts w)) same (behind_lawful words facts lawful (member_ends member command words facts same is lawful copy passed)))
 
 -- ---- one member more
 
@@ -220,6 +213,72 @@ gathered_part old between new first next members were some = record {
   whole = were.whole;
   part = subst (FetchesSome between new) were.next_is some;
 }
+
+-- ---- a command whose words stand behind those of the others
+
+-- how many there are
+pub parts_long : (list : List (ℕ × ℕ)) (parts : List FetchedPart) → length (parts_of list parts) ≡ length parts
+parts_long list [] = refl
+parts_long list (part ∷ parts) = ap suc (parts_long (drop part.count list) parts)
+
+-- one command more was fetched onto the list, and is told behind the others
+pub record IsOneMore (old between new : SideData) (first next : StreamFacts) (list longer : List (ℕ × ℕ)) (parts again : List FetchedPart) (verdict : Result Command CmdError) (count : ℕ) : Type 0 where
+  pub were : Gathered old between first next (parts_of list parts)
+  pub full : words_in parts ≡ length list
+  pub adds : longer ≡ list ++ added list longer
+  pub fetches : Fetches between new (added list longer)
+  pub copy : IsCopy (added list longer) next verdict
+  pub pushed : again ≡ parts ++ record { count = count; verdict = verdict; facts = next } ∷ []
+  pub counted : count ≡ length longer - length list
+
+module _ (old between new : SideData) (first next : StreamFacts) (list longer : List (ℕ × ℕ)) (parts again : List FetchedPart) (verdict : Result Command CmdError) (count : ℕ) (more : IsOneMore old between new first next list longer parts again verdict count) where
+  abbrev last_part : FetchedPart
+  last_part = record { count = count; verdict = verdict; facts = next }
+
+  abbrev last_member : FetchedData
+  last_member = record { words = added list longer; verdict = verdict; facts = next }
+
+  one_fetched : Fetched between new next last_member
+  one_fetched = record { facts = refl; fetches = more.fetches; copy = more.copy }
+
+  pub parts_are : parts_of longer again ≡ parts_of list parts ++ last_member ∷ []
+  parts_are = ap (parts_of longer) more.pushed ∙ parts_more list longer parts last_part more.full more.adds more.counted
+
+  pub parts_whole : words_in again ≡ length longer
+  parts_whole = ap words_in more.pushed ∙ words_whole list longer parts last_part more.full more.adds more.counted
+
+  pub parts_copies : All IsFetched (parts_of longer again)
+  parts_copies = subst (All IsFetched) (sym parts_are) (copies_more old between new first next (parts_of list parts) last_member more.were one_fetched)
+
+  pub parts_chained : AreChained first (parts_of longer again)
+  parts_chained = subst (AreChained first) (sym parts_are) (links_more old between new first next (parts_of list parts) last_member more.were one_fetched)
+
+  pub parts_fetched : Fetches old new (batch_words (parts_of longer again))
+  parts_fetched = subst (λ (l : List FetchedData). Fetches old new (batch_words l)) (sym parts_are) (whole_more old between new first next (parts_of list parts) last_member more.were one_fetched)
+
+  pub parts_shown : (S : ℕ × ℕ → Type 0) → All S (batch_words (parts_of list parts)) → All S (added list longer) → All S (batch_words (parts_of longer again))
+  parts_shown S all one = subst (λ (l : List FetchedData). All S (batch_words l)) (sym parts_are) (shown_more old between new first next (parts_of list parts) last_member more.were one_fetched S all one)
+
+  -- the batch goes on behind it
+  pub parts_go_on : (behind : StreamFacts) → behind ≡ facts_after next (added list longer) → IsLawfulFacts behind → behind.get ≢ behind.put → ends_by verdict (facts_after next (added list longer)) ≡ false → length again < most_members
+      → Gathered old new first behind (parts_of longer again)
+  parts_go_on behind is lawful going goes_on few =
+      let long : length again ≡ length parts + 1 = ap length more.pushed ∙ length-append parts (last_part ∷ []) in
+      let same = parts_long list parts in
+      subst (Gathered old new first behind) (sym parts_are)
+      (gathered_more old between new first next (parts_of list parts) last_member more.were one_fetched behind is lawful going goes_on (omega (arith, long, same, few)))
+
+  -- it ends at it
+  pub parts_end : (ends_by verdict (facts_after next (added list longer)) ≡ true) ⊎ (length again ≡ most_members) → EndsExactly (parts_of longer again)
+  parts_end ends =
+      let long : length again ≡ length parts + 1 = ap length more.pushed ∙ length-append parts (last_part ∷ []) in
+      let same = parts_long list parts in
+      subst EndsExactly (sym parts_are)
+      (ends_exactly (parts_of list parts) last_member more.were.few more.were.goes_on (⊎_elim (λ e. inl e) (λ n. inr (omega (arith, long, same, n))) ends))
+
+  -- no room is found for it
+  pub parts_lost : FetchesInPart old new first
+  parts_lost = gathered_lost old between new first next (parts_of list parts) last_member more.were one_fetched
 
 -- ---- what a run keeps while a batch is fetched
 

@@ -1,14 +1,15 @@
 //! Batches: commands that are fetched one after the other without the lock.
 ghost use Rattle.std.specs.Prelude.{◌≡◌, ◌≢◌, ◌+◌, ◌<◌, ◌^◌, true, false, Ok, IfOk, IfErr, IfSome, IfNone};
 ghost use Rattle.std.specs.List.{All};
+ghost use Rattle.gpu_cmd.specs.Copied.{IsCopy};
 ghost use Rattle.gpu_cmd.specs.Lawful.{IsLawfulFacts};
 ghost use Rattle.gpu_fetch.specs.Side.{Fetches};
 ghost use Rattle.gpu_fetch.specs.Fetched.{IsFetched};
 ghost use Rattle.house_core.specs.Answers.{further};
-ghost use Rattle.gpu_house.specs.Batches.{facts_after, batch_words, AreChained, is_heard, is_last, EndsExactly, FetchesInPart};
+ghost use Rattle.gpu_house.specs.Batches.{facts_after, batch_words, AreChained, is_heard, ends_by, EndsExactly, FetchesInPart};
 
-use gpu_cmd::{Command, StreamFacts};
-use gpu_fetch::{Fetched, ServiceSide, fetch_command};
+use gpu_cmd::{CmdError, Command, StreamFacts};
+use gpu_fetch::{Fetched, FetchedPart, ServiceSide, fetch_onto, share};
 use gpu_word::{Memory, split};
 use std::alloc::Global;
 use std::marker::Model;
@@ -62,14 +63,13 @@ fn further(ring: u32, get: u32, size: u32) -> u32
     if end == ring { 0 } else { end }
 }
 
-// The facts of the command behind one that passed its checks.
-fn facts_after(member: &Fetched, command: &Command) -> StreamFacts
-    requires { member.now.verdict ≡ Ok command.now }
-    ensures value { result ≡ facts_after member.now.facts member.now.words }
+// The facts of the command behind one that passed its checks on these words.
+fn facts_after(facts: &StreamFacts, words: &[(u32, u32)], command: &Command) -> StreamFacts
+    requires lawful { IsLawfulFacts facts.now }
+    requires copy { IsCopy words.now facts.now (Ok command.now) }
+    ensures value { result ≡ facts_after facts.now words.now }
     ensures lawful { IsLawfulFacts result }
 {
-    let facts = member.facts();
-    let words = member.words();
     let (_, header) = words[0];
     StreamFacts {
         areas: facts.areas,
@@ -79,22 +79,28 @@ fn facts_after(member: &Fetched, command: &Command) -> StreamFacts
     }
 }
 
-// The facts of the member behind this one, where a batch does not end at this.
-fn facts_behind(member: &Fetched) -> Option<StreamFacts>
-    ensures none { IfNone result (is_last member.now ≡ true) }
-    ensures goes_on { IfSome result (λ facts. is_last member.now ≡ false) }
-    ensures some { IfSome result (λ facts. facts ≡ facts_after member.now.facts member.now.words) }
+// The facts of the member behind one with these words, where a batch does not end at that.
+fn facts_behind(
+    facts: &StreamFacts,
+    words: &[(u32, u32)],
+    verdict: &Result<Command, CmdError>,
+) -> Option<StreamFacts>
+    requires lawful { IsLawfulFacts facts.now }
+    requires copy { IsCopy words.now facts.now verdict.now }
+    ensures none { IfNone result (ends_by verdict.now (facts_after facts.now words.now) ≡ true) }
+    ensures goes_on { IfSome result (λ _. ends_by verdict.now (facts_after facts.now words.now) ≡ false) }
+    ensures some { IfSome result (λ behind. behind ≡ facts_after facts.now words.now) }
     ensures lawful { IfSome result IsLawfulFacts }
-    ensures more { IfSome result (λ facts. facts.get ≢ facts.put) }
+    ensures more { IfSome result (λ behind. behind.get ≢ behind.put) }
 {
-    let Ok(command) = member.verdict() else {
+    let Ok(command) = verdict else {
         return None;
     };
-    let facts = facts_after(member, &command);
-    if is_heard(&command) || facts.get == facts.put {
+    let behind = facts_after(facts, words, command);
+    if is_heard(command) || behind.get == behind.put {
         return None;
     }
-    Some(facts)
+    Some(behind)
 }
 
 impl Batch {
@@ -123,15 +129,25 @@ impl Batch {
         ensures notes { (n : P.Note) → P.note_belongs side.old words.now n → P.note_belongs side.new words.now n }
         ensures table { P.table side.new ≡ P.table side.old }
     {
-        let mut members = Vec::new(alloc);
+        let mut list = Vec::new(alloc);
+        let mut values = Vec::new(alloc);
+        let mut parts = Vec::new(alloc);
         let mut next = *facts;
         loop {
-            let member = fetch_command(alloc, side, words, &next)?;
-            let behind = facts_behind(&member);
-            members.push(member)?;
-            match behind {
-                Some(facts) if members.len() < MOST_MEMBERS => next = facts,
-                _ => return Ok(Batch { members }),
+            let from = list.len();
+            let verdict = fetch_onto(side, words, &next, &mut list, &mut values)?;
+            let count = list.len() - from;
+            parts.push(FetchedPart {
+                count,
+                verdict,
+                facts: next,
+            })?;
+            match facts_behind(&next, &list[from..], &verdict) {
+                Some(facts) if parts.len() < MOST_MEMBERS => next = facts,
+                _ => {
+                    let members = share(alloc, list, &parts)?;
+                    return Ok(Batch { members });
+                }
             }
         }
     }

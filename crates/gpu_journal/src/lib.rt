@@ -19,7 +19,7 @@ mod text;
 
 pub use digits::spaced_hex;
 pub use end::End;
-pub use event::{Event, Why, Words};
+pub use event::{Event, Why};
 pub use flush::{fences_at, put_at};
 pub use journal::Journal;
 pub use laws::{

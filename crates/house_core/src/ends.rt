@@ -9,7 +9,8 @@ ghost use Rattle.gpu_journal.specs.Legal.{Obeys, MayClose};
 ghost use Rattle.house_core.specs.Core.{Stays, Grows};
 
 use crate::core_of::Core;
-use gpu_journal::{Event, Why, Words};
+use fetched_words::Words;
+use gpu_journal::{Event, Why};
 
 /// How a close was answered.
 #[derive(Clone, Copy, Debug, PartialEq, Eq)]

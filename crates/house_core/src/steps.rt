@@ -11,9 +11,10 @@ ghost use Rattle.house_core.specs.Core.{Stays, IsOfPlans, IsRunOf, MayHavePut, b
 
 use crate::carried::Carried;
 use crate::core_of::{Core, take_room};
+use fetched_words::Words;
 use gpu_cmd::{CmdError, Command};
 use gpu_fetch::Fetched;
-use gpu_journal::{Event, Why, Words};
+use gpu_journal::{Event, Why};
 use gpu_word::Memory;
 use step_parts::{Acted, Taken};
 
@@ -104,7 +105,7 @@ impl Core {
             return Ok(Stepped::Closed);
         }
         let judged = self.judge(stream, &fetched);
-        let words = Words::taken(fetched.into_words());
+        let words = fetched.into_words();
         match judged {
             Ok(command) => Ok(Stepped::Done(self.enter_step(run, &command, words)?)),
             Err(error) => {

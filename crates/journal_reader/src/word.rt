@@ -3,7 +3,7 @@ ghost use Rattle.journal_reader.specs.Said.{pieces_of, word_said, words_said};
 
 use crate::number::{own_number, own_value};
 use crate::pieces::Pieces;
-use gpu_journal::Words;
+use fetched_words::Words;
 use gpu_word::Memory;
 use std::alloc::{AllocError, Global};
 

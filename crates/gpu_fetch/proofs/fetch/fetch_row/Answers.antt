@@ -1,10 +1,11 @@
 use Rattle.std.proofs.Common.{◌≡◌, ℕ, ◌+◌, ◌-◌, [], inl, inr, refl, sym, ap, ◌∙◌, subst, arith}
+use Rattle.std.proofs.lemmas.List.{append-nil}
 use Rattle.std.proofs.lemmas.Result.{MatchResult-from_err}
 use Rattle.std.specs.List.{All}
 use Rattle.gpu_cmd.specs.Lawful.{places_of}
 use Rattle.gpu_fetch.specs.Side.{SideData}
-use Rattle.gpu_fetch.specs.Fetched.{FetchesRow}
-use Rattle.gpu_fetch.proofs.Fetching.{row_none, row_more, row_in_part, fetches_one, one_more}
+use Rattle.gpu_fetch.specs.Fetched.{added, FetchesRow}
+use Rattle.gpu_fetch.proofs.Fetching.{row_none, row_more, row_in_part, fetches_one, none_at_all, added_is, added_shown}
 use Rattle.gpu_fetch.proofs.fetch.fetch_row.Goals as goal
 
 pub loop-place-init : goal.loop-place-init
@@ -14,7 +15,7 @@ loop-place-init g c =
     record {
       belongs = c.requires.belongs;
       row = subst (λ (n : ℕ). FetchesRow s s c.args.from n c.args.list.now.items c.reserve.new.self.items) none (row_none s s c.args.from c.args.list.now.items c.reserve.new.self.items refl c.reserve.ensures.items);
-      shows = λ all. subst (All (g.P.ServiceSide.shows c.args.words.now)) (sym c.reserve.ensures.items) all;
+      shows = none_at_all (g.P.ServiceSide.shows c.args.words.now) (added c.args.list.now.items c.reserve.new.self.items) (added_is c.args.list.now.items [] c.reserve.new.self.items (c.reserve.ensures.items ∙ sym (append-nil c.args.list.now.items)));
       room = (let ok = c.in_ok-reserve.ensures.ok in omega arith);
       table = refl;
       notes = λ n h. h;
@@ -73,7 +74,7 @@ loop-place-preserved g c =
     record {
       belongs = c.in_ok-value.ensures.belongs;
       row = subst (λ (n : ℕ). FetchesRow s u c.args.from n c.args.list.now.items c.push.new.self.items) next more;
-      shows = λ all. one_more (g.P.ServiceSide.shows c.args.words.now) c.loop-place.list.items c.push.new.self.items (place, value) c.in_ok-push.ensures.items (c.loop-place.invariant.shows all) c.in_ok-value.ensures.shows;
+      shows = added_shown (g.P.ServiceSide.shows c.args.words.now) s t c.args.from count c.args.list.now.items c.loop-place.list.items c.push.new.self.items (place, value) c.loop-place.invariant.row c.in_ok-push.ensures.items c.loop-place.invariant.shows c.in_ok-value.ensures.shows;
       room = (let room = c.loop-place.invariant.room in let len = c.push.ensures.len in let more = c.push.ensures.capacity in omega arith);
       table = c.in_ok-value.ensures.table ∙ c.loop-place.invariant.table;
       notes = λ n h. c.in_ok-value.ensures.notes n (c.loop-place.invariant.notes n h);
