@@ -1,14 +1,16 @@
 """Checks of the tools beside the program, which tools/check calls: each module has check(top, program, tally).
 
-A check whose own tool is missing is skipped, with a line that says so.
+A module that can do more has check_large too. A check whose own tool is missing is skipped, with a line that says so.
 """
 
 import importlib
+import os
 import subprocess
 import sys
 
-PARTS = ("workers", "memory", "pictures", "traces", "mutations", "explaining", "manual", "releases", "pages")
-ASIDE = ("greatest",)  # parts that take long, and come only where they are asked for
+PARTS = ("workers", "refuse_memory", "refuse_io", "soak", "costs", "memory", "pictures", "traces", "mutations", "explaining",
+         "manual", "releases", "pages")
+ASIDE = ("greatest",)  # parts that take long, and come only where they or the large size are asked for
 
 # Faults that the parts have to find, for the test of the check itself: a part, a file, what stands there, what is put there.
 PLANTED = (
@@ -17,6 +19,16 @@ PLANTED = (
      "if more == 9 {\n            return Err(Memory);\n        }\n        self.marks.reserve(room)?;"),
     ("memory", "crates/gpu_hall/src/runs.rt", "match next {", "self.house.lose(run);\n        match next {"),
     ("memory", "tools/checks/memory_places.txt", "house_core/core_of.rt take_room", "house_core/core_of.rt make_room"),
+    ("refuse_memory", "tools/refusing.c", "? 0 : next(size);", "? next(size) : next(size);"),
+    ("refuse_memory", "tools/refusing.c", "? 0 : next(old, size);", "? (__builtin_trap(), next(old, size)) : next(old, size);"),
+    ("refuse_io", "tools/refusing.c", "return count < 1 ? count : 1;", "return -1;"),
+    ("refuse_io", "tools/refusing.c", "*__errno_location() = EIO;",
+     "*__errno_location() = EIO;\n    if (of == 'w') {\n        ssize_t write(int, const void *, size_t);\n"
+     "        write(1, \"stray\\n\", 6);\n    }"),
+    ("soak", "tests/model_history.py", "s.entries % s.plan.ring == s.left[0][1]", "s.entries % s.plan.ring != s.left[0][1]"),
+    ("soak", "tools/checks/soak.py", "model_history.verdict(reader, changed)", "model_history.verdict(reader, events)"),
+    ("costs", "bench/greatest.py", 'HEAD = "gpu-script 1\\n"', 'HEAD = "gpu-script 3\\n"'),
+    ("costs", "bench/once", "signal.alarm(int(limit))", "os.kill(process, signal.SIGKILL)"),
     ("mutations", "view/output.py", "return bytes.fromhex(row)", "return bytes.fromhex(row)[::-1]"),
     ("traces", "view/trace.py", 'if event.kind != "order":', 'if event.kind == "finish":'),
     ("traces", "view/trace.py", '"ts": bar.begin + 1', '"ts": bar.begin + 2'),
@@ -27,16 +39,20 @@ PLANTED = (
 )
 
 
-def check(top, program, tally, parts=PARTS):
+def check(top, program, tally, parts=PARTS, is_large=False):
     """Checks some parts of a repository with a program."""
     sys.path.insert(0, str(top))
     for part in parts:
-        importlib.import_module(f"checks.{part}").check(top, program, tally)
+        module = importlib.import_module(f"checks.{part}")
+        (getattr(module, "check_large", module.check) if is_large else module.check)(top, program, tally)
 
 
 def told(copy, part):
     """The status and the text of a part on a copy of the repository, by the copy's own check."""
-    ran = subprocess.run([copy / "tools/check", "--only", part], capture_output=True, text=True, check=False)
+    kept = copy.with_name("kept")  # for what a failure leaves behind
+    kept.mkdir(exist_ok=True)
+    ran = subprocess.run([copy / "tools/check", "--only", part], capture_output=True, text=True, check=False,
+                         env={**os.environ, "TMPDIR": str(kept)})
     return ran.returncode, ran.stdout + ran.stderr
 
 

@@ -129,10 +129,12 @@ class Ran:
         self.status, self.output, self.fault = status, output, fault
 
 
-def run(program, words, text, seconds=SECONDS):
-    """What the program gives; a run that does not end has no status."""
+def run(program, words, text, seconds=SECONDS, beside=None):
+    """What the program gives for a text or a file, with this beside its environment; a run that does not end has no status."""
+    given = {"input": text} if isinstance(text, bytes) else {"stdin": text}
     try:
-        ran = subprocess.run([program, *words], input=text, capture_output=True, timeout=seconds, check=False)
+        ran = subprocess.run([program, *words], **given, capture_output=True, timeout=seconds, check=False,
+                             env={**os.environ, **(beside or {})})
     except subprocess.TimeoutExpired:
         return Ran(None, b"", b"")
     return Ran(ran.returncode, ran.stdout, ran.stderr)
