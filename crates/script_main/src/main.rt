@@ -1,7 +1,7 @@
 //! The program: it does what its words ask for, from standard input to standard output.
 #![tactic(auto)]
 
-ghost use Rattle.std.specs.Prelude.{◌≡◌, true, map, string_bytes};
+ghost use Rattle.std.specs.Prelude.{◌≡◌, ◌↔◌, None, true, map, string_bytes};
 ghost use Rattle.script_main.specs.Commands.{command_of};
 ghost use Rattle.script_main.specs.Statuses.{speaks};
 ghost use Rattle.script_main.specs.Tells.{HasTold, HasBegun};
@@ -51,6 +51,7 @@ fn run_on<S: Source, K: Sink, R: Threads + Wait + Sync>(
     source: &mut S,
     sink: &mut K,
 ) -> Status
+    ensures usage { (result ≡ Status.Usage) ↔ (command_of (map string_bytes words.now) ≡ None) }
     ensures said { speaks result ≡ true
         → HasTold (command_of (map string_bytes words.now)) 1000
         (S.left source.old) (S.left source.new) result (K.written sink.old) (K.written sink.new) }
