@@ -1,26 +1,17 @@
 -- How many actions and flushes there are once puts are added.
-use Rattle.std.proofs.Common.{◌≡◌, ℕ, ◌+◌, ◌<◌, false, List, [], ◌∷◌, ◌++◌, length, map, Err, refl, ap, ◌∙◌, arith, length-append}
-use Rattle.std.specs.Prelude.{nat_le, if◌then◌else◌}
+use Rattle.std.proofs.Common.{◌≡◌, ℕ, ◌+◌, List, [], ◌∷◌, ◌++◌, length, map, refl, ap, ◌∙◌, arith, length-append}
+use Rattle.std.specs.Prelude.{if◌then◌else◌}
 use Rattle.std.specs.List.{count_by}
 use Rattle.std.proofs.lemmas.List.Sums.{sum_by-append}
-use Rattle.std.proofs.lemmas.Bool.Decides.{nat_tests}
 use Rattle.std.proofs.lemmas.List.{length-map}
 use Rattle.gpu_plan.specs.declared.plan.Action.{Action}
-use Rattle.script_lines.specs.declared.fault.Kind.TheVariants.{Limit}
 use Rattle.script_words.specs.Numbers.{value_of}
-use Rattle.gpu_plan.specs.Plans.{PlanData, is_flush}
-use Rattle.gpu_plan.specs.Adding.{Draft, puts, added}
+use Rattle.gpu_plan.specs.Plans.{is_flush}
+use Rattle.gpu_plan.specs.Adding.{puts}
 use Rattle.gpu_plan.proofs.Lawful.{length-puts}
 
 as_many : (place : ℕ) (words : List (List ℕ)) → length (puts place (map value_of words)) ≡ length words
 as_many place words = length-puts place (map value_of words) ∙ length-map words value_of
-
-pub too_many : (place : ℕ) (words : List (List ℕ)) (plan : PlanData) (d : Draft) → 1000000 < d.actions + length words → added (puts place (map value_of words)) plan d ≡ Err Limit
-unfolding added
-too_many place words plan d far =
-    let n = as_many place words in
-    let e : nat_le (d.actions + length (puts place (map value_of words))) 1000000 ≡ false = grind (arith, nat_tests) in
-    rw e refl
 
 pub more_actions : (old : List Action) (place : ℕ) (words : List (List ℕ)) → length (old ++ puts place (map value_of words)) ≡ length old + length words
 more_actions old place words = length-append old (puts place (map value_of words)) ∙ ap (λ n. length old + n) (as_many place words)

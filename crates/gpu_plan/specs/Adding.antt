@@ -1,6 +1,7 @@
 -- What a line adds to the streams before it.
-use Rattle.std.specs.Prelude.{ℕ, ◌+◌, not, is_none, ◌&&◌, ◌||◌, ◌==◌, nat_le, nat_lt, List, [], ◌∷◌, ◌++◌, length, set, Option, Some, None, option_to_list, Result, Ok}
+use Rattle.std.specs.Prelude.{ℕ, ◌+◌, Bool, true, false, not, is_none, ◌&&◌, ◌||◌, ◌==◌, nat_le, nat_lt, List, [], ◌∷◌, ◌++◌, length, set, Option, Some, None, option_to_list, Result, Ok}
 use Rattle.std.specs.List.{list_any}
+use Rattle.gpu_cmd.specs.declared.areas.Areas.{Areas}
 use Rattle.gpu_cmd.specs.declared.areas.Span.{Span}
 use Rattle.gpu_cmd.specs.Spans.{span_at, words_in}
 use Rattle.gpu_cmd.specs.declared.name.Name.{Name}
@@ -54,6 +55,40 @@ added actions plan d = do
 abbrev pub puts : ℕ → List ℕ → List Action
 puts place [] = []
 puts place (value ∷ values) = Put place value ∷ puts (place + 1) values
+
+-- the draft with some actions added to the stream begun last, where it may still act
+unfoldable pub acted : List Action → Draft → Result Draft Kind
+acted actions d = do
+  last ← acting d
+  added actions last d
+
+-- the draft with a flush
+unfoldable pub flushed : ℕ → List (ℕ × ℕ) → Draft → Result Draft Kind
+flushed put fences d = do
+  last ← acting d
+  _ ← unless (nat_le (d.flushes + 1) 100000 && nat_le (length fences) 16) Limit
+  added (Flush put fences ∷ []) last (record d { flushes = d.flushes + 1 })
+
+-- the draft with a Finish, behind which a word of a result memory is read
+unfoldable pub dumped : ℕ → ℕ → Draft → Result Draft Kind
+dumped memory index d = do
+  last ← acting d
+  span ← or_kind Place (span_at last.areas.results memory)
+  _ ← unless (nat_lt index span.words) Place
+  added (Finish ∷ []) (record last { dumps = last.dumps ++ (length last.actions, span.base + index) ∷ [] }) d
+
+-- the ring, or the transfer memory of a number, as a span of places
+abbrev pub area_of : Areas → Option ℕ → Option Span
+area_of areas None = Some (record { base = 0; words = areas.ring })
+area_of areas (Some memory) = span_at areas.memories memory
+
+-- the draft with values put into the ring or a transfer memory, from a place of it on
+unfoldable pub put_into : Option ℕ → ℕ → List ℕ → Draft → Result Draft Kind
+put_into memory place values d = do
+  last ← acting d
+  span ← or_kind Place (area_of last.areas memory)
+  _ ← unless (nat_le (place + length values) span.words) Place
+  added (puts (span.base + place) values) last d
 
 -- memories that count from a first place on, with one more of so many words behind those before
 unfoldable pub spans_with : ℕ → List (Option Span) → ℕ → ℕ → Result (List (Option Span)) Kind
@@ -160,6 +195,19 @@ with_keyword version names FinishLine words d = with_finish words d
 with_keyword version names TokenLine words d = with_token words d
 with_keyword version names CloseLine words d = with_close words d
 with_keyword version names DumpLine words d = with_dump words d
+
+-- a line that declares a stream or a memory
+abbrev pub is_declaring : Keyword → Bool
+is_declaring StreamLine = true
+is_declaring MemoryLine = true
+is_declaring ResultsLine = true
+is_declaring PutLine = false
+is_declaring FillLine = false
+is_declaring FlushLine = false
+is_declaring FinishLine = false
+is_declaring TokenLine = false
+is_declaring CloseLine = false
+is_declaring DumpLine = false
 
 unfoldable pub with_line : ℕ → List Name → List ℕ → List (List ℕ) → Draft → Result Draft Kind
 with_line version names name words d = do

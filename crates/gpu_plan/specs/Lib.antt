@@ -19,3 +19,4 @@ pub mod Passes
 pub mod Places
 pub mod MayHold
 pub mod Laws
+pub mod Putting

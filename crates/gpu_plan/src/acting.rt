@@ -1,23 +1,30 @@
-ghost use Rattle.std.specs.Prelude.{◌≡◌, ◌+◌, ◌<◌, ◌≤◌, ◌++◌, [], ◌∷◌, false, length, map, IfOk};
-ghost use Rattle.gpu_cmd.specs.Lawful.{places_of};
-ghost use Rattle.gpu_cmd.specs.Spans.{words_in};
+ghost use Rattle.std.specs.Prelude.{◌≡◌, ◌+◌, ◌<◌, ◌≤◌, ℕ, [], ◌∷◌, true, false, length, map, List, ◌^◌, is_ok, Ok, Err, IfOk, IfSome, MatchOption};
+ghost use Rattle.std.specs.List.{list_all};
+ghost use Rattle.gpu_cmd.specs.Lawful.{IsLawfulAreas, places_of};
 ghost use Rattle.script_words.specs.Text.{words_of};
-ghost use Rattle.script_words.specs.Numbers.{value_of};
-ghost use Rattle.gpu_plan.specs.Plans.{IsWithin, HasFewFences, is_closed, is_flush};
+ghost use Rattle.script_words.specs.Numbers.{is_value, value_of};
+ghost use Rattle.gpu_plan.specs.Plans.{IsWithin, HasFewFences, is_flush};
 ghost use Rattle.script_lines.specs.Outcome.{Gives, or_kind};
 ghost use Rattle.script_lines.specs.declared.fault.Kind.TheVariants.{Order};
-ghost use Rattle.gpu_plan.specs.declared.plan.Action.TheVariants.{Flush, Finish};
-ghost use Rattle.gpu_plan.specs.Adding.{puts, acting, fresh, added};
+ghost use Rattle.gpu_plan.specs.Adding.{acting, fresh, acted, flushed, dumped, area_of, put_into};
 ghost use Rattle.gpu_plan.specs.Drafts.{shown, begun};
 
 use crate::begun::Begun;
 use crate::draft::Draft;
-use crate::plan::{Action, Fences};
+use crate::plan::{Action, Fences, Plan};
+use gpu_cmd::{Areas, Span, span_at};
 use script_lines::{Kind, LineError};
-use script_words::Words;
+use script_words::Values;
+use std::alloc::AllocError;
 
 /// The most actions of a script.
 const MOST_ACTIONS: usize = 1_000_000;
+
+/// The most flushes of a script.
+const MOST_FLUSHES: usize = 100_000;
+
+/// The most fences of a flush.
+const MOST_FENCES: usize = 16;
 
 // The draft, where a stream was begun.
 fn begun(draft: Draft) -> Result<Begun, LineError>
@@ -41,20 +48,6 @@ fn begun(draft: Draft) -> Result<Begun, LineError>
     })
 }
 
-/// The draft, where the stream begun last may still act.
-#[tactic(auto, unfolding(crate::specs::Adding::acting))]
-pub(crate) fn acting(draft: Draft) -> Result<Begun, LineError>
-    ensures plan { Gives (λ b. b.plan) result (acting (shown draft)) }
-    ensures same { IfOk result (λ b. begun b ≡ shown draft) }
-    ensures unclosed { IfOk result (λ b. is_closed b.plan.actions ≡ false) }
-{
-    let begun = begun(draft)?;
-    if begun.plan.is_closed() {
-        return Err(LineError::Refused(Kind::Order));
-    }
-    Ok(begun)
-}
-
 /// The draft, where the stream begun last has not acted yet.
 #[tactic(auto, unfolding(crate::specs::Adding::fresh))]
 pub(crate) fn fresh(draft: Draft) -> Result<Begun, LineError>
@@ -69,108 +62,174 @@ pub(crate) fn fresh(draft: Draft) -> Result<Begun, LineError>
     Ok(begun)
 }
 
-impl Begun {
-    /// The draft with one more action, which is no flush.
-    #[tactic(auto, unfolding(crate::specs::Adding::added))]
-    pub(crate) fn act(self, action: Action) -> Result<Draft, LineError>
-        requires unclosed { is_closed self.plan.actions ≡ false }
-        requires within { IsWithin (places_of self.plan.areas) action }
+impl Draft {
+    /// The plan of the stream begun last, where it may still act.
+    #[tactic(auto, unfolding(crate::specs::Adding::acting))]
+    pub(crate) fn acting(&self) -> Option<&Plan>
+        ensures { MatchOption result (acting (shown self.now) ≡ Err Order)
+            (λ plan. acting (shown self.now) ≡ Ok plan.now) }
+    {
+        let Some(plan) = &self.last else {
+            return None;
+        };
+        if plan.is_closed() {
+            return None;
+        }
+        Some(plan)
+    }
+
+    /// Adds an action, which is neither a put nor a flush.
+    #[tactic(auto, unfolding(crate::specs::Adding::acted, crate::specs::Adding::acting, crate::specs::Adding::added))]
+    pub(crate) fn act(&mut self, action: Action) -> Result<(), LineError>
+        requires within { (places : ℕ) → IsWithin places action }
         requires fenced { HasFewFences action }
         requires other { is_flush action ≡ false }
-        ensures { Gives shown result (added (action ∷ []) self.plan (begun self)) }
+        ensures { Gives (λ done. shown self.new) result (acted (action ∷ []) (shown self.old)) }
     {
-        let Begun {
-            done,
-            mut plan,
-            actions,
-            flushes,
-        } = self;
-        if actions >= MOST_ACTIONS {
+        let Some(plan) = &mut self.last else {
+            return Err(LineError::Refused(Kind::Order));
+        };
+        if plan.is_closed() {
+            return Err(LineError::Refused(Kind::Order));
+        }
+        if self.actions >= MOST_ACTIONS {
             return Err(LineError::Refused(Kind::Limit));
         }
         plan.add_action(action)?;
-        Ok(Draft {
-            done,
-            last: Some(plan),
-            actions: actions + 1,
-            flushes,
-        })
+        self.actions += 1;
+        Ok(())
     }
 
-    /// The draft with one more flush.
-    #[tactic(auto, unfolding(crate::specs::Adding::added))]
-    pub(crate) fn flush(self, put: u32, fences: Fences) -> Result<Draft, LineError>
-        requires unclosed { is_closed self.plan.actions ≡ false }
-        requires few { self.flushes < 100000 }
-        requires fenced { length fences ≤ 16 }
-        ensures { Gives shown result (added (Flush put fences ∷ []) self.plan (record (begun self) { flushes = self.flushes + 1 })) }
+    /// Adds a flush.
+    #[tactic(auto, unfolding(crate::specs::Adding::flushed, crate::specs::Adding::acting, crate::specs::Adding::added))]
+    pub(crate) fn flush(&mut self, put: u32, fences: Fences) -> Result<(), LineError>
+        ensures { Gives (λ done. shown self.new) result (flushed put fences (shown self.old)) }
     {
-        let Begun {
-            done,
-            mut plan,
-            actions,
-            flushes,
-        } = self;
-        if actions >= MOST_ACTIONS {
+        let Some(plan) = &mut self.last else {
+            return Err(LineError::Refused(Kind::Order));
+        };
+        if plan.is_closed() {
+            return Err(LineError::Refused(Kind::Order));
+        }
+        let many = fences.as_slice().len() > MOST_FENCES;
+        if many || self.flushes >= MOST_FLUSHES || self.actions >= MOST_ACTIONS {
             return Err(LineError::Refused(Kind::Limit));
         }
         plan.add_action(Action::Flush { put, fences })?;
-        Ok(Draft {
-            done,
-            last: Some(plan),
-            actions: actions + 1,
-            flushes: flushes + 1,
-        })
+        self.actions += 1;
+        self.flushes += 1;
+        Ok(())
     }
 
-    /// The draft with one more Finish, behind which this result place is read.
-    #[tactic(auto, unfolding(crate::specs::Adding::added))]
-    pub(crate) fn dump(self, place: u32) -> Result<Draft, LineError>
-        requires unclosed { is_closed self.plan.actions ≡ false }
-        requires there { place < words_in self.plan.areas.results }
-        ensures { Gives shown result (added (Finish ∷ []) (record self.plan { dumps = self.plan.dumps ++ (length self.plan.actions, place) ∷ [] }) (begun self)) }
+    /// Adds a Finish, behind which a word of a result memory is read.
+    #[tactic(auto, unfolding(crate::specs::Adding::dumped, crate::specs::Adding::acting, crate::specs::Adding::added))]
+    pub(crate) fn dump(&mut self, memory: u32, index: u32) -> Result<(), LineError>
+        ensures { Gives (λ done. shown self.new) result (dumped memory index (shown self.old)) }
     {
-        let Begun {
-            done,
-            mut plan,
-            actions,
-            flushes,
-        } = self;
-        if actions >= MOST_ACTIONS {
+        let Some(plan) = &mut self.last else {
+            return Err(LineError::Refused(Kind::Order));
+        };
+        if plan.is_closed() {
+            return Err(LineError::Refused(Kind::Order));
+        }
+        let Some(span) = span_at(&plan.areas().results, memory) else {
+            return Err(LineError::Refused(Kind::Place));
+        };
+        if index >= span.words {
+            return Err(LineError::Refused(Kind::Place));
+        }
+        if self.actions >= MOST_ACTIONS {
             return Err(LineError::Refused(Kind::Limit));
         }
-        plan.add_dump(place)?;
-        Ok(Draft {
-            done,
-            last: Some(plan),
-            actions: actions + 1,
-            flushes,
-        })
+        plan.add_dump(span.base + index)?;
+        self.actions += 1;
+        Ok(())
     }
 
-    /// The draft with a put for each of so many words that are values, at places that follow one another.
-    #[tactic(auto, unfolding(crate::specs::Adding::added), using(crate::proofs::Counts::more_actions, crate::proofs::Counts::no_more_flushes))]
-    pub(crate) fn put(self, place: u32, values: Words<'_>, count: usize) -> Result<Draft, LineError>
-        requires unclosed { is_closed self.plan.actions ≡ false }
-        requires counted { count ≡ length (words_of values.rest.now) }
-        requires fits { place + length (words_of values.rest.now) ≤ places_of self.plan.areas }
-        ensures { Gives shown result (added (puts place (map value_of (words_of values.entry.rest.now))) self.plan (begun self)) }
+    /// Puts the words that are left of a line into the ring or a transfer memory, from a place of it on, where all of that
+    /// may be: a draft of which this is false is as it was.
+    #[tactic(auto, unfolding(crate::specs::Adding::put_into, crate::specs::Adding::acting, crate::specs::Adding::added))]
+    pub(crate) fn put(
+        &mut self,
+        memory: Option<u32>,
+        place: u32,
+        values: Values<'_>,
+    ) -> Result<bool, AllocError>
+        ensures put { IfOk result
+            (λ done. done ≡ true
+            → (list_all is_value (words_of values.entry.rest.now) ≡ true)
+            × (put_into memory place (map value_of (words_of values.entry.rest.now))
+            (shown self.old) ≡ Ok (shown self.new))) }
+        ensures refused { IfOk result
+            (λ done. done ≡ false → list_all is_value (words_of values.entry.rest.now) ≡ true
+            → is_ok (put_into memory place (map value_of (words_of values.entry.rest.now))
+            (shown self.old)) ≡ false) }
+        ensures same { IfOk result (λ done. done ≡ false → shown self.new ≡ shown self.old) }
     {
-        let Begun {
-            done,
-            mut plan,
-            actions,
-            flushes,
-        } = self;
-        if count > MOST_ACTIONS - actions {
-            return Err(LineError::Refused(Kind::Limit));
+        let Some(plan) = &mut self.last else {
+            return Ok(false);
+        };
+        if plan.is_closed() {
+            return Ok(false);
         }
-        plan.add_puts(place, values, count)?;
-        Ok(Draft {
-            done,
-            last: Some(plan),
-            actions: actions + count,
-            flushes,
-        })
+        let Some(span) = area_of(plan.areas(), memory) else {
+            return Ok(false);
+        };
+        if place > span.words {
+            return Ok(false);
+        }
+        let room = room_left(span.words - place, self.actions);
+        let first = span.base + place;
+        let Some(count) = plan.add_puts(first, first + room, values)? else {
+            return Ok(false);
+        };
+        self.actions += count;
+        Ok(true)
+    }
+
+    /// Why so many values are not put into the ring or a transfer memory, from a place of it on.
+    #[tactic(auto, unfolding(crate::specs::Adding::put_into, crate::specs::Adding::added))]
+    pub(crate) fn put_fault(&self, memory: Option<u32>, place: u32, count: usize) -> Kind
+        requires { count ≤ 2 ^ 63 }
+        ensures { (values : List ℕ) → length values ≡ count
+            → is_ok (put_into memory place values (shown self.now)) ≡ false
+            → put_into memory place values (shown self.now) ≡ Err result }
+    {
+        let Some(plan) = self.acting() else {
+            return Kind::Order;
+        };
+        let Some(span) = area_of(plan.areas(), memory) else {
+            return Kind::Place;
+        };
+        if place as usize + count > span.words as usize {
+            return Kind::Place;
+        }
+        Kind::Limit
+    }
+}
+
+// How many puts may be added behind so many actions, where there is room for so many.
+fn room_left(room: u32, actions: usize) -> u32
+    requires { actions ≤ 1000000 }
+    ensures area { result ≤ room }
+    ensures script { actions + result ≤ 1000000 }
+    ensures most { result < room → actions + result ≡ 1000000 }
+{
+    let left = (MOST_ACTIONS - actions) as u32;
+    if room < left { room } else { left }
+}
+
+// The ring, or a transfer memory, as a span of places.
+fn area_of(areas: &Areas, memory: Option<u32>) -> Option<Span>
+    requires { IsLawfulAreas areas.now }
+    ensures area { result ≡ area_of areas.now memory }
+    ensures within { IfSome result (λ span. span.base + span.words ≤ places_of areas.now) }
+{
+    match memory {
+        Some(memory) => span_at(&areas.memories, memory),
+        None => Some(Span {
+            base: 0,
+            words: areas.ring,
+        }),
     }
 }

@@ -1,4 +1,4 @@
-ghost use Rattle.std.specs.Prelude.{◌≡◌, ◌≤◌, ◌<◌, length, IfOk, OnOk};
+ghost use Rattle.std.specs.Prelude.{◌≡◌, ◌≤◌, ◌<◌, [], true, length, IfOk, OnOk};
 ghost use Rattle.std.specs.List.{list_any};
 ghost use Rattle.script_words.specs.Text.{words_of};
 ghost use Rattle.gpu_plan.specs.Plans.{IsLawfulScript, actions_in, flushes_in, is_of};
@@ -6,21 +6,22 @@ ghost use Rattle.script_lines.specs.Outcome.{Gives};
 ghost use Rattle.script_lines.specs.Said.{keyword_of};
 ghost use Rattle.script_lines.specs.Mentioned.{mentioned_behind};
 ghost use Rattle.gpu_plan.specs.Mentioning.{mentioned_as};
-ghost use Rattle.gpu_plan.specs.Adding.{streams, may_follow, with_stream, with_memory, with_results, with_puts, with_fill, with_flush, with_finish, with_token, with_close, with_dump, with_line};
+ghost use Rattle.gpu_plan.specs.Adding.{no_stream, streams, may_follow, with_stream, with_memory, with_results, with_puts, with_fill, with_flush, with_finish, with_token, with_close, with_dump, with_keyword, with_line, is_declaring};
 ghost use Rattle.gpu_plan.specs.Drafts.{shown};
 
-use crate::acting::{acting, fresh};
+use crate::acting::fresh;
 use crate::begun::Begun;
 use crate::draft::Draft;
 use crate::plan::{Action, Fences, Plan};
 use crate::spans::spans_with;
-use gpu_cmd::{Name, span_at};
+use gpu_cmd::Name;
 use script_lines::{
-    Keyword, Kind, LineError, Names, fill_said, flush_said, keyword_of, none_said, one_said,
-    put_said, stream_said, two_said,
+    Keyword, Kind, LineError, Names, fill_begun, fill_said, flush_said, keyword_of, none_said,
+    one_said, put_begun, put_said, stream_said, two_said,
 };
 use script_words::Words;
 use std::alloc::{AllocError, Global};
+use std::mem::replace;
 
 /// The fewest and the most entries of a ring.
 const LEAST_RING: u32 = 16;
@@ -33,11 +34,17 @@ const LAST_NAMESPACE: u32 = 255;
 /// The most streams of a script.
 const MOST_STREAMS: usize = 16;
 
-/// The most flushes of a script.
-const MOST_FLUSHES: usize = 100_000;
-
-/// The most fences of a flush.
-const MOST_FENCES: usize = 16;
+/// A draft without a stream.
+pub(crate) fn no_stream(alloc: Global) -> Draft
+    ensures { shown result ≡ no_stream }
+{
+    Draft {
+        done: Vec::new(alloc),
+        last: None,
+        actions: 0,
+        flushes: 0,
+    }
+}
 
 // Whether a stream of this name has a plan.
 fn has_plan(plans: &[Plan], name: Name) -> bool
@@ -72,7 +79,8 @@ fn with_stream(
     words: Words<'_>,
     draft: Draft,
 ) -> Result<Draft, LineError>
-    ensures { Gives shown result (with_stream version (words_of words.entry.rest.now) (shown draft)) }
+    ensures { Gives shown result
+        (with_stream version (words_of words.entry.rest.now) (shown draft)) }
 {
     let (name, priority, ring) = stream_said(version, words)?;
     let actions = draft.actions;
@@ -129,96 +137,110 @@ fn with_results(words: Words<'_>, draft: Draft) -> Result<Draft, LineError>
     })
 }
 
-#[tactic(auto, unfolding(crate::specs::Adding::with_puts))]
-fn with_puts(words: Words<'_>, draft: Draft) -> Result<Draft, LineError>
-    ensures { Gives shown result (with_puts (words_of words.entry.rest.now) (shown draft)) }
+// The draft with what a line adds that declares a stream or a memory. Such lines are few, so the draft may be moved.
+#[inline(never)]
+fn with_declared(
+    alloc: Global,
+    version: u32,
+    keyword: Keyword,
+    words: Words<'_>,
+    draft: Draft,
+) -> Result<Draft, LineError>
+    requires { is_declaring keyword ≡ true }
+    ensures { Gives shown result
+        (with_keyword version [] keyword (words_of words.entry.rest.now) (shown draft)) }
 {
+    match keyword {
+        Keyword::StreamLine => with_stream(alloc, version, words, draft),
+        Keyword::MemoryLine => with_memory(words, draft),
+        _ => with_results(words, draft),
+    }
+}
+
+// The line is read once. Where its values are not put, the script is refused, and the line is looked at again for the
+// first kind that is wrong with it.
+fn with_puts(words: Words<'_>, draft: &mut Draft) -> Result<(), LineError>
+    ensures { Gives (λ done. shown draft.new) result
+        (with_puts (words_of words.entry.rest.now) (shown draft.old)) }
+{
+    let (place, values) = put_begun(words)?;
+    if draft.put(None, place, values)? {
+        return Ok(());
+    }
     let said = put_said(words)?;
-    let begun = acting(draft)?;
-    if said.place as usize + said.count > begun.plan.areas().ring as usize {
-        return Err(LineError::Refused(Kind::Place));
-    }
-    begun.put(said.place, said.values, said.count)
+    let kind = draft.put_fault(None, said.place, said.count);
+    Err(LineError::Refused(kind))
 }
 
-#[tactic(auto, unfolding(crate::specs::Adding::with_fill))]
-fn with_fill(words: Words<'_>, draft: Draft) -> Result<Draft, LineError>
-    ensures { Gives shown result (with_fill (words_of words.entry.rest.now) (shown draft)) }
+fn with_fill(words: Words<'_>, draft: &mut Draft) -> Result<(), LineError>
+    ensures { Gives (λ done. shown draft.new) result
+        (with_fill (words_of words.entry.rest.now) (shown draft.old)) }
 {
-    let (memory, said) = fill_said(words)?;
-    let begun = acting(draft)?;
-    let Some(span) = span_at(&begun.plan.areas().memories, memory) else {
-        return Err(LineError::Refused(Kind::Place));
-    };
-    if said.place as usize + said.count > span.words as usize {
-        return Err(LineError::Refused(Kind::Place));
+    let (memory, place, values) = fill_begun(words)?;
+    if draft.put(Some(memory), place, values)? {
+        return Ok(());
     }
-    begun.put(span.base + said.place, said.values, said.count)
+    let (memory, said) = fill_said(words)?;
+    let kind = draft.put_fault(Some(memory), said.place, said.count);
+    Err(LineError::Refused(kind))
 }
 
-#[tactic(auto, unfolding(crate::specs::Adding::with_flush))]
+#[tactic(auto, unfolding(crate::specs::Adding::with_flush, crate::specs::Adding::flushed))]
 fn with_flush(
     alloc: Global,
     version: u32,
     mentioned: &mut Names,
     words: Words<'_>,
-    draft: Draft,
-) -> Result<Draft, LineError>
-    ensures said { Gives shown result (with_flush version (mentioned_behind version mentioned.old (words_of words.entry.rest.now)) (words_of words.entry.rest.now) (shown draft)) }
-    ensures mentioned { OnOk result (mentioned.new ≡ mentioned_behind version mentioned.old (words_of words.entry.rest.now)) }
+    draft: &mut Draft,
+) -> Result<(), LineError>
+    ensures said { Gives (λ done. shown draft.new) result
+        (with_flush version (mentioned_behind version mentioned.old (words_of words.entry.rest.now))
+        (words_of words.entry.rest.now) (shown draft.old)) }
+    ensures mentioned { OnOk result
+        (mentioned.new ≡ mentioned_behind version mentioned.old (words_of words.entry.rest.now)) }
 {
     let (put, fences) = flush_said(alloc, version, mentioned, words)?;
-    let begun = acting(draft)?;
-    if begun.flushes >= MOST_FLUSHES || fences.len() > MOST_FENCES {
-        return Err(LineError::Refused(Kind::Limit));
-    }
-    begun.flush(put, Fences::of(fences))
+    draft.flush(put, Fences::of(fences))
 }
 
-#[tactic(auto, unfolding(crate::specs::Adding::with_finish))]
-fn with_finish(words: Words<'_>, draft: Draft) -> Result<Draft, LineError>
-    ensures { Gives shown result (with_finish (words_of words.entry.rest.now) (shown draft)) }
+#[tactic(auto, unfolding(crate::specs::Adding::with_finish, crate::specs::Adding::acted))]
+fn with_finish(words: Words<'_>, draft: &mut Draft) -> Result<(), LineError>
+    ensures { Gives (λ done. shown draft.new) result
+        (with_finish (words_of words.entry.rest.now) (shown draft.old)) }
 {
     none_said(words)?;
-    let begun = acting(draft)?;
-    begun.act(Action::Finish)
+    draft.act(Action::Finish)
 }
 
-#[tactic(auto, unfolding(crate::specs::Adding::with_token))]
-fn with_token(words: Words<'_>, draft: Draft) -> Result<Draft, LineError>
-    ensures { Gives shown result (with_token (words_of words.entry.rest.now) (shown draft)) }
+#[tactic(auto, unfolding(crate::specs::Adding::with_token, crate::specs::Adding::acted))]
+fn with_token(words: Words<'_>, draft: &mut Draft) -> Result<(), LineError>
+    ensures { Gives (λ done. shown draft.new) result
+        (with_token (words_of words.entry.rest.now) (shown draft.old)) }
 {
     let token = one_said(words)?;
-    let begun = acting(draft)?;
-    begun.act(Action::Token { token })
+    draft.act(Action::Token { token })
 }
 
-#[tactic(auto, unfolding(crate::specs::Adding::with_close))]
-fn with_close(words: Words<'_>, draft: Draft) -> Result<Draft, LineError>
-    ensures { Gives shown result (with_close (words_of words.entry.rest.now) (shown draft)) }
+#[tactic(auto, unfolding(crate::specs::Adding::with_close, crate::specs::Adding::acted))]
+fn with_close(words: Words<'_>, draft: &mut Draft) -> Result<(), LineError>
+    ensures { Gives (λ done. shown draft.new) result
+        (with_close (words_of words.entry.rest.now) (shown draft.old)) }
 {
     none_said(words)?;
-    let begun = acting(draft)?;
-    begun.act(Action::Close)
+    draft.act(Action::Close)
 }
 
-#[tactic(auto, unfolding(crate::specs::Adding::with_dump))]
-fn with_dump(words: Words<'_>, draft: Draft) -> Result<Draft, LineError>
-    ensures { Gives shown result (with_dump (words_of words.entry.rest.now) (shown draft)) }
+#[tactic(auto, unfolding(crate::specs::Adding::with_dump, crate::specs::Adding::dumped))]
+fn with_dump(words: Words<'_>, draft: &mut Draft) -> Result<(), LineError>
+    ensures { Gives (λ done. shown draft.new) result
+        (with_dump (words_of words.entry.rest.now) (shown draft.old)) }
 {
     let (memory, index) = two_said(words)?;
-    let begun = acting(draft)?;
-    let Some(span) = span_at(&begun.plan.areas().results, memory) else {
-        return Err(LineError::Refused(Kind::Place));
-    };
-    if index >= span.words {
-        return Err(LineError::Refused(Kind::Place));
-    }
-    begun.dump(span.base + index)
+    draft.dump(memory, index)
 }
 
-/// The draft with what a line of this name and these words adds. In version 2 a fence has the number of its name among
-/// those mentioned, of which the new ones are put behind the others.
+/// Adds what a line of this name and these words says. In version 2 a fence has the number of its name among those
+/// mentioned, of which the new ones are put behind the others.
 #[tactic(auto, unfolding(crate::specs::Adding::with_line))]
 pub(crate) fn with_line(
     alloc: Global,
@@ -226,18 +248,27 @@ pub(crate) fn with_line(
     mentioned: &mut Names,
     name: &[u8],
     words: Words<'_>,
-    draft: Draft,
-) -> Result<Draft, LineError>
-    ensures said { Gives shown result (with_line version (mentioned_as version mentioned.old (keyword_of name.now) (words_of words.entry.rest.now)) name.now (words_of words.entry.rest.now) (shown draft)) }
-    ensures mentioned { OnOk result (mentioned.new ≡ mentioned_as version mentioned.old (keyword_of name.now) (words_of words.entry.rest.now)) }
+    draft: &mut Draft,
+) -> Result<(), LineError>
+    ensures said { Gives (λ done. shown draft.new) result
+        (with_line version
+        (mentioned_as version mentioned.old (keyword_of name.now)
+        (words_of words.entry.rest.now)) name.now (words_of words.entry.rest.now)
+        (shown draft.old)) }
+    ensures mentioned { OnOk result
+        (mentioned.new
+        ≡ mentioned_as version mentioned.old (keyword_of name.now)
+        (words_of words.entry.rest.now)) }
 {
     let Some(keyword) = keyword_of(name) else {
         return Err(LineError::Refused(Kind::Word));
     };
     match keyword {
-        Keyword::StreamLine => with_stream(alloc, version, words, draft),
-        Keyword::MemoryLine => with_memory(words, draft),
-        Keyword::ResultsLine => with_results(words, draft),
+        Keyword::StreamLine | Keyword::MemoryLine | Keyword::ResultsLine => {
+            let old = replace(draft, no_stream(alloc));
+            *draft = with_declared(alloc, version, keyword, words, old)?;
+            Ok(())
+        }
         Keyword::PutLine => with_puts(words, draft),
         Keyword::FillLine => with_fill(words, draft),
         Keyword::FlushLine => with_flush(alloc, version, mentioned, words, draft),

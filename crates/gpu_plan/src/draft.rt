@@ -15,6 +15,9 @@ pub(crate) struct Draft {
     ghost few: { vec_len done ≤ 15 },
     ghost within: { actions ≤ 1000000 },
     ghost flushed: { flushes ≤ 100000 },
-    ghost counted: { actions ≡ actions_in done.items + option_map_or (λ (plan : PlanData). length plan.actions) last 0 },
-    ghost counted_flushes: { flushes ≡ flushes_in done.items + option_map_or (λ (plan : PlanData). count_by is_flush plan.actions) last 0 },
+    ghost counted: { actions
+        ≡ actions_in done.items + option_map_or (λ (plan : PlanData). length plan.actions) last 0 },
+    ghost counted_flushes: { flushes
+        ≡ flushes_in done.items + option_map_or
+        (λ (plan : PlanData). count_by is_flush plan.actions) last 0 },
 }

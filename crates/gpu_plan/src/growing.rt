@@ -1,31 +1,50 @@
-ghost use Rattle.std.specs.Prelude.{◌≡◌, ◌+◌, ◌<◌, ◌≤◌, ◌^◌, ◌++◌, [], ◌∷◌, false, length, map, vec_len, OnOk, IfOk};
-ghost use Rattle.std.specs.Vec.{vec_capacity};
+ghost use Rattle.std.specs.Prelude.{◌≡◌, ◌+◌, ◌<◌, ◌≤◌, ◌++◌, [], ◌∷◌, false, length, take, map, is_some, OnOk, OnErr, IfOk, IfSome, IfNone, OnSome};
 ghost use Rattle.gpu_cmd.specs.Lawful.{places_of};
 ghost use Rattle.gpu_cmd.specs.Spans.{AreTiles, words_in};
 ghost use Rattle.script_words.specs.Text.{words_of};
 ghost use Rattle.script_words.specs.Numbers.{value_of};
 ghost use Rattle.gpu_plan.specs.Plans.{IsWithin, HasFewFences, is_closed, ring_alone};
 ghost use Rattle.gpu_plan.specs.Adding.{fresh_plan, puts};
+ghost use Rattle.gpu_plan.specs.Putting.{can_put};
 ghost use Rattle.gpu_plan.specs.declared.plan.Action.TheVariants.{Finish};
 
 use crate::plan::{Action, Plan};
 use gpu_cmd::{Areas, Name, Priority, Span};
-use script_lines::value_of;
-use script_words::Words;
+use script_words::Values;
 use std::alloc::{AllocError, Global};
 
-// Adds a put for each word, at places that follow one another, in room that was made before.
-fn push_puts(actions: &mut Vec<Action>, place: u32, values: Words<'_>)
-    requires places { place + length (words_of values.rest.now) < 2 ^ 32 }
-    requires room { vec_len actions.old + length (words_of values.rest.now) ≤ vec_capacity actions.old }
-    ensures { actions.new.items ≡ actions.old.items ++ puts place (map value_of (words_of values.entry.rest.now)) }
+// Adds puts of the words that are left of a line, from one place on, up to a word that is no value, or to another place.
+// Where all words were put, this is the place behind them.
+fn push_puts(
+    actions: &mut Vec<Action>,
+    place: u32,
+    end: u32,
+    values: Values<'_>,
+) -> Result<Option<u32>, AllocError>
+    requires { place ≤ end }
+    ensures told { IfOk result
+        (λ at. is_some at ≡ can_put place end (words_of values.entry.rest.now)) }
+    ensures within { IfOk result (λ at. IfSome at (λ at. at ≤ end)) }
+    ensures at { IfOk result
+        (λ at. IfSome at (λ at. at ≡ place + length (words_of values.entry.rest.now))) }
+    ensures put { IfOk result
+        (λ at. OnSome at
+        (actions.new.items
+        ≡ actions.old.items ++ puts place (map value_of (words_of values.entry.rest.now)))) }
+    ensures behind { take (length actions.old.items) actions.new.items ≡ actions.old.items }
 {
     let mut at = place;
-    for word in values {
-        let value = value_of(word);
-        actions.push_reserved(Action::Put { place: at, value });
+    for value in values {
+        let Some(value) = value else {
+            return Ok(None);
+        };
+        if at == end {
+            return Ok(None);
+        }
+        actions.push(Action::Put { place: at, value })?;
         at += 1;
     }
+    Ok(Some(at))
 }
 
 // The areas of a stream that has a ring and no memory.
@@ -75,28 +94,52 @@ impl Plan {
         requires few { length self.old.actions < 1000000 }
         requires within { IsWithin (places_of self.old.areas) action }
         requires fenced { HasFewFences action }
-        ensures { OnOk result (self.new ≡ record self.old { actions = self.old.actions ++ action ∷ [] }) }
+        ensures added { OnOk result
+            (self.new ≡ record self.old { actions = self.old.actions ++ action ∷ [] }) }
+        ensures same { OnErr result (self.new ≡ self.old) }
     {
         self.actions.push(action)?;
         Ok(())
     }
 
-    /// Adds a put for each of so many words, at places that follow one another.
+    /// Adds puts of the words that are left of a line, from one place on, where these are values and their places stay below
+    /// another. How many they are; else the plan is as it was.
     pub(crate) fn add_puts(
         &mut self,
         place: u32,
-        values: Words<'_>,
-        count: usize,
-    ) -> Result<(), AllocError>
-        requires counted { count ≡ length (words_of values.rest.now) }
+        end: u32,
+        values: Values<'_>,
+    ) -> Result<Option<usize>, AllocError>
+        requires ordered { place ≤ end }
         requires unclosed { is_closed self.old.actions ≡ false }
-        requires few { length self.old.actions + length (words_of values.rest.now) ≤ 1000000 }
-        requires fits { place + length (words_of values.rest.now) ≤ places_of self.old.areas }
-        ensures { OnOk result (self.new ≡ record self.old { actions = self.old.actions ++ puts place (map value_of (words_of values.entry.rest.now)) }) }
+        requires few { length self.old.actions + end ≤ 1000000 + place }
+        requires fits { end ≤ places_of self.old.areas }
+        ensures told { IfOk result
+            (λ count. is_some count ≡ can_put place end (words_of values.entry.rest.now)) }
+        ensures within { IfOk result (λ count. IfSome count (λ count. place + count ≤ end)) }
+        ensures counted { IfOk result
+            (λ count. IfSome count (λ count. count ≡ length (words_of values.entry.rest.now))) }
+        ensures put { IfOk result
+            (λ count. OnSome count
+            (self.new ≡ record self.old {
+              actions = self.old.actions ++ puts place
+                  (map value_of (words_of values.entry.rest.now));
+            })) }
+        ensures refused { IfOk result (λ count. IfNone count (self.new ≡ self.old)) }
+        ensures same { OnErr result (self.new ≡ self.old) }
     {
-        self.actions.reserve(count)?;
-        push_puts(&mut self.actions, place, values);
-        Ok(())
+        let before = self.actions.len();
+        match push_puts(&mut self.actions, place, end, values) {
+            Ok(Some(at)) => Ok(Some((at - place) as usize)),
+            Ok(None) => {
+                self.actions.truncate(before);
+                Ok(None)
+            }
+            Err(error) => {
+                self.actions.truncate(before);
+                Err(error)
+            }
+        }
     }
 
     /// Adds a Finish, behind which this result place is read.
@@ -104,11 +147,17 @@ impl Plan {
         requires unclosed { is_closed self.old.actions ≡ false }
         requires few { length self.old.actions < 1000000 }
         requires there { place < words_in self.old.areas.results }
-        ensures { OnOk result (self.new ≡ record self.old { actions = self.old.actions ++ Finish ∷ []; dumps = self.old.dumps ++ (length self.old.actions, place) ∷ [] }) }
+        ensures added { OnOk result
+            (self.new ≡ record self.old {
+              actions = self.old.actions ++ Finish ∷ [];
+              dumps = self.old.dumps ++ (length self.old.actions, place) ∷ [];
+            }) }
+        ensures same { OnErr result (self.new ≡ self.old) }
     {
         let at = self.actions.len() as u32;
+        self.dumps.reserve(1)?;
         self.actions.push(Action::Finish)?;
-        self.dumps.push((at, place))?;
+        self.dumps.push_reserved((at, place));
         Ok(())
     }
 

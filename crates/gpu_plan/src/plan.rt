@@ -87,9 +87,17 @@ impl Model for Plan {
 
     ghost Value = { PlanData };
 
-    ghost view = { λ p. record { name = p.name; areas = p.areas.value; priority = p.priority; actions = p.actions.items; dumps = p.dumps.items } };
+    ghost view = { λ p. record {
+      name = p.name;
+      areas = p.areas.value;
+      priority = p.priority;
+      actions = p.actions.items;
+      dumps = p.dumps.items;
+    } };
 
-    ghost invariant = { λ p. IsLawfulPlan p.areas.value p.actions.items × All (IsDump p.areas.value.results p.actions.items) p.dumps.items × RiseFrom 0 p.dumps.items };
+    ghost invariant = { λ p. IsLawfulPlan p.areas.value p.actions.items
+        × All (IsDump p.areas.value.results p.actions.items) p.dumps.items
+        × RiseFrom 0 p.dumps.items };
 }
 
 impl Plan {
@@ -150,7 +158,8 @@ impl Model for Plans {
 
     ghost view = { λ p. record { version = p.version; plans = p.plans.items } };
 
-    ghost invariant = { λ p. IsLawfulScript p.plans.items × AreLawfulNames p.version (names_in p.plans.items) × IsVersion p.version };
+    ghost invariant = { λ p. IsLawfulScript p.plans.items
+        × AreLawfulNames p.version (names_in p.plans.items) × IsVersion p.version };
 }
 
 impl Plans {
@@ -195,7 +204,8 @@ impl Plans {
     pub fn name(&self, stream: u32) -> Name
         requires first { 1 ≤ stream }
         requires last { stream ≤ length self.now.plans }
-        ensures value { option_map (λ plan. plan.name) (slice_get self.now.plans (stream - 1)) ≡ Some result }
+        ensures value { option_map (λ plan. plan.name) (slice_get self.now.plans (stream - 1))
+            ≡ Some result }
         ensures numbered { self.now.version ≡ 1 → result ≡ record { namespace = 0; id = stream } }
         ensures own { number_of self.now.plans result ≡ stream }
         ensures space { result.namespace ≤ 255 }

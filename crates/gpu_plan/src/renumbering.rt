@@ -92,7 +92,11 @@ pub(crate) fn whole(
 ) -> Result<Plans, AllocError>
     requires named { AreLawfulNames version (names_in (streams (shown draft))) }
     requires known { IsVersion version }
-    ensures { IfOk result (λ plans. plans ≡ record { version = version; plans = renumbered version mentioned.now (streams (shown draft)) }) }
+    ensures { IfOk result (λ plans. plans
+        ≡ record {
+          version = version;
+          plans = renumbered version mentioned.now (streams (shown draft));
+        }) }
 {
     let mut plans = streams(draft)?;
     if version != 2 {

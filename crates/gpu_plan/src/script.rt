@@ -8,7 +8,7 @@ ghost use Rattle.gpu_plan.specs.Named.{IsVersion};
 ghost use Rattle.gpu_plan.specs.Adding.{no_stream};
 ghost use Rattle.gpu_plan.specs.Drafts.{shown};
 
-use crate::adding::with_line;
+use crate::adding::{no_stream, with_line};
 use crate::draft::Draft;
 use crate::plan::Plans;
 use crate::renumbering::whole;
@@ -65,34 +65,25 @@ fn numbered(
     mentioned: &mut Names,
     number: u32,
     line: &[u8],
-    draft: Draft,
-) -> Result<Draft, ScriptFault>
-    ensures said { GivesScript shown result (numbered version (mentioned_on version mentioned.old (words_of line.now)) number (words_of line.now) (shown draft)) }
-    ensures mentioned { OnOk result (mentioned.new ≡ mentioned_on version mentioned.old (words_of line.now)) }
+    draft: &mut Draft,
+) -> Result<(), ScriptFault>
+    ensures said { GivesScript (λ done. shown draft.new) result
+        (numbered version (mentioned_on version mentioned.old (words_of line.now)) number
+        (words_of line.now) (shown draft.old)) }
+    ensures mentioned { OnOk result
+        (mentioned.new ≡ mentioned_on version mentioned.old (words_of line.now)) }
 {
     let mut words = Words { rest: line };
     let Some(name) = words.next() else {
-        return Ok(draft);
+        return Ok(());
     };
     if is_remark(name) {
-        return Ok(draft);
+        return Ok(());
     }
     match with_line(alloc, version, mentioned, name, words, draft) {
-        Ok(next) => Ok(next),
+        Ok(()) => Ok(()),
         Err(LineError::Refused(kind)) => Err(ScriptFault::Refused { line: number, kind }),
         Err(LineError::Memory) => Err(ScriptFault::Memory),
-    }
-}
-
-// A draft without a stream.
-fn no_stream(alloc: Global) -> Draft
-    ensures { shown result ≡ no_stream }
-{
-    Draft {
-        done: Vec::new(alloc),
-        last: None,
-        actions: 0,
-        flushes: 0,
     }
 }
 
@@ -105,13 +96,16 @@ fn from_body(
 ) -> Result<Plans, ScriptFault>
     requires known { IsVersion version }
     requires long { first + length (lines_of lines.rest.now) < 2 ^ 32 }
-    ensures { GivesScript (λ plans. plans) result (from_body version (names_of version (map words_of (lines_of lines.entry.rest.now))) first no_stream (map words_of (lines_of lines.entry.rest.now))) }
+    ensures { GivesScript (λ plans. plans) result
+        (from_body version
+        (names_of version (map words_of (lines_of lines.entry.rest.now))) first no_stream
+        (map words_of (lines_of lines.entry.rest.now))) }
 {
     let mut mentioned = Names::new(alloc);
     let mut number = first;
     let mut draft = no_stream(alloc);
     for line in lines {
-        draft = numbered(alloc, version, &mut mentioned, number, line, draft)?;
+        numbered(alloc, version, &mut mentioned, number, line, &mut draft)?;
         number += 1;
     }
     match whole(alloc, version, &mentioned, draft) {
@@ -130,7 +124,8 @@ fn from_version(
 ) -> Result<Plans, ScriptFault>
     requires known { IfSome version IsVersion }
     requires long { number + 1 + length (lines_of lines.rest.now) < 2 ^ 32 }
-    ensures { GivesScript (λ plans. plans) result (from_version version number (map words_of (lines_of lines.entry.rest.now))) }
+    ensures { GivesScript (λ plans. plans) result
+        (from_version version number (map words_of (lines_of lines.entry.rest.now))) }
 {
     let Some(version) = version else {
         return Err(ScriptFault::Refused {
@@ -144,7 +139,8 @@ fn from_version(
 // The plans of a text.
 fn from_head(alloc: Global, text: Lines<'_>) -> Result<Plans, ScriptFault>
     requires { 1 + length (lines_of text.rest.now) < 2 ^ 32 }
-    ensures { GivesScript (λ plans. plans) result (from_head 1 (map words_of (lines_of text.entry.rest.now))) }
+    ensures { GivesScript (λ plans. plans) result
+        (from_head 1 (map words_of (lines_of text.entry.rest.now))) }
 {
     let mut lines = text;
     let mut number = 1;

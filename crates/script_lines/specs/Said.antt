@@ -78,6 +78,21 @@ fill_said (m ∷ p ∷ v ∷ vs) = do
   Ok (memory, said.0, said.1)
 fill_said _ = Err Word
 
+-- behind `put`, but for what the values are: a place, and one or more words
+unfoldable pub put_begun : List (List ℕ) → Result (ℕ × List (List ℕ)) Kind
+put_begun (p ∷ v ∷ vs) = do
+  place ← or_kind Number (decimal_of p)
+  Ok (place, v ∷ vs)
+put_begun _ = Err Word
+
+-- behind `fill`, but for what the values are: a memory, and then as behind `put`
+unfoldable pub fill_begun : List (List ℕ) → Result (ℕ × ℕ × List (List ℕ)) Kind
+fill_begun (m ∷ p ∷ v ∷ vs) = do
+  memory ← or_kind Number (decimal_of m)
+  begun ← put_begun (p ∷ v ∷ vs)
+  Ok (memory, begun.0, begun.1)
+fill_begun _ = Err Word
+
 -- an even number of words
 abbrev pub are_pairs : List (List ℕ) → Bool
 are_pairs [] = true

@@ -89,8 +89,11 @@ fn triples_of(
     names: &mut Names,
     words: Words<'_>,
 ) -> Result<Vec<(u32, u64)>, LineError>
-    ensures said { Gives (λ fences. fences.items) result (triples_of (mentioned_by names.old (words_of words.entry.rest.now)) (words_of words.entry.rest.now)) }
-    ensures names { OnOk result (names.new ≡ mentioned_by names.old (words_of words.entry.rest.now)) }
+    ensures said { Gives (λ fences. fences.items) result
+        (triples_of (mentioned_by names.old (words_of words.entry.rest.now))
+        (words_of words.entry.rest.now)) }
+    ensures names { OnOk result
+        (names.new ≡ mentioned_by names.old (words_of words.entry.rest.now)) }
 {
     let mut words = words;
     let mut fences = Vec::with_capacity(alloc, count)?;
@@ -130,8 +133,11 @@ fn fences_of(
     names: &mut Names,
     words: Words<'_>,
 ) -> Result<Vec<(u32, u64)>, LineError>
-    ensures said { Gives (λ fences. fences.items) result (fences_of version (mentioned_of version names.old (words_of words.entry.rest.now)) (words_of words.entry.rest.now)) }
-    ensures names { OnOk result (names.new ≡ mentioned_of version names.old (words_of words.entry.rest.now)) }
+    ensures said { Gives (λ fences. fences.items) result
+        (fences_of version (mentioned_of version names.old (words_of words.entry.rest.now))
+        (words_of words.entry.rest.now)) }
+    ensures names { OnOk result
+        (names.new ≡ mentioned_of version names.old (words_of words.entry.rest.now)) }
 {
     if version == 2 {
         triples_of(alloc, count, names, words)
@@ -149,8 +155,11 @@ pub fn flush_said(
     names: &mut Names,
     mut words: Words<'_>,
 ) -> Result<(u32, Vec<(u32, u64)>), LineError>
-    ensures said { Gives (λ said. (said.0, said.1.items)) result (flush_said version (mentioned_behind version names.old (words_of words.entry.rest.now)) (words_of words.entry.rest.now)) }
-    ensures names { OnOk result (names.new ≡ mentioned_behind version names.old (words_of words.entry.rest.now)) }
+    ensures said { Gives (λ said. (said.0, said.1.items)) result
+        (flush_said version (mentioned_behind version names.old (words_of words.entry.rest.now))
+        (words_of words.entry.rest.now)) }
+    ensures names { OnOk result
+        (names.new ≡ mentioned_behind version names.old (words_of words.entry.rest.now)) }
 {
     let Some(first) = words.next() else {
         return Err(LineError::Refused(Kind::Word));

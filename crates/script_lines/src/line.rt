@@ -3,12 +3,12 @@ ghost use Rattle.std.specs.List.{list_all};
 ghost use Rattle.script_words.specs.Text.{words_of};
 ghost use Rattle.script_words.specs.Numbers.{decimal_of, long_decimal_of, is_value, value_of};
 ghost use Rattle.script_lines.specs.Outcome.{Gives, or_kind};
-ghost use Rattle.script_lines.specs.Said.{priority_of, none_said, one_said, two_said, numbered_said, named_said, stream_said, put_said, fill_said};
+ghost use Rattle.script_lines.specs.Said.{priority_of, none_said, one_said, two_said, numbered_said, named_said, stream_said, put_begun, put_said, fill_begun, fill_said};
 ghost use Rattle.script_lines.specs.declared.fault.Kind.TheVariants.{Number};
 
 use crate::fault::{Kind, LineError};
 use gpu_cmd::{Name, Priority};
-use script_words::{Words, decimal_u32, decimal_u64, hex_u32};
+use script_words::{Values, Words, decimal_u32, decimal_u64, first_decimal, has_word, hex_u32};
 
 fn priority_of(word: &[u8]) -> Option<Priority>
     ensures { result ≡ priority_of word.now }
@@ -132,14 +132,15 @@ pub fn stream_said(version: u32, words: Words<'_>) -> Result<(Name, Priority, u3
 }
 
 // How many words there are, where each of them is a value.
-#[tactic(auto, using(script_words::proofs::Few::few_words))]
-fn count_values(words: Words<'_>) -> Option<usize>
-    ensures counted { result ≡ (if list_all is_value (words_of words.entry.rest.now) then Some (length (words_of words.entry.rest.now)) else None) }
+fn count_values(values: Values<'_>) -> Option<usize>
+    ensures counted { result
+        ≡ (if list_all is_value (words_of values.entry.rest.now)
+        then Some (length (words_of values.entry.rest.now)) else None) }
     ensures few { IfSome result (λ count. count ≤ 2 ^ 63) }
 {
     let mut count = 0;
-    for word in words {
-        hex_u32(word)?;
+    for value in values {
+        value?;
         count += 1;
     }
     Some(count)
@@ -160,36 +161,71 @@ pub struct Putting<'a> {
     pub count: usize,
 }
 
+/// The words behind `put`, but for what the values are: a place, and one or more words that are not read yet.
+#[tactic(auto, using(crate::proofs::Puts::put_without_value, crate::proofs::Puts::put_with_place), unfolding(crate::specs::Said::put_begun))]
+pub fn put_begun<'a>(words: Words<'a>) -> Result<(u32, Values<'a>), LineError>
+    ensures { Gives (λ begun. (begun.0, words_of begun.1.rest.now)) result
+        (put_begun (words_of words.entry.rest.now)) }
+{
+    let Some((place, rest)) = first_decimal(words.rest) else {
+        return Err(LineError::Refused(Kind::Word));
+    };
+    if !has_word(rest) {
+        return Err(LineError::Refused(Kind::Word));
+    }
+    match place {
+        Some(place) => Ok((place, Values { rest })),
+        None => Err(LineError::Refused(Kind::Number)),
+    }
+}
+
 /// The words behind `put`.
-#[tactic(auto, unfolding(crate::specs::Said::put_said))]
-pub fn put_said<'a>(mut words: Words<'a>) -> Result<Putting<'a>, LineError>
-    ensures said { Gives (λ said. (said.place, map value_of (words_of said.values.rest.now))) result (put_said (words_of words.entry.rest.now)) }
+#[tactic(auto, using(crate::proofs::Puts::put_said_is))]
+pub fn put_said<'a>(words: Words<'a>) -> Result<Putting<'a>, LineError>
+    ensures said { Gives (λ said. (said.place, map value_of (words_of said.values.rest.now))) result
+        (put_said (words_of words.entry.rest.now)) }
     ensures counted { IfOk result (λ said. said.count ≡ length (words_of said.values.rest.now)) }
     ensures few { IfOk result (λ said. said.count ≤ 2 ^ 63) }
 {
-    let Some(first) = words.next() else {
-        return Err(LineError::Refused(Kind::Word));
-    };
-    let counted = count_values(words);
-    if counted == Some(0) {
-        return Err(LineError::Refused(Kind::Word));
-    }
-    let place = decimal_at(first)?;
-    match counted {
+    let (place, values) = put_begun(words)?;
+    match count_values(values) {
         Some(count) => Ok(Putting {
             place,
-            values: words,
+            values: Words { rest: values.rest },
             count,
         }),
         None => Err(LineError::Refused(Kind::Number)),
     }
 }
 
+/// The words behind `fill`, but for what the values are: a memory, and what a put line begins with.
+#[tactic(auto, unfolding(crate::specs::Said::fill_begun))]
+pub fn fill_begun<'a>(words: Words<'a>) -> Result<(u32, u32, Values<'a>), LineError>
+    ensures { Gives (λ begun. (begun.0, begun.1, words_of begun.2.rest.now)) result
+        (fill_begun (words_of words.entry.rest.now)) }
+{
+    let Some((memory, rest)) = first_decimal(words.rest) else {
+        return Err(LineError::Refused(Kind::Word));
+    };
+    let mut behind = Words { rest };
+    let Some(memory) = memory else {
+        let (Some(_), Some(_)) = (behind.next(), behind.next()) else {
+            return Err(LineError::Refused(Kind::Word));
+        };
+        return Err(LineError::Refused(Kind::Number));
+    };
+    let (place, values) = put_begun(behind)?;
+    Ok((memory, place, values))
+}
+
 /// The words behind `fill`: a memory, and what a put line says.
 #[tactic(auto, unfolding(crate::specs::Said::fill_said))]
 pub fn fill_said<'a>(mut words: Words<'a>) -> Result<(u32, Putting<'a>), LineError>
-    ensures said { Gives (λ said. (said.0, said.1.place, map value_of (words_of said.1.values.rest.now))) result (fill_said (words_of words.entry.rest.now)) }
-    ensures counted { IfOk result (λ said. said.1.count ≡ length (words_of said.1.values.rest.now)) }
+    ensures said { Gives (λ said.
+        (said.0, said.1.place, map value_of (words_of said.1.values.rest.now))) result
+        (fill_said (words_of words.entry.rest.now)) }
+    ensures counted { IfOk result
+        (λ said. said.1.count ≡ length (words_of said.1.values.rest.now)) }
     ensures few { IfOk result (λ said. said.1.count ≤ 2 ^ 63) }
 {
     let Some(first) = words.next() else {

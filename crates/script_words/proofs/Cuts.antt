@@ -1,12 +1,13 @@
 -- Lines and words, cut at the first line feed or blank.
-use Rattle.std.proofs.Common.{◌≡◌, ℕ, ◌+◌, ◌<◌, ◌≤◌, Bool, true, false, not, cond, ltb, eqb, List, [], ◌∷◌, length, take, drop, Some, None, refl, sym, ap, ◌∙◌, arith}
+use Rattle.std.proofs.Common.{◌≡◌, ℕ, ◌+◌, ◌<◌, ◌≤◌, Bool, true, false, not, cond, ltb, eqb, List, [], ◌∷◌, length, get_or, take, drop, Option, Some, None, refl, sym, ap, ◌∙◌, arith}
 use Rattle.std.specs.Prelude.{position}
 use Rattle.std.specs.List.{slice_split, onto_first, position_or_len}
-use Rattle.std.proofs.lemmas.Bool.{ltb-true, ltb-false, ne_eqb}
+use Rattle.std.proofs.lemmas.Bool.{ltb-true, ltb-false, ne_eqb, lt-ltb, le-ltb, false_from_ne_true}
 use Rattle.std.proofs.lemmas.Option.{cond_some}
 use Rattle.std.proofs.lemmas.List.{nil_from_length}
-use Rattle.std.proofs.lemmas.List.Sums.{fails_before_first, count_by-le-length}
+use Rattle.std.proofs.lemmas.List.Sums.{fails_before_first, position_or_len_is, count_by-le-length}
 use Rattle.std.proofs.lemmas.List.Splits.{slice_split_first, slice_split_none, length-slice_split}
+use Rattle.memchr.specs.Find.{IsFirstByte, is_byte}
 use Rattle.script_words.specs.Text.{ends_line, is_blank, is_empty, without_empty_last, lines_of, words_of}
 
 not_choice : (b : Bool) (x y : List (List ℕ)) → cond (not b) x y ≡ cond b y x
@@ -26,6 +27,22 @@ split_found : (p : ℕ → Bool) (xs : List ℕ) (end : ℕ) → position p xs �
 split_found p xs end e =
     let f = cond_some (ltb (position_or_len p xs) (length xs)) (position_or_len p xs) end e in
     slice_split_first p xs 0 (ltb-true _ _ f.0) ∙ ap (λ n. take n xs ∷ slice_split p (drop (n + 1) xs)) f.1
+
+-- the first place that passes, from what is known of the places up to it
+pub found_at : (p : ℕ → Bool) (xs : List ℕ) (i : ℕ) → i < length xs → ((k : ℕ) → k < i → p (get_or xs k 0) ≡ false) → p (get_or xs i 0) ≡ true → position p xs ≡ Some i
+found_at p xs i lt before here =
+    let at : position_or_len p xs ≡ i = position_or_len_is p xs i 0 (omega arith) before (λ within. here) in
+    rw (at, lt-ltb i (length xs) lt) refl
+
+pub found_nowhere : (p : ℕ → Bool) (xs : List ℕ) → ((k : ℕ) → k < length xs → p (get_or xs k 0) ≡ false) → position p xs ≡ None
+found_nowhere p xs none =
+    let at : position_or_len p xs ≡ length xs = position_or_len_is p xs (length xs) 0 (omega arith) none (λ within. absurd (omega arith)) in
+    rw (at, le-ltb (length xs) (length xs) (omega arith)) refl
+
+-- the first line feed, as a search for a byte tells it
+pub first_line_feed : (text : List ℕ) (r : Option ℕ) → IsFirstByte (is_byte 10) text r → r ≡ position ends_line text
+first_line_feed text None h = sym (found_nowhere ends_line text (λ k lt. false_from_ne_true _ (h k (omega arith) lt)))
+first_line_feed text (Some i) h = sym (found_at ends_line text i h.0.high (λ k lt. false_from_ne_true _ (h.0.before k (omega arith) lt)) h.1)
 
 -- p passes nowhere
 not_found : (b : Bool) (n : ℕ) → cond b (Some n) None ≡ None → b ≡ false

@@ -1,4 +1,5 @@
 pub mod Cuts
 pub mod Digits
 pub mod Few
-pub mod Values
+pub mod Read
+pub mod Table

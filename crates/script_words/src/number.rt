@@ -11,7 +11,8 @@ fn value_of(word: &[u8], radix: u32) -> Option<u64>
     requires two { 2 ≤ radix }
     requires sixteen { radix ≤ 16 }
     requires short { length word.now ≤ 15 }
-    ensures { result ≡ (if list_all (λ c. is_digit c radix) word.now then Some (digits_value radix word.now) else None) }
+    ensures { result ≡ (if list_all (λ c. is_digit c radix) word.now
+        then Some (digits_value radix word.now) else None) }
 {
     let mut value = 0;
     for byte in word {
@@ -27,7 +28,8 @@ fn value_of(word: &[u8], radix: u32) -> Option<u64>
 // The value of at most 20 decimal digits.
 fn long_value_of(word: &[u8]) -> Option<u128>
     requires { length word.now ≤ 20 }
-    ensures { result ≡ (if list_all (λ c. is_digit c 10) word.now then Some (digits_value 10 word.now) else None) }
+    ensures { result ≡ (if list_all (λ c. is_digit c 10) word.now
+        then Some (digits_value 10 word.now) else None) }
 {
     let mut value = 0;
     for byte in word {

@@ -2,6 +2,8 @@ ghost use Rattle.std.specs.Prelude.{◌≡◌, ◌+◌, ◌<◌, ◌≤◌, [], 
 ghost use Rattle.std.specs.Iterator.{YieldsFirstRef, item_count};
 ghost use Rattle.script_words.specs.Text.{lines_of, words_of, ends_line, is_blank};
 
+use memchr::memchr;
+
 /// The lines that are left of a text.
 #[derive(Clone, Copy, Debug)]
 pub struct Lines<'a> {
@@ -24,17 +26,24 @@ pub fn all_lines(text: &[u8]) -> Lines<'_>
 }
 
 /// The place of the first line feed.
+#[tactic(auto, using(crate::proofs::Cuts::first_line_feed))]
 pub fn line_end(text: &[u8]) -> Option<usize>
     ensures { result ≡ position ends_line text.now }
 {
-    text.iter().position(|b| *b == b'\n')
+    memchr(b'\n', text)
+}
+
+/// Whether a byte is a space, a tab or a carriage return.
+pub(crate) fn is_blank(byte: u8) -> bool
+    ensures { result ≡ is_blank byte }
+{
+    byte == b' ' || byte == b'\t' || byte == b'\r'
 }
 
 fn word_end(line: &[u8]) -> Option<usize>
     ensures { result ≡ position is_blank line.now }
 {
-    line.iter()
-        .position(|b| *b == b' ' || *b == b'\t' || *b == b'\r')
+    line.iter().position(|byte| is_blank(*byte))
 }
 
 /// What stands before a byte and behind it.
@@ -51,7 +60,8 @@ pub fn cut_at(bytes: &[u8], at: usize) -> (&[u8], &[u8])
 // The first line of a text and what stands behind it.
 #[tactic(auto, using(crate::proofs::Cuts::lines_found, crate::proofs::Cuts::lines_last, crate::proofs::Cuts::lines_none))]
 fn first_line(text: &[u8]) -> Option<(&[u8], &[u8])>
-    ensures { MatchOption result (lines_of text.now ≡ []) (λ cut. lines_of text.now ≡ cut.0.now ∷ lines_of cut.1.now) }
+    ensures { MatchOption result (lines_of text.now ≡ [])
+        (λ cut. lines_of text.now ≡ cut.0.now ∷ lines_of cut.1.now) }
 {
     if text.is_empty() {
         return None;
@@ -64,8 +74,9 @@ fn first_line(text: &[u8]) -> Option<(&[u8], &[u8])>
 
 // The first word of a line and what stands behind it.
 #[tactic(auto, using(crate::proofs::Cuts::words_found, crate::proofs::Cuts::words_skip, crate::proofs::Cuts::words_last, crate::proofs::Cuts::words_none))]
-fn first_word(line: &[u8]) -> Option<(&[u8], &[u8])>
-    ensures { MatchOption result (words_of line.now ≡ []) (λ cut. words_of line.now ≡ cut.0.now ∷ words_of cut.1.now) }
+pub(crate) fn first_word(line: &[u8]) -> Option<(&[u8], &[u8])>
+    ensures { MatchOption result (words_of line.now ≡ [])
+        (λ cut. words_of line.now ≡ cut.0.now ∷ words_of cut.1.now) }
 {
     let mut left = line;
     while let Some(end) = word_end(left) {

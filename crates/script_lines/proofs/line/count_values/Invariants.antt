@@ -4,8 +4,8 @@ use Rattle.script_words.specs.Text.{words_of}
 use Rattle.script_words.specs.Numbers.{is_value}
 use Rattle.script_lines.proofs.line.count_values.Given as goal
 
-abbrev pub invariant-loop-word : goal.invariant-loop-word
-invariant-loop-word l = record {
-  values : list_all is_value (words_of l.word-iterator.rest.now) ≡ list_all is_value (words_of l.fn.words.rest.now);
-  counted : l.count + length (words_of l.word-iterator.rest.now) ≡ length (words_of l.fn.words.rest.now);
+abbrev pub invariant-loop-value : goal.invariant-loop-value
+invariant-loop-value l = record {
+  values : list_all is_value (words_of l.value-iterator.rest.now) ≡ list_all is_value (words_of l.fn.values.rest.now);
+  counted : l.count + length (words_of l.value-iterator.rest.now) ≡ length (words_of l.fn.values.rest.now);
 }

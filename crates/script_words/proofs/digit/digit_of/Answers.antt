@@ -1,6 +1,6 @@
 use Rattle.std.proofs.Common.{◌∙◌, ap, arith}
 use Rattle.std.specs.Char.{digit_value}
-use Rattle.script_words.proofs.Values.{value_there}
+use Rattle.script_words.proofs.Table.{value_there}
 use Rattle.script_words.proofs.digit.digit_of.Goals as goal
 
 pub returns : goal.returns

@@ -1,8 +1,7 @@
-use Rattle.std.proofs.Common.{◌≡◌, ◌∙◌, ◌++◌, false, List, length, map, ap, arith}
+use Rattle.std.proofs.Common.{◌≡◌, false, length, map, ap, arith}
 use Rattle.gpu_cmd.specs.Lawful.{places_of}
 use Rattle.script_words.specs.Text.{words_of}
 use Rattle.script_words.specs.Numbers.{value_of}
-use Rattle.gpu_plan.specs.declared.plan.Action.{Action}
 use Rattle.gpu_plan.specs.Adding.{puts}
 use Rattle.gpu_plan.specs.Plans.{PlanData, is_closed}
 use Rattle.gpu_plan.proofs.Lawful.{lawful_puts}
@@ -10,10 +9,7 @@ use Rattle.gpu_plan.proofs.Dumps.{dumps_stay}
 use Rattle.gpu_plan.proofs.plan.Plan.add_puts.Goals as goal
 
 pub invariant_of-self : goal.invariant_of-self
-invariant_of-self c = rw c.reserve.ensures.items c.self.invariant
-
-pub invariant_of-self-2 : goal.invariant_of-self-2
-invariant_of-self-2 c =
+invariant_of-self c =
     let closed = ap (λ (plan : PlanData). is_closed plan.actions) c.self.view_is in
     let count = ap (λ (plan : PlanData). length plan.actions) c.self.view_is in
     let places = ap (λ (plan : PlanData). places_of plan.areas) c.self.view_is in
@@ -23,5 +19,7 @@ invariant_of-self-2 c =
     let areas = c.self.inside.areas.value in
     let words = words_of c.args.values.rest.now in
     let more = puts c.args.place (map value_of words) in
-    let added : new ≡ old ++ more = c.push_puts.ensures ∙ ap (λ (actions : List Action). actions ++ more) c.reserve.ensures.items in
+    let within = rw c.in-Ok-Some.field-0-is at c.in-Ok-Some.ensures.within in
+    let at = rw c.in-Ok-Some.field-0-is at c.in-Ok-Some.ensures.at in
+    let added = rw c.in-Ok-Some.field-0-is at c.in-Ok-Some.ensures.put in
     (lawful_puts areas c.args.place words old new c.self.invariant.0 unclosed (omega arith) (omega arith) added, dumps_stay areas.results old more new c.self.inside.dumps.items c.self.invariant.1 added, c.self.invariant.2)
