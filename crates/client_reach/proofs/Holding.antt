@@ -1,10 +1,9 @@
 -- What a place may hold.
-use Rattle.std.proofs.Common.{◌≡◌, ℕ, zero, suc, ◌+◌, ◌-◌, ◌≤◌, ◌⊎◌, inl, inr, Bool, true, false, cond, eqb, Option, Some, None, List, length, refl, sym, ap, subst, ◌∙◌, arith, get_or, set}
+use Rattle.std.proofs.Common.{◌≡◌, ℕ, zero, suc, ◌+◌, ◌-◌, ◌≤◌, ◌⊎◌, inl, inr, Bool, true, false, cond, eqb, Some, List, length, refl, sym, ap, subst, ◌∙◌, arith, get_or, set}
 use Rattle.std.specs.Prelude.{◌||◌, slice_get, slice_index}
 use Rattle.std.specs.Bool.{Decides}
-use Rattle.std.proofs.lemmas.Bool.{cases_lt}
 use Rattle.std.proofs.lemmas.Bool.Decides.{nat_tests}
-use Rattle.std.proofs.lemmas.List.{get_or-set_same, get_or-set_other, length-set}
+use Rattle.std.proofs.lemmas.List.{get_or-set_same, get_or-set_other}
 use Rattle.std.proofs.lemmas.Option.{slice_get_within, slice_get-get_or}
 use Rattle.gpu_plan.specs.declared.plan.Action.{Action}
 use Rattle.gpu_plan.specs.declared.plan.Action.TheVariants.{Put, Flush, Finish, Token, Close}
@@ -12,10 +11,9 @@ use Rattle.gpu_plan.specs.Plans.{IsWithin}
 use Rattle.gpu_plan.specs.Values.{after, value_at}
 use Rattle.gpu_plan.specs.MayHold.{MayHold}
 use Rattle.gpu_plan.proofs.Holding.{value_one_further}
-use Rattle.client_reach.specs.Reached.{Reached, last_of, PutBetween, IsReached}
+use Rattle.client_reach.specs.Reached.{has_since, PutBetween}
 use Rattle.client_reach.specs.Held.{Held, stored, IsHeld}
-use Rattle.client_reach.specs.Client.{Client, is_since, may_have, IsClient}
-use Rattle.client_reach.proofs.Reaching.{no_put, put_there, put_before}
+use Rattle.client_reach.specs.Client.{Client, may_have, IsClient}
 
 -- ---- the values after one more action
 
@@ -29,13 +27,6 @@ stored_value (Flush put fences) values place within = refl
 stored_value Finish values place within = refl
 stored_value (Token token) values place within = refl
 stored_value Close values place within = refl
-
-pub length-stored : (action : Action) (values : List ℕ) → length (stored action values) ≡ length values
-length-stored (Put p v) values = length-set values p v
-length-stored (Flush put fences) values = refl
-length-stored Finish values = refl
-length-stored (Token token) values = refl
-length-stored Close values = refl
 
 pub held_more : (actions : List Action) (action : Action) (old new : Held) → slice_get actions old.done ≡ Some action → IsWithin (length old.values) action → IsHeld actions old → new.done ≡ old.done + 1 → new.values ≡ stored action old.values → IsHeld actions new
 held_more actions action old new at within held done values =
@@ -104,16 +95,6 @@ holds_when_put actions least most place value put =
       held = value_one_further actions put.at place (Put place value) put.put ∙ ap (λ (b : Bool). cond b value (value_at actions put.at place)) (self place);
     }
 
-since_decides : (actions : List Action) (reached : Reached) (from place value : ℕ) (o : Option ℕ) → last_of reached.puts place value ≡ o → IsReached actions reached → Decides (is_since from o) (PutBetween actions from reached.upto place value)
-since_decides actions reached from place value None kept is = (λ e. absurd (cc), λ put. absurd (no_put actions reached from place value is kept put))
-since_decides actions reached from place value (Some at) kept is = (
-  λ since. let low : from ≤ at = grind (arith, nat_tests) in put_there actions reached from place value at is kept low,
-  λ put. elim (cases_lt at from) [
-    | inl less ↦ absurd (put_before actions reached from place value at is kept less put)
-    | inr low ↦ (let le : from ≤ at = low in grind (arith, nat_tests))
-  ],
-)
-
 either_decides : {P A B : Type 0} (a b : Bool) → Decides a A → Decides b B → (A → P) → (B → P) → (P → A ⊎ B) → Decides (a || b) P
 either_decides true b da db f g h = (λ e. f (da.0 refl), λ p. refl)
 either_decides false b da db f g h = (λ e. g (db.0 e), λ p. elim (h p) [ inl x ↦ (let e : false ≡ true = da.1 x in absurd (cc)) | inr y ↦ db.1 y ])
@@ -124,9 +105,9 @@ eqb_decides m n = (λ e. grind (arith, nat_tests), λ e. grind (arith, nat_tests
 -- a place may have a value exactly where it has it after the least, or where it is put later
 pub may_have_decides : (actions : List Action) (client : Client) (word : ℕ × ℕ) → IsClient actions client → client.held.done ≤ client.reached.upto → Decides (may_have client word) (MayHold actions client.held.done client.reached.upto word.0 word.1)
 may_have_decides actions client word of within =
-    either_decides (eqb (slice_index client.held.values word.0) word.1) (is_since client.held.done (last_of client.reached.puts word.0 word.1))
+    either_decides (eqb (slice_index client.held.values word.0) word.1) (has_since client.held.done client.reached word.0 word.1)
     (eqb_decides (slice_index client.held.values word.0) word.1)
-    (since_decides actions client.reached client.held.done word.0 word.1 (last_of client.reached.puts word.0 word.1) refl of.reached)
+    (of.reached.puts client.held.done word.0 word.1 (omega arith))
     (λ same. holds_at_least actions client.held.done client.reached.upto word.0 word.1 within (sym (of.held.values word.0) ∙ same))
     (λ put. holds_when_put actions client.held.done client.reached.upto word.0 word.1 put)
     (λ m. elim (may_hold_cases actions client.held.done client.reached.upto word.0 word.1 of.reached.within m) [

@@ -1,9 +1,9 @@
 -- What is kept of a client: the least and the most that it can have done.
-use Rattle.std.specs.Prelude.{ℕ, ◌==◌, ◌||◌, nat_le, Bool, false, Option, Some, None, List, length, slice_index}
+use Rattle.std.specs.Prelude.{ℕ, ◌==◌, ◌||◌, Bool, List, length, slice_index}
 use Rattle.std.specs.List.{All}
 use Rattle.gpu_plan.specs.declared.plan.Action.{Action}
 use Rattle.gpu_plan.specs.Plans.{IsWithin}
-use Rattle.client_reach.specs.Reached.{Reached, last_of, IsReached}
+use Rattle.client_reach.specs.Reached.{Reached, has_since, IsReached}
 use Rattle.client_reach.specs.Held.{Held, IsHeld}
 
 -- the values after the least, and how far the client can be
@@ -11,17 +11,12 @@ pub record Client : Type 0 where
   pub held : Held
   pub reached : Reached
 
--- a put stands at a position or behind it
-abbrev pub is_since : ℕ → Option ℕ → Bool
-is_since from None = false
-is_since from (Some at) = nat_le from at
-
 -- the place has the value after the least, or the value is put there later
 abbrev pub may_have : Client → ℕ × ℕ → Bool
-may_have client word = slice_index client.held.values word.0 == word.1 || is_since client.held.done (last_of client.reached.puts word.0 word.1)
+may_have client word = slice_index client.held.values word.0 == word.1 || has_since client.held.done client.reached word.0 word.1
 
 -- what is kept is so of a client with these actions, whose puts have a word each
 pub record IsClient (actions : List Action) (client : Client) : Type 0 where
   pub held : IsHeld actions client.held
-  pub reached : IsReached actions client.reached
+  pub reached : IsReached actions client.held.done client.reached
   pub within : All (IsWithin (length client.held.values)) actions

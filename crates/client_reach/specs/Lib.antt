@@ -1,3 +1,3 @@
-pub mod Reached
 pub mod Held
+pub mod Reached
 pub mod Client

@@ -39,7 +39,7 @@ impl Client {
         ensures client { IfOk result (λ client. IsClient actions.now client) }
     {
         let held = Held::make(alloc, places)?;
-        let reach = Reach::make(alloc);
+        let reach = Reach::make(alloc, actions, places)?;
         Ok(Client { held, reach })
     }
 
@@ -56,11 +56,13 @@ impl Client {
         requires few { length actions.now ≤ 1000000 }
         requires below { self.old.reached.upto ≤ bound actions.now finished (token ∷ []) }
         requires client { IsClient actions.now self.old }
-        ensures most { OnOk result (self.new.reached.upto ≡ bound actions.now finished (token ∷ [])) }
+        ensures most { OnOk result
+            (self.new.reached.upto ≡ bound actions.now finished (token ∷ [])) }
         ensures least { OnOk result (self.new.held.done ≡ self.old.held.done) }
         ensures client { OnOk result (IsClient actions.now self.new) }
     {
-        self.reach.advance(actions, finished, token)?;
+        self.reach
+            .advance(actions, self.held.done(), finished, token)?;
         Ok(())
     }
 
@@ -88,7 +90,10 @@ impl Client {
     /// the client can have done.
     pub fn may_hold(&self, place: u32, value: u32) -> bool
         ensures value { result ≡ may_have self.now (place, value) }
-        ensures decides { (actions : List Action) → IsClient actions self.now → self.now.held.done ≤ self.now.reached.upto → Decides result (MayHold actions self.now.held.done self.now.reached.upto place value) }
+        ensures decides { (actions : List Action) → IsClient actions self.now
+            → self.now.held.done ≤ self.now.reached.upto
+            → Decides result
+            (MayHold actions self.now.held.done self.now.reached.upto place value) }
     {
         self.has(place, value)
     }

@@ -1,5 +1,5 @@
 -- The lines of a journal text.
-use Rattle.std.proofs.Common.{◌≡◌, ℕ, zero, suc, ◌+◌, ◌^◌, ◌<◌, ◌≤◌, Bool, true, false, cond, ltb, Some, None, List, [], ◌∷◌, ◌++◌, map, length, length-append, take, drop, get_or, refl, sym, ap, subst, ◌∙◌, append_assoc, arith}
+use Rattle.std.proofs.Common.{◌≡◌, ℕ, zero, suc, ◌+◌, ◌^◌, ◌<◌, ◌≤◌, true, false, ltb, Some, None, List, [], ◌∷◌, ◌++◌, map, length, length-append, take, drop, get_or, refl, sym, ap, subst, ◌∙◌, append_assoc, arith}
 use Rattle.std.specs.Prelude.{codes, position}
 use Rattle.std.specs.Char.{digit_value}
 use Rattle.std.specs.List.{All, list_all, flat_map, slice_split, join_with_byte, position_or_len}
@@ -26,6 +26,7 @@ use Rattle.gpu_journal.proofs.Telling.{different_texts}
 use Rattle.script_words.specs.Text.{ends_line}
 use Rattle.journal_reader.specs.Said.{is_space, pieces_said, line_said}
 use Rattle.journal_reader.specs.Reading.{IsWord, IsWritten, HasNoFeed, IsJournal, whole_lines, IsLineOf, IsFirstBad, RefusedIsNoJournal, JournalIsOne}
+use Rattle.journal_reader.proofs.Absent.{not_found}
 use Rattle.journal_reader.proofs.Numbers.{value_digits}
 use Rattle.journal_reader.proofs.Words.{word_piece}
 use Rattle.journal_reader.proofs.Events.{why_piece, event_pieces, pieces_told, pieces_there}
@@ -40,23 +41,23 @@ regroup : (a b c d : List ℕ) → ((a ++ (32 ∷ b)) ++ (32 ∷ c)) ++ d ≡ a 
 regroup a b c d = simp append_assoc
 
 -- a piece has neither a space nor a line feed
-abbrev IsInk : ℕ → Type 0
+abbrev pub IsInk : ℕ → Type 0
 IsInk byte = 32 < byte
 
-ink_digits : (radix : ℕ) (ds : List ℕ) → radix ≤ 16 → AllDigits radix ds → All IsInk ds
+pub ink_digits : (radix : ℕ) (ds : List ℕ) → radix ≤ 16 → AllDigits radix ds → All IsInk ds
 ink_digits radix [] low are = All-nil IsInk
 ink_digits radix (c ∷ cs) low are =
     let small : digit_value c < 16 = let first : digit_value c < radix = are.0 in omega arith in
     let ink : 32 < c = grind (arith, nat_tests) in
     All-cons IsInk c cs ink (ink_digits radix cs low are.1)
 
-ink_number : (n : ℕ) → n < 2 ^ 32 → All IsInk (numeral n)
+pub ink_number : (n : ℕ) → n < 2 ^ 32 → All IsInk (numeral n)
 ink_number n small = rw (numeral_decimal n (omega arith)) (ink_digits 10 _ (omega arith) (decimal_is_IsNumeral n (omega arith)).0.1)
 
 ink_value : (v : ℕ) → All IsInk (hex8 v)
 ink_value v = ink_digits 16 (hex8 v) (omega arith) (value_digits v)
 
-ink_word : (word : ℕ × ℕ) → IsWord word → All IsInk (word_piece word)
+pub ink_word : (word : ℕ × ℕ) → IsWord word → All IsInk (word_piece word)
 ink_word word is = All-append IsInk (numeral word.0) (58 ∷ hex8 word.1) (ink_number word.0 is.0) (All-cons IsInk 58 (hex8 word.1) (omega arith) (ink_value word.1))
 
 -- all bytes of all pieces
@@ -89,7 +90,7 @@ ink_event (Lost stream (Error error) words) is = (ink_letters (codes "lost") ref
 ink_event (Lost stream Memory words) is = rw (is.1) (ink_letters (codes "lost") refl, (ink_number stream is.0, (ink_why Memory, tt)))
 ink_event (Close stream) is = (ink_letters (codes "close") refl, (ink_number stream is, tt))
 
-no_space : (x : List ℕ) → All IsInk x → All (λ byte. is_space byte ≡ false) x
+pub no_space : (x : List ℕ) → All IsInk x → All (λ byte. is_space byte ≡ false) x
 no_space x ink = All-weaker IsInk (λ byte. is_space byte ≡ false) (λ byte high. grind (arith, nat_tests)) x ink
 
 split_joined : (x : List ℕ) (xs : List (List ℕ)) → AreInk (x ∷ xs) → slice_split is_space (join_with_byte 32 (x ∷ xs)) ≡ x ∷ xs
@@ -260,10 +261,6 @@ feed_found text at e =
       sym (take-append-drop at text) ∙ ap (λ (rest : List ℕ). take at text ++ rest) (drop_more text at 0 found.0 ∙ ap (λ b. b ∷ drop (at + 1) text) byte),
       All-from_get_or (λ byte. ends_line byte ≡ false) (take at text) 0 (λ k lt. let below : k < at = omega (arith, length-take at text) in rw (get_or-take at text k 0 below) (found.2 k below)),
     )
-
-not_found : (b : Bool) (n : ℕ) → cond b (Some n) None ≡ None → b ≡ false
-not_found true n e = absurd cc
-not_found false n e = refl
 
 pub feed_missing : (text : List ℕ) → position ends_line text ≡ None → HasNoFeed text
 feed_missing text e =

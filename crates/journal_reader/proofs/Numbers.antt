@@ -1,5 +1,5 @@
 -- Which words are the own digits of a number.
-use Rattle.std.proofs.Common.{◌≡◌, ℕ, zero, suc, ◌+◌, ◌*◌, ◌/◌, ◌%◌, ◌^◌, ◌<◌, ◌≤◌, Bool, true, false, cond, ltb, leb, eqb, Some, None, List, [], ◌∷◌, ◌++◌, length, get_or, refl, sym, ap, subst, ◌∙◌, append_assoc, inl, inr, arith, eq-zero-or-pos}
+use Rattle.std.proofs.Common.{◌≡◌, ℕ, zero, suc, ◌+◌, ◌*◌, ◌/◌, ◌%◌, ◌^◌, ◌<◌, ◌≤◌, Bool, true, false, cond, ltb, leb, eqb, Option, Some, None, List, [], ◌∷◌, ◌++◌, length, take, get_or, lit<, refl, sym, ap, subst, ◌∙◌, append_assoc, inl, inr, arith, eq-zero-or-pos}
 use Rattle.std.specs.Prelude.{◌&&◌, slice_index}
 use Rattle.std.specs.List.{list_all}
 use Rattle.std.specs.Char.{is_digit, digit_value, digit_char}
@@ -11,12 +11,14 @@ use Rattle.std.proofs.lemmas.Bool.Decides.{nat_tests}
 use Rattle.std.proofs.lemmas.Str.{digit_value-digit_char}
 use Rattle.std.proofs.lemmas.Str.Parse.{IsNumeralModel}
 use Rattle.std.proofs.lemmas.Fmt.{decimal_is_IsNumeral, length-decimal-le, first_decimal, decimal_digit, decimal-digits_value}
-use Rattle.std.proofs.lemmas.Int.Digits.{digits_value-lt}
-use Rattle.std.proofs.lemmas.List.Folds.{list_all-append}
+use Rattle.std.proofs.lemmas.Int.Digits.{digits_value-lt, digits_value_more}
+use Rattle.std.proofs.lemmas.List.{length-take}
+use Rattle.std.proofs.lemmas.List.Folds.{list_all-append, list_all_at, list_all_more}
+use Rattle.std.proofs.Math.Nat.{pow-le-pow_right}
 use Rattle.script_words.specs.Numbers.{number_of, decimal_of, hex_of}
 use Rattle.gpu_journal.specs.Digits.{numeral, hex_digits, hex8}
 use Rattle.gpu_journal.proofs.Numerals.{numeral_decimal, different_values}
-use Rattle.journal_reader.specs.Said.{is_small, own_number, own_value}
+use Rattle.journal_reader.specs.Said.{is_small, small_digit, own_number, own_value}
 
 -- ---- digits
 
@@ -107,8 +109,8 @@ own_number_there n small = rw (numeral_decimal n (omega arith)) (rw (no_lead) (n
 
 -- ---- hexadecimal values
 
-small_digit : (c : ℕ) → digit_value c < 16 → is_small c ≡ true → digit_char (digit_value c) ≡ c
-small_digit c low small = grind (arith, nat_tests)
+digit_again : (c : ℕ) → digit_value c < 16 → is_small c ≡ true → digit_char (digit_value c) ≡ c
+digit_again c low small = grind (arith, nat_tests)
 
 -- the digits of a number with further digits
 digits_more : (k n : ℕ) (ds : List ℕ) → AllDigits 16 ds → list_all is_small ds ≡ true → hex_digits (length ds + k) (digits_value_after 16 n ds) ≡ hex_digits k n ++ ds
@@ -122,7 +124,7 @@ digits_more k n (c ∷ cs) are small =
     let last : (n * 16 + value) % 16 ≡ value = omega arith in
     ap (λ m. hex_digits m (digits_value_after 16 (n * 16 + value) cs)) count
     ∙ digits_more (suc k) (n * 16 + value) cs are.1 both.1
-    ∙ rw (front, last, small_digit c low both.0) (append_assoc (hex_digits k n) (c ∷ []) cs)
+    ∙ rw (front, last, digit_again c low both.0) (append_assoc (hex_digits k n) (c ∷ []) cs)
 
 pub value_told_own : (word : List ℕ) (v : ℕ) → length word ≡ 8 → own_value word ≡ Some v → (word ≡ hex8 v) × (v < 2 ^ 32)
 unfolding own_value hex8
@@ -135,6 +137,78 @@ value_told_own word v eight e = by (list_all is_small word) refl e
         let more = digits_more 0 0 word (digits_told 16 word is.digits) small in
         let count : length word + 0 ≡ 8 = omega arith in
         (sym (ap (hex_digits 8) (sym is.is) ∙ ap (λ n. hex_digits n (digits_value 16 word)) (sym count) ∙ more), subst (λ m. m < 2 ^ 32) is.is is.small)
+
+-- what a word has that says a value
+record IsValue (word : List ℕ) (v : ℕ) : Type 0 where
+  pub small : list_all is_small word ≡ true
+  pub number : IsNumber 16 8 (2 ^ 32) word v
+
+value_told : (word : List ℕ) (v : ℕ) → own_value word ≡ Some v → IsValue word v
+unfolding own_value
+value_told word v e = by (list_all is_small word) refl e
+  where
+    by : (b : Bool) → list_all is_small word ≡ b → cond b (hex_of word) None ≡ Some v → IsValue word v
+    by false small e = absurd (cc)
+    by true small e = record { small = small; number = number_told 16 8 (2 ^ 32) word v e }
+
+no_value : (word : List ℕ) → ((v : ℕ) → IsValue word v → ⊥) → own_value word ≡ None
+no_value word not = by (own_value word) refl
+  where
+    by : (o : Option ℕ) → own_value word ≡ o → own_value word ≡ None
+    by None e = e
+    by (Some v) e = absurd (not v (value_told word v e))
+
+pub no_value_empty : (word : List ℕ) → length word ≡ 0 → own_value word ≡ None
+no_value_empty word none = no_value word (λ v is. let some = is.number.some in omega arith)
+
+pub no_value_long : (word : List ℕ) → 8 < length word → own_value word ≡ None
+no_value_long word long = no_value word (λ v is. let short = is.number.short in omega arith)
+
+-- a byte that is no digit with a small letter
+pub no_value_other : (word : List ℕ) (i : ℕ) → i < length word → 16 ≤ small_digit (get_or word i 0) → own_value word ≡ None
+no_value_other word i lt high = no_value word (λ v is. by v is (is_small (get_or word i 0)) (is_digit (get_or word i 0) 16) refl refl high)
+  where
+    by : (v : ℕ) → IsValue word v → (a b : Bool) → is_small (get_or word i 0) ≡ a → is_digit (get_or word i 0) 16 ≡ b → 16 ≤ cond (a && b) (digit_value (get_or word i 0)) 16 → ⊥
+    by v is false b ea eb high = let other = list_all_at is_small word i 0 lt ea in let all = is.small in cc
+    by v is true false ea eb high = let other = list_all_at (λ c. is_digit c 16) word i 0 lt eb in let all = is.number.digits in cc
+    by v is true true ea eb high = let less : digit_value (get_or word i 0) < 16 = ltb-true _ _ eb in omega arith
+
+-- the digits so far, and their value
+pub record IsValueOf (word : List ℕ) (value : ℕ) : Type 0 where
+  pub small : list_all is_small word ≡ true
+  pub digits : list_all (λ c. is_digit c 16) word ≡ true
+  pub is : value ≡ digits_value 16 word
+
+pub no_digits : IsValueOf [] 0
+no_digits = record { small = refl; digits = refl; is = refl }
+
+-- at most seven digits leave room for one more
+pub value_room : (word : List ℕ) (value i : ℕ) → i ≤ 7 → IsValueOf (take i word) value → value < 2 ^ 28
+value_room word value i short is =
+    let below = digits_value-lt 16 (take i word) (digits_told 16 (take i word) is.digits) in
+    let n = length (take i word) in
+    let most : n ≤ 7 = omega (arith, length-take i word) in
+    let far : 16 ^ n ≤ 16 ^ 7 = pow-le-pow_right (lit< tt) most in
+    let same = is.is in
+    omega arith
+
+pub value_more : (word : List ℕ) (value i digit : ℕ) → i < length word → digit ≡ small_digit (get_or word i 0) → digit < 16 → IsValueOf (take i word) value → IsValueOf (take (i + 1) word) (value * 16 + digit)
+value_more word value i digit lt e less is = by (is_small (get_or word i 0)) (is_digit (get_or word i 0) 16) refl refl e
+  where
+    by : (a b : Bool) → is_small (get_or word i 0) ≡ a → is_digit (get_or word i 0) 16 ≡ b → digit ≡ cond (a && b) (digit_value (get_or word i 0)) 16 → IsValueOf (take (i + 1) word) (value * 16 + digit)
+    by false b ea eb e = absurd (omega arith)
+    by true false ea eb e = absurd (omega arith)
+    by true true ea eb e = record {
+      small = list_all_more is_small word i 0 lt ∙ and_from _ _ is.small ea;
+      digits = list_all_more (λ c. is_digit c 16) word i 0 lt ∙ and_from _ _ is.digits eb;
+      is = rw (is.is, e) (sym (digits_value_more 16 word i lt));
+    }
+
+pub value_whole : (word : List ℕ) (value : ℕ) → 0 < length word → length word ≤ 8 → value < 2 ^ 32 → IsValueOf word value → Some value ≡ own_value word
+unfolding own_value
+value_whole word value some short low is =
+    let number : IsNumber 16 8 (2 ^ 32) word value = record { some = some; short = short; digits = is.digits; small = subst (λ n. n < 2 ^ 32) is.is low; is = sym is.is } in
+    rw (is.small) (sym (number_there 16 8 (2 ^ 32) word value number))
 
 -- what digits are written
 record AreHex (ds : List ℕ) : Type 0 where

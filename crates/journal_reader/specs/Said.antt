@@ -1,5 +1,6 @@
 -- What a line says, cut at its spaces: the event whose text it is, if it is one.
 use Rattle.std.specs.Prelude.{ℕ, ◌-◌, ◌==◌, ◌&&◌, ◌||◌, Bool, nat_lt, List, [], ◌∷◌, length, take, drop, slice_index, Option, Some, None, codes, bytes_eq, if◌then◌else◌}
+use Rattle.std.specs.Char.{is_digit, digit_value}
 use Rattle.std.specs.List.{list_all, slice_split}
 use Rattle.script_words.specs.Numbers.{decimal_of, hex_of}
 use Rattle.gpu_cmd.specs.declared.error.CmdError.TheVariants.{InvalidSize, OutOfBounds, UnknownCommand, InvalidArguments, Quota}
@@ -25,6 +26,10 @@ pieces_of text = drop 1 (slice_split is_space text)
 -- no letter of the hexadecimal digits is a capital; the codes of `A` to `F` are 65 to 70
 abbrev pub is_small : ℕ → Bool
 is_small byte = nat_lt byte 65 || nat_lt 70 byte
+
+-- the value of a hexadecimal digit with small letters, or 16 of what is none
+abbrev pub small_digit : ℕ → ℕ
+small_digit byte = if is_small byte && is_digit byte 16 then digit_value byte else 16
 
 -- a decimal number of 32 bits without a zero before other digits; the code of `0` is 48
 unfoldable pub own_number : List ℕ → Option ℕ

@@ -1,6 +1,7 @@
 //! Reads journal texts.
 #![tactic(auto)]
 
+mod digit;
 mod event;
 mod fault;
 mod laws;

@@ -2,6 +2,7 @@ ghost use Rattle.std.specs.Prelude.{◌≡◌, ◌<◌, ◌≤◌, ◌∷◌, []
 ghost use Rattle.std.specs.List.{slice_split};
 ghost use Rattle.std.specs.Iterator.{YieldsFirstRef, item_count};
 ghost use Rattle.journal_reader.specs.Said.{is_space, pieces_of};
+ghost use Rattle.journal_reader.specs.Fronts.{IsCut};
 
 /// What is left of a line behind a piece of it: nothing, or a space and the further pieces.
 #[derive(Clone, Copy, Debug)]
@@ -14,6 +15,22 @@ fn space_in(text: &[u8]) -> Option<usize>
     ensures { result ≡ position is_space text.now }
 {
     text.iter().position(|byte| *byte == b' ')
+}
+
+impl<'a> Pieces<'a> {
+    /// The further pieces with the space before them, or nothing where there are none.
+    pub(crate) fn from_space(self) -> &'a [u8]
+        ensures cut { IsCut result.now }
+        ensures pieces { pieces_of result.now ≡ pieces_of self.entry.rest.now }
+    {
+        match space_in(self.rest) {
+            Some(at) => {
+                let (_, rest) = self.rest.split_at(at);
+                rest
+            }
+            None => &[],
+        }
+    }
 }
 
 /// What stands before the first space, and the pieces behind it.
@@ -33,7 +50,8 @@ pub(crate) fn first_piece(text: &[u8]) -> (&[u8], Pieces<'_>)
 // What stands behind the first space, cut at the next one.
 #[tactic(auto, using(crate::proofs::Cuts::next_found, crate::proofs::Cuts::next_none))]
 fn next_piece(text: &[u8]) -> Option<(&[u8], &[u8])>
-    ensures { MatchOption result (pieces_of text.now ≡ []) (λ cut. pieces_of text.now ≡ cut.0.now ∷ pieces_of cut.1.now) }
+    ensures { MatchOption result (pieces_of text.now ≡ [])
+        (λ cut. pieces_of text.now ≡ cut.0.now ∷ pieces_of cut.1.now) }
 {
     let at = space_in(text)?;
     let (_, behind) = text.split_at(at + 1);

@@ -20,7 +20,7 @@ use Rattle.journal_verify.specs.Faults.{kept_state}
 use Rattle.journal_verify.specs.Entered.{FitsPlans}
 
 pub no_watch : WatchData
-no_watch = record { ordered = 0; finished = 0; token = 0; stays = false; client = record { held = record { done = 0; values = [] }; reached = record { upto = 0; behind = 0; puts = [] } }; flushes = [] }
+no_watch = record { ordered = 0; finished = 0; token = 0; stays = false; client = record { held = record { done = 0; values = [] }; reached = record { upto = 0; behind = 0; values = []; ends = []; older = [] } }; flushes = [] }
 
 -- ---- what is read of a stream
 

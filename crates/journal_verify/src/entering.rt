@@ -35,8 +35,10 @@ impl Judge {
         requires counted { HasCounted 4294967294 self.old }
         requires known { IsKnown (length plans.now.plans) s }
         ensures turned { OnOk result
-            (HasTurned s (Some (Ordered (fences_in (slice_get (plan_of plans.now s).actions place))))
-            (λ k. record k { ordered = k.ordered + 1 }) (self.old.drawn + 1) self.old.images self.old.states self.old self.new) }
+            (HasTurned s (Some (Ordered
+            (fences_in (slice_get (plan_of plans.now s).actions place))))
+            (λ k. record k { ordered = k.ordered + 1 })
+            (self.old.drawn + 1) self.old.images self.old.states self.old self.new) }
         ensures fits { OnOk result (FitsPlans plans.now self.new) }
     {
         let fences = fences_at(plans.plan(s).actions(), place);
@@ -53,7 +55,9 @@ impl Judge {
         requires front { 0 < length (left_of self.old.core s) }
         requires free { blocked self.old.core s ≡ false }
         ensures turned { OnOk result (HasTurned s (Some Finished)
-            (λ k. record k { finished = k.finished + 1 }) self.old.drawn self.old.images self.old.states self.old self.new) }
+            (λ k. record k {
+              finished = k.finished + 1;
+            }) self.old.drawn self.old.images self.old.states self.old self.new) }
         ensures fits { OnOk result (FitsPlans plans.now self.new) }
     {
         self.scene.sync.finish(s);
@@ -66,7 +70,9 @@ impl Judge {
         requires fits { FitsPlans plans.now self.old }
         requires known { IsKnown (length plans.now.plans) s }
         ensures turned { HasTurned s (Some WasLost)
-            (λ k. record k { stays = false }) self.old.drawn self.old.images self.old.states self.old self.new }
+            (λ k. record k {
+              stays = false;
+            }) self.old.drawn self.old.images self.old.states self.old self.new }
         ensures fits { FitsPlans plans.now self.new }
     {
         self.scene.sync.lose(s);
@@ -78,7 +84,9 @@ impl Judge {
         requires fits { FitsPlans plans.now self.old }
         requires known { IsKnown (length plans.now.plans) s }
         ensures turned { HasTurned s (Some WasClosed)
-            (λ k. record k { stays = false }) self.old.drawn self.old.images self.old.states self.old self.new }
+            (λ k. record k {
+              stays = false;
+            }) self.old.drawn self.old.images self.old.states self.old self.new }
         ensures fits { FitsPlans plans.now self.new }
     {
         self.scene.sync.close(s);

@@ -32,7 +32,13 @@ impl Model for Judge {
 
     ghost Value = { JudgeData };
 
-    ghost view = { λ j. record { drawn = j.drawn; core = j.scene.sync; images = j.scene.images; states = j.states.items; watches = j.watches.items } };
+    ghost view = { λ j. record {
+      drawn = j.drawn;
+      core = j.scene.sync;
+      images = j.scene.images;
+      states = j.states.items;
+      watches = j.watches.items;
+    } };
 }
 
 impl Judge {

@@ -66,9 +66,11 @@ impl Judge {
         values: &mut Vec<u32>,
     ) -> Result<Option<u32>, Memory>
         requires fits { FitsPlans plans.now self.old }
-        ensures fault { IfOk result (λ fault. fault ≡ step_fault (fetch_outcome plans.now self.old s words.now)) }
+        ensures fault { IfOk result
+            (λ fault. fault ≡ step_fault (fetch_outcome plans.now self.old s words.now)) }
         ensures entered { IfOk result
-            (λ fault. fault ≡ None → HasEntered plans.now (Event.Step s words.now) self.old self.new) }
+            (λ fault. fault ≡ None → HasEntered plans.now
+            (Event.Step s words.now) self.old self.new) }
         ensures fits { OnOk result (FitsPlans plans.now self.new) }
     {
         match self.fetch_outcome(plans, s, words, values)? {
@@ -91,7 +93,8 @@ impl Judge {
         values: &mut Vec<u32>,
     ) -> Result<Option<u32>, Memory>
         requires fits { FitsPlans plans.now self.old }
-        ensures fault { IfOk result (λ fault. fault ≡ lost_fault error (fetch_outcome plans.now self.old s words.now)) }
+        ensures fault { IfOk result
+            (λ fault. fault ≡ lost_fault error (fetch_outcome plans.now self.old s words.now)) }
         ensures entered { IfOk result
             (λ fault. fault ≡ None
             → HasEntered plans.now (Event.Lost s (Why.Error error) words.now) self.old self.new) }
@@ -130,7 +133,8 @@ impl Judge {
     fn lose_for_memory(&mut self, plans: &Plans, s: u32, words: &[(u32, u32)]) -> Option<u32>
         requires fits { FitsPlans plans.now self.old }
         ensures fault { result ≡ memory_fault self.old s words.now }
-        ensures entered { result ≡ None → HasEntered plans.now (Event.Lost s Why.Memory words.now) self.old self.new }
+        ensures entered { result ≡ None
+            → HasEntered plans.now (Event.Lost s Why.Memory words.now) self.old self.new }
         ensures fits { FitsPlans plans.now self.new }
     {
         if !self.is_open(s) || !words.is_empty() {
@@ -164,7 +168,8 @@ impl Judge {
         requires fits { FitsPlans plans.now self.old }
         requires counted { HasCounted 4294967294 self.old }
         ensures fault { IfOk result (λ fault. fault ≡ fault_of plans.now self.old event.now) }
-        ensures entered { IfOk result (λ fault. fault ≡ None → HasEntered plans.now event.now self.old self.new) }
+        ensures entered { IfOk result
+            (λ fault. fault ≡ None → HasEntered plans.now event.now self.old self.new) }
         ensures fits { OnOk result (FitsPlans plans.now self.new) }
     {
         match event {

@@ -48,7 +48,8 @@ impl Judge {
         requires front { 0 < length (left_of self.old.core s) }
         requires taken { IsTaken (plan_of plans.now s).areas words.now (kept_state self.old s) }
         requires said { command.now ≡ command_in words.now }
-        ensures entered { OnOk result (HasEntered plans.now (Event.Step s words.now) self.old self.new) }
+        ensures entered { OnOk result
+            (HasEntered plans.now (Event.Step s words.now) self.old self.new) }
         ensures fits { OnOk result (FitsPlans plans.now self.new) }
     {
         let index = s as usize - 1;

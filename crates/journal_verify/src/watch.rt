@@ -30,7 +30,14 @@ impl Model for Watch {
 
     ghost Value = { WatchData };
 
-    ghost view = { λ w. record { ordered = w.ordered; finished = w.finished; token = w.token; stays = w.stays; client = w.client; flushes = w.flushes.items } };
+    ghost view = { λ w. record {
+      ordered = w.ordered;
+      finished = w.finished;
+      token = w.token;
+      stays = w.stays;
+      client = w.client;
+      flushes = w.flushes.items;
+    } };
 }
 
 // The place of a flush, counted from 0.
@@ -52,9 +59,11 @@ fn go_on(
     requires flushes { flushes.now ≡ flush_places plan.now.actions }
     requires client { IsClient plan.now.actions client.old }
     requires below { client.old.reached.upto ≤ bound plan.now.actions finished (token ∷ []) }
-    requires before { (place : ℕ) → slice_get flushes.now finished ≡ Some place → client.old.held.done ≤ place }
+    requires before { (place : ℕ) → slice_get flushes.now finished ≡ Some place
+        → client.old.held.done ≤ place }
     ensures client { OnOk result (IsClient plan.now.actions client.new) }
-    ensures most { OnOk result (client.new.reached.upto ≡ bound plan.now.actions finished (token ∷ [])) }
+    ensures most { OnOk result
+        (client.new.reached.upto ≡ bound plan.now.actions finished (token ∷ [])) }
     ensures least { OnOk result ((place : ℕ) → slice_get flushes.now finished ≡ Some place
         → client.new.held.done ≡ place) }
 {
@@ -71,7 +80,8 @@ impl Watch {
     /// Before any event.
     pub(crate) fn make(alloc: Global, plan: &Plan) -> Result<Watch, Memory>
         ensures counts { IfOk result
-            (λ watch. counts_of watch ≡ record { ordered = 0; finished = 0; token = 0; stays = true }) }
+            (λ watch. counts_of watch
+            ≡ record { ordered = 0; finished = 0; token = 0; stays = true }) }
         ensures watch { IfOk result (λ watch. IsWatch plan.now watch) }
     {
         let actions = plan.actions();

@@ -36,9 +36,11 @@ pub(crate) fn cut_at_border(text: &[u8], border: Border) -> Cut<'_>
     requires { length text.now < 2 ^ 32 }
     ensures before { whole_lines result.part.now ≡ before border (whole_lines text.now) }
     ensures lines { result.lines ≡ length (before border (whole_lines text.now)) }
-    ensures behind { MatchOption result.rest (behind border (whole_lines text.now) ≡ None) (λ rest. behind border (whole_lines text.now) ≡ Some (whole_lines rest.now)) }
+    ensures behind { MatchOption result.rest (behind border (whole_lines text.now) ≡ None)
+        (λ rest. behind border (whole_lines text.now) ≡ Some (whole_lines rest.now)) }
     ensures shorter { length result.part.now ≤ length text.now }
-    ensures few { MatchOption result.rest (result.lines ≤ length text.now) (λ rest. result.lines + 1 + length rest.now ≤ length text.now) }
+    ensures few { MatchOption result.rest (result.lines ≤ length text.now)
+        (λ rest. result.lines + 1 + length rest.now ≤ length text.now) }
 {
     let mut rest = text;
     let mut lines = 0;

@@ -33,7 +33,8 @@ fn judge(alloc: Global, plans: &Plans, events: &[Event]) -> Result<Finding, Memo
 // What is found of the text behind a line `journal`, before which stand so many lines of a script.
 fn examine_journal(alloc: Global, plans: &Plans, lines: u32, text: &[u8]) -> Result<Finding, Memory>
     requires { lines + 1 + length text.now ≤ 16777216 }
-    ensures { IfOk result (λ finding. FindsIn plans.now lines (before Border.Journal (whole_lines text.now)) finding) }
+    ensures { IfOk result (λ finding. FindsIn plans.now lines
+        (before Border.Journal (whole_lines text.now)) finding) }
 {
     let cut = cut_at_border(text, Border::Journal);
     match read_behind_head(alloc, plans, cut.part) {

@@ -11,8 +11,10 @@ use std::alloc::Global;
 // What stands behind a line, if that is the first of a text.
 fn behind_line<'a>(text: &'a [u8], line: &[u8]) -> Option<&'a [u8]>
     requires { IsLine line.now }
-    ensures lines { MatchOption result (IsFirstOther (line.now ∷ []) (whole_lines text.now) 0) (λ rest. whole_lines text.now ≡ line.now ∷ whole_lines rest.now) }
-    ensures shorter { MatchOption result (0 ≤ length text.now) (λ rest. 1 + length rest.now ≤ length text.now) }
+    ensures lines { MatchOption result (IsFirstOther (line.now ∷ []) (whole_lines text.now) 0)
+        (λ rest. whole_lines text.now ≡ line.now ∷ whole_lines rest.now) }
+    ensures shorter { MatchOption result (0 ≤ length text.now)
+        (λ rest. 1 + length rest.now ≤ length text.now) }
 {
     text.strip_prefix(line)
 }
@@ -23,10 +25,12 @@ fn behind_head<'a>(
     plans: &Plans,
     text: &'a [u8],
 ) -> Result<(u32, &'a [u8]), JournalFault>
-    ensures head { IfOk result (λ cut. whole_lines text.now ≡ head_of plans.now ++ whole_lines cut.1.now) }
+    ensures head { IfOk result
+        (λ cut. whole_lines text.now ≡ head_of plans.now ++ whole_lines cut.1.now) }
     ensures lines { IfOk result (λ cut. cut.0 ≡ length (head_of plans.now)) }
     ensures shorter { IfOk result (λ cut. cut.0 + length cut.1.now ≤ length text.now) }
-    ensures err { IfErr result (λ fault. IsOtherAt (head_of plans.now) (whole_lines text.now) fault) }
+    ensures err { IfErr result
+        (λ fault. IsOtherAt (head_of plans.now) (whole_lines text.now) fault) }
 {
     if plans.version() != 2 {
         return Ok((0, text));
@@ -55,9 +59,11 @@ pub(crate) fn read_behind_head(
     text: &[u8],
 ) -> Result<Vec<Event>, JournalFault>
     requires { length text.now ≤ 16777216 }
-    ensures ok { IfOk result (λ events. TellsBehind (head_of plans.now) (whole_lines text.now) events.items) }
+    ensures ok { IfOk result
+        (λ events. TellsBehind (head_of plans.now) (whole_lines text.now) events.items) }
     ensures few { IfOk result (λ events. length events.items ≤ length text.now) }
-    ensures err { IfErr result (λ fault. IsOtherAt (head_of plans.now) (whole_lines text.now) fault) }
+    ensures err { IfErr result
+        (λ fault. IsOtherAt (head_of plans.now) (whole_lines text.now) fault) }
 {
     let (head, rest) = behind_head(alloc, plans, text)?;
     match read_journal(alloc, rest) {

@@ -3,7 +3,8 @@ use Rattle.std.proofs.lemmas.List.Elements.{All-get_or}
 use Rattle.std.proofs.lemmas.Option.{slice_get_read}
 use Rattle.gpu_plan.specs.Plans.{IsWithin}
 use Rattle.client_reach.specs.Held.{Held}
-use Rattle.client_reach.proofs.Holding.{held_more, length-stored}
+use Rattle.client_reach.proofs.Holding.{held_more}
+use Rattle.client_reach.proofs.Reaching.{length-stored}
 use Rattle.client_reach.proofs.held.Held.advance.Goals as goal
 
 pub loop-self-preserved : goal.loop-self-preserved

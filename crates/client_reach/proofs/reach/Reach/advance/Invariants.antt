@@ -6,7 +6,7 @@ use Rattle.client_reach.proofs.reach.Reach.advance.Given as goal
 abbrev pub invariant-loop-self : goal.invariant-loop-self
 invariant-loop-self l = record {
   below : l.self.upto ≤ bound l.actions l.finished (l.token ∷ []);
-  reached : IsReached l.actions l.self;
+  reached : IsReached l.actions l.done l.self;
 }
 
 abbrev pub decreases-loop-self : goal.decreases-loop-self
