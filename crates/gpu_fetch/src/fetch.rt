@@ -13,6 +13,9 @@ use gpu_cmd::{CmdError, Command, StreamFacts, decode, head};
 use gpu_word::{Memory, copy_values};
 use std::alloc::Global;
 
+/// For how many words room is made at first: most commands have no more ring entries.
+const USUAL_ENTRIES: usize = 16;
+
 // Fetches the words of so many places that follow one another, in rising order, and appends them to a list.
 fn fetch_row<P: ServiceSide>(
     side: &mut P,
@@ -25,18 +28,21 @@ fn fetch_row<P: ServiceSide>(
     requires within { from + count ≤ places_of (P.side side.old).plan.areas }
     requires few { from + count < 2 ^ 32 }
 
-    ensures row { OnOk result (FetchesRow (P.side side.old) (P.side side.new) from count list.old.items list.new.items) }
+    ensures row { OnOk result
+        (FetchesRow (P.side side.old) (P.side side.new) from count list.old.items list.new.items) }
     ensures shows { OnOk result (All (P.shows words.now) (added list.old.items list.new.items)) }
     ensures whole { IfErr result (λ _. P.wants ⊎ (P.side side.new ≡ P.side side.old)) }
-    ensures part { IfErr result (λ _. FetchesRowInPart (P.side side.old) (P.side side.new) from count) }
+    ensures part { IfErr result
+        (λ _. FetchesRowInPart (P.side side.old) (P.side side.new) from count) }
     ensures belongs { P.belongs side.new words.now }
-    ensures notes { (n : P.Note) → P.note_belongs side.old words.now n → P.note_belongs side.new words.now n }
+    ensures notes { (n : P.Note) → P.note_belongs side.old words.now n
+        → P.note_belongs side.new words.now n }
     ensures table { P.table side.new ≡ P.table side.old }
 {
     list.reserve(count as usize)?;
     for place in from..from + count {
         let value = side.fetch(words, place)?;
-        list.push((place, value))?;
+        list.push_reserved((place, value));
     }
     Ok(())
 }
@@ -62,21 +68,26 @@ pub fn fetch_onto<P: ServiceSide>(
     requires more { facts.now.get ≢ facts.now.put }
     requires areas { facts.now.areas ≡ (P.side side.old).plan.areas }
 
-    ensures adds { IfOk result (λ _. list.new.items ≡ list.old.items ++ added list.old.items list.new.items) }
-    ensures fetches { IfOk result (λ _. Fetches (P.side side.old) (P.side side.new) (added list.old.items list.new.items)) }
-    ensures shows { IfOk result (λ _. All (P.shows words.now) (added list.old.items list.new.items)) }
+    ensures adds { IfOk result
+        (λ _. list.new.items ≡ list.old.items ++ added list.old.items list.new.items) }
+    ensures fetches { IfOk result
+        (λ _. Fetches (P.side side.old) (P.side side.new) (added list.old.items list.new.items)) }
+    ensures shows { IfOk result
+        (λ _. All (P.shows words.now) (added list.old.items list.new.items)) }
     ensures copy { IfOk result (IsCopy (added list.old.items list.new.items) facts.now) }
     ensures some { IfErr result (λ _. FetchesSome (P.side side.old) (P.side side.new) facts.now) }
-    ensures rows { IfErr result (λ _. P.wants ⊎ FetchesRows (P.side side.old) (P.side side.new) facts.now) }
+    ensures rows { IfErr result
+        (λ _. P.wants ⊎ FetchesRows (P.side side.old) (P.side side.new) facts.now) }
     ensures belongs { P.belongs side.new words.now }
-    ensures notes { (n : P.Note) → P.note_belongs side.old words.now n → P.note_belongs side.new words.now n }
+    ensures notes { (n : P.Note) → P.note_belongs side.old words.now n
+        → P.note_belongs side.new words.now n }
     ensures table { P.table side.new ≡ P.table side.old }
 {
     if facts.put >= facts.areas.ring {
         return Ok(Err(CmdError::OutOfBounds));
     }
     let from = list.len();
-    list.reserve(1)?;
+    list.reserve(USUAL_ENTRIES)?;
     let entry = side.fetch(words, facts.get)?;
     list.push((facts.get, entry))?;
     let shape = match head(entry, facts) {
@@ -111,16 +122,20 @@ pub fn fetch_command<P: ServiceSide>(
     requires more { facts.now.get ≢ facts.now.put }
     requires areas { facts.now.areas ≡ (P.side side.old).plan.areas }
 
-    ensures fetches { IfOk result (λ found. Fetches (P.side side.old) (P.side side.new) found.words) }
+    ensures fetches { IfOk result
+        (λ found. Fetches (P.side side.old) (P.side side.new) found.words) }
     ensures shows { IfOk result (λ found. All (P.shows words.now) found.words) }
-    ensures places { IfOk result (λ found. places_listed found.words ≡ fetched_places found.words facts.now) }
+    ensures places { IfOk result
+        (λ found. places_listed found.words ≡ fetched_places found.words facts.now) }
     ensures once { IfOk result (λ found. IsStrictlyIncreasing (places_listed found.words)) }
     ensures verdict { IfOk result (λ found. copied found.words facts.now ≡ found.verdict) }
     ensures facts { IfOk result (λ found. found.facts ≡ facts.now) }
     ensures some { IfErr result (λ _. FetchesSome (P.side side.old) (P.side side.new) facts.now) }
-    ensures rows { IfErr result (λ _. P.wants ⊎ FetchesRows (P.side side.old) (P.side side.new) facts.now) }
+    ensures rows { IfErr result
+        (λ _. P.wants ⊎ FetchesRows (P.side side.old) (P.side side.new) facts.now) }
     ensures belongs { P.belongs side.new words.now }
-    ensures notes { (n : P.Note) → P.note_belongs side.old words.now n → P.note_belongs side.new words.now n }
+    ensures notes { (n : P.Note) → P.note_belongs side.old words.now n
+        → P.note_belongs side.new words.now n }
     ensures table { P.table side.new ≡ P.table side.old }
 {
     let mut list = Vec::new(alloc);

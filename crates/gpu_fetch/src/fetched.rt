@@ -23,7 +23,8 @@ impl Model for Fetched {
 
     ghost view = { λ f. record { words = f.words; verdict = f.verdict; facts = f.facts } };
 
-    ghost invariant = { λ f. IsFetched (record { words = f.words; verdict = f.verdict; facts = f.facts }) };
+    ghost invariant = { λ f. IsFetched
+        (record { words = f.words; verdict = f.verdict; facts = f.facts }) };
 }
 
 impl Fetched {

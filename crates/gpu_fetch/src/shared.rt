@@ -48,12 +48,14 @@ impl ServiceSide for ServicePass {
         requires belongs { IsOf self.old words.now }
         requires place { place < places_of self.old.plan.areas }
 
-        ensures grows { MatchResult result (λ value. side_of self.new ≡ with_words (side_of self.old) ((place, value) ∷ []))
+        ensures grows { MatchResult result
+            (λ value. side_of self.new ≡ with_words (side_of self.old) ((place, value) ∷ []))
             (λ _. side_of self.new ≡ side_of self.old) }
         ensures may { IfOk result (λ value. MayFetch (side_of self.old) (place, value)) }
         ensures memory { IfErr result (λ _. ⊥) }
         ensures belongs { IsOf self.new words.now }
-        ensures notes { (n : NoteData) → IsNoteOf self.old words.now n → IsNoteOf self.new words.now n }
+        ensures notes { (n : NoteData) → IsNoteOf self.old words.now n
+            → IsNoteOf self.new words.now n }
         ensures table { self.new.table ≡ self.old.table }
         ensures never { IsOk result }
     {

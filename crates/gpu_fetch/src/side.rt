@@ -79,13 +79,15 @@ pub trait ServiceSide: Drop {
         requires belongs { belongs self.old words.now }
         requires place { place < places_of (side self.old).plan.areas }
 
-        ensures grows { MatchResult result (λ value. side self.new ≡ with_words (side self.old) ((place, value) ∷ []))
+        ensures grows { MatchResult result
+            (λ value. side self.new ≡ with_words (side self.old) ((place, value) ∷ []))
             (λ _. side self.new ≡ side self.old) }
         ensures may { IfOk result (λ value. MayFetch (side self.old) (place, value)) }
         ensures shows { IfOk result (λ value. shows words.now (place, value)) }
         ensures memory { IfErr result (λ _. wants) }
         ensures belongs { belongs self.new words.now }
-        ensures notes { (n : Self.Note) → note_belongs self.old words.now n → note_belongs self.new words.now n }
+        ensures notes { (n : Self.Note) → note_belongs self.old words.now n
+            → note_belongs self.new words.now n }
         ensures table { table self.new ≡ table self.old };
 
     /// Meets the flush of a note. The place of a flush that is met lies below the client's bound.
@@ -96,7 +98,8 @@ pub trait ServiceSide: Drop {
         ensures met { side self.new ≡ with_met (side self.old) (mark note) }
         ensures bounded { (side self.new).met ≤ reach (side self.new) }
         ensures belongs { belongs self.new words.now }
-        ensures notes { (n : Self.Note) → note_belongs self.old words.now n → note_belongs self.new words.now n }
+        ensures notes { (n : Self.Note) → note_belongs self.old words.now n
+            → note_belongs self.new words.now n }
         ensures table { table self.new ≡ table self.old };
 
     /// Publishes the greater of a token and the greatest published before.
@@ -105,18 +108,21 @@ pub trait ServiceSide: Drop {
 
         ensures told { side self.new ≡ with_token (side self.old) token }
         ensures belongs { belongs self.new words.now }
-        ensures notes { (n : Self.Note) → note_belongs self.old words.now n → note_belongs self.new words.now n }
+        ensures notes { (n : Self.Note) → note_belongs self.old words.now n
+            → note_belongs self.new words.now n }
         ensures table { table self.new ≡ table self.old };
 
     /// Publishes one more flush as finished. The finish was counted in the results before.
     fn publish_finish(&mut self, words: &Self::Words, results: &Self::Results)
         requires belongs { belongs self.old words.now }
-        requires counted { IfSome (written results.now) (λ list. finishes_in list ≡ (side self.old).finished + 1) }
+        requires counted { IfSome (written results.now)
+            (λ list. finishes_in list ≡ (side self.old).finished + 1) }
         requires room { (side self.old).finished + 1 < 2 ^ 64 }
 
         ensures finished { side self.new ≡ with_finish (side self.old) }
         ensures belongs { belongs self.new words.now }
-        ensures notes { (n : Self.Note) → note_belongs self.old words.now n → note_belongs self.new words.now n }
+        ensures notes { (n : Self.Note) → note_belongs self.old words.now n
+            → note_belongs self.new words.now n }
         ensures table { table self.new ≡ table self.old };
 
     /// Writes values to result places, in order. Each place is one that the results take.
@@ -124,7 +130,8 @@ pub trait ServiceSide: Drop {
         requires belongs { results_belong words.now results.old }
         requires takes { All (λ write. IsTrue (takes results.old write.0)) writes.now }
 
-        ensures written { written results.new ≡ told_more (written results.old) (writes_of writes.now) }
+        ensures written { written results.new
+            ≡ told_more (written results.old) (writes_of writes.now) }
         ensures takes { (place : ℕ) → takes results.new place ≡ takes results.old place }
         ensures named { (t : TableId) → results_of results.old t → results_of results.new t }
         ensures belongs { results_belong words.now results.new };
@@ -151,5 +158,6 @@ pub trait ServiceSide: Drop {
         ensures belongs { results_belong words.now results.new };
 
     // What holds of a note's stream holds of it without the note.
-    ghost without_note: { (s : Self) (w : Self.Words) (n : Self.Note) → note_belongs s w n → belongs s w };
+    ghost without_note: { (s : Self) (w : Self.Words) (n : Self.Note) → note_belongs s w n
+        → belongs s w };
 }

@@ -34,7 +34,8 @@ impl Model for StirredPass {
 
     ghost view = { λ s. record { side = s.pass; words = s.words; turns = s.turns.items } };
 
-    ghost invariant = { λ s. (s.plan ≡ s.words.plan) × (s.left ≡ puts_ahead (drop s.words.done s.words.plan.actions))
+    ghost invariant = { λ s. (s.plan ≡ s.words.plan)
+        × (s.left ≡ puts_ahead (drop s.words.done s.words.plan.actions))
         × (s.next ≡ min (length s.pass.fetched) (length s.turns.items)) };
 }
 
@@ -75,8 +76,10 @@ pub(crate) fn put_many(words: &mut PlainWords, plan: &Plan, count: usize)
 
     ensures done { words.new ≡ puts_further words.old count }
     ensures beside { (side : SideData) → IsBeside side words.old → IsBeside side words.new }
-    ensures notes { (side : SideData) (mark : ℕ) → IsNoteBeside side words.old mark → IsNoteBeside side words.new mark }
-    ensures left { puts_ahead (drop words.new.done plan.now.actions) + count ≡ puts_ahead (drop words.old.done plan.now.actions) }
+    ensures notes { (side : SideData) (mark : ℕ) → IsNoteBeside side words.old mark
+        → IsNoteBeside side words.new mark }
+    ensures left { puts_ahead (drop words.new.done plan.now.actions) + count
+        ≡ puts_ahead (drop words.old.done plan.now.actions) }
 {
     for _put in 0..count {
         words.put(plan);
@@ -105,7 +108,9 @@ impl StirredPass {
 
         ensures side { IfOk result (λ made. made.0.side ≡ fresh_side plan.now) }
         ensures turns { IfOk result (λ made. made.0.turns ≡ turns.items) }
-        ensures words { IfOk result (λ made. made.0.words ≡ record { plan = plan.now; done = puts_ahead plan.now.actions + 1 }) }
+        ensures words { IfOk result
+            (λ made. made.0.words
+            ≡ record { plan = plan.now; done = puts_ahead plan.now.actions + 1 }) }
         ensures note { IfOk result (λ made. made.1 ≡ puts_ahead plan.now.actions + 1) }
         ensures belongs { IfOk result (λ made. IsNoteBeside made.0.side made.0.words made.1) }
     {
@@ -165,15 +170,18 @@ impl ServiceSide for StirredPass {
         requires belongs { IsBeside self.old.side self.old.words }
         requires place { place < places_of self.old.side.plan.areas }
 
-        ensures grows { MatchResult result (λ value. self.new.side ≡ with_words self.old.side ((place, value) ∷ []))
+        ensures grows { MatchResult result
+            (λ value. self.new.side ≡ with_words self.old.side ((place, value) ∷ []))
             (λ _. self.new.side ≡ self.old.side) }
         ensures may { IfOk result (λ value. MayFetch self.old.side (place, value)) }
         ensures shows { IfOk result (λ _. Unit {0}) }
         ensures memory { IfErr result (λ _. ⊥) }
         ensures belongs { IsBeside self.new.side self.new.words }
-        ensures notes { (n : ℕ) → IsNoteBeside self.old.side self.old.words n → IsNoteBeside self.new.side self.new.words n }
+        ensures notes { (n : ℕ) → IsNoteBeside self.old.side self.old.words n
+            → IsNoteBeside self.new.side self.new.words n }
         ensures stirs { self.new.words ≡ stirred_words self.old }
-        ensures value { result ≡ Ok (value_at self.new.words.plan.actions self.new.words.done place) }
+        ensures value { result ≡ Ok
+            (value_at self.new.words.plan.actions self.new.words.done place) }
         ensures turns { self.new.turns ≡ self.old.turns }
     {
         let () = *words;

@@ -24,6 +24,27 @@ unfolding numeral
 numeral_decimal n small =
     decimal_from_appends digits_within (record { one = last_one; more = last_more }) (suc n) n small (omega (arith, length-decimal-le_succ n small))
 
+-- a number of one, two or three digits, digit by digit
+pub numeral_of_one : (n : ℕ) → n < 10 → numeral n ≡ (48 + n) ∷ []
+unfolding numeral
+numeral_of_one n small = last_one n n small
+
+pub numeral_of_two : (n : ℕ) → 10 ≤ n → n < 100 → numeral n ≡ (48 + n / 10) ∷ (48 + n % 10) ∷ []
+unfolding numeral
+numeral_of_two zero more less = absurd (omega (arith, more))
+numeral_of_two (suc m) more less =
+    let n = suc m in
+    last_more n n more ∙ ap (λ (ds : List ℕ). ds ++ (48 + n % 10) ∷ []) (last_one m (n / 10) (omega (arith, less)))
+
+pub numeral_of_three : (n : ℕ) → 100 ≤ n → n < 1000 → numeral n ≡ (48 + n / 10 / 10) ∷ (48 + n / 10 % 10) ∷ (48 + n % 10) ∷ []
+unfolding numeral
+numeral_of_three zero more less = absurd (omega (arith, more))
+numeral_of_three (suc zero) more less = absurd (omega (arith, more))
+numeral_of_three (suc (suc m)) more less =
+    let n = suc (suc m) in
+    last_more n n (omega (arith, more))
+    ∙ ap (λ (ds : List ℕ). ds ++ (48 + n % 10) ∷ []) (last_more (suc m) (n / 10) (omega (arith, more)) ∙ ap (λ (ds : List ℕ). ds ++ (48 + n / 10 % 10) ∷ []) (last_one m (n / 10 / 10) (omega (arith, less))))
+
 code_value : (d : ℕ) → d < 10 → digit_value (48 + d) ≡ d
 code_value d small =
     let code : digit_char d ≡ 48 + d = rw (lt-ltb d 10 small) refl in

@@ -11,9 +11,17 @@ pub(crate) const NUMBER: usize = 21;
 /// The bytes of a number of 32 bits in hexadecimal digits.
 pub(crate) const HEX: usize = 8;
 
-/// Appends a number in decimal digits.
+/// The character of a decimal digit.
+pub(crate) fn digit(value: u64) -> u8
+    requires { value < 10 }
+    ensures { result ≡ 48 + value }
+{
+    b'0' + value as u8
+}
+
+// Appends a number of four digits or more in decimal digits.
 #[tactic(auto, using(crate::proofs::Numerals::numeral_decimal))]
-pub(crate) fn put_decimal(out: &mut Vec<u8>, number: u64)
+fn put_long(out: &mut Vec<u8>, number: u64)
     requires { vec_len out.old + length (numeral number) ≤ vec_capacity out.old }
     ensures items { out.new.items ≡ out.old.items ++ numeral number }
     ensures len { vec_len out.new ≡ vec_len out.old + length (numeral number) }
@@ -21,6 +29,28 @@ pub(crate) fn put_decimal(out: &mut Vec<u8>, number: u64)
 {
     let mut buffer = Buffer::new();
     put(out, buffer.format(number).as_bytes());
+}
+
+/// Appends a number in decimal digits.
+///
+/// Most numbers are short, as the places of words are. Their digits go to their place without a buffer.
+#[tactic(auto, using(crate::proofs::Numerals::numeral_of_one, crate::proofs::Numerals::numeral_of_two, crate::proofs::Numerals::numeral_of_three))]
+pub(crate) fn put_decimal(out: &mut Vec<u8>, number: u64)
+    requires { vec_len out.old + length (numeral number) ≤ vec_capacity out.old }
+    ensures items { out.new.items ≡ out.old.items ++ numeral number }
+    ensures len { vec_len out.new ≡ vec_len out.old + length (numeral number) }
+    ensures room { vec_capacity out.old ≤ vec_capacity out.new }
+{
+    if number < 10 {
+        put(out, &[digit(number)]);
+    } else if number < 100 {
+        put(out, &[digit(number / 10), digit(number % 10)]);
+    } else if number < 1000 {
+        let (front, last) = (number / 10, digit(number % 10));
+        put(out, &[digit(front / 10), digit(front % 10), last]);
+    } else {
+        put_long(out, number);
+    }
 }
 
 /// Appends a space and a number.
@@ -48,14 +78,22 @@ fn pair(byte: u32) -> (u8, u8)
     (PAIRS[from], PAIRS[from + 1])
 }
 
-/// A space and a number as eight hexadecimal digits, which come two at a time.
-pub fn spaced_hex(number: u32) -> [u8; 9]
-    ensures { result ≡ 32 ∷ hex8 number }
+/// A number as eight hexadecimal digits, which come two at a time.
+pub(crate) fn hex(number: u32) -> [u8; HEX]
+    ensures { result ≡ hex8 number }
 {
     let (a, b) = pair(number / 0x100_0000);
     let (c, d) = pair(number / 0x1_0000 % 0x100);
     let (e, f) = pair(number / 0x100 % 0x100);
     let (g, h) = pair(number % 0x100);
+    [a, b, c, d, e, f, g, h]
+}
+
+/// A space and a number as eight hexadecimal digits.
+pub fn spaced_hex(number: u32) -> [u8; 9]
+    ensures { result ≡ 32 ∷ hex8 number }
+{
+    let [a, b, c, d, e, f, g, h] = hex(number);
     [b' ', a, b, c, d, e, f, g, h]
 }
 
@@ -66,5 +104,5 @@ pub(crate) fn put_hex(out: &mut Vec<u8>, number: u32)
     ensures len { vec_len out.new ≡ vec_len out.old + HEX }
     ensures room { vec_capacity out.old ≤ vec_capacity out.new }
 {
-    put(out, &spaced_hex(number)[1..]);
+    put(out, &hex(number));
 }

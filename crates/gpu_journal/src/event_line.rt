@@ -3,7 +3,7 @@ ghost use Rattle.std.specs.List.{flat_map};
 ghost use Rattle.gpu_journal.specs.Digits.{numeral};
 ghost use Rattle.gpu_journal.specs.Text.{word_text, why_text, words_of, event_text};
 
-use crate::digits::{NUMBER, put_decimal, put_hex, put_number};
+use crate::digits::{NUMBER, digit, hex, put_decimal, put_hex, put_number};
 use crate::event::{Event, Why};
 use crate::put::put;
 
@@ -13,8 +13,8 @@ pub(crate) const EVENT: usize = 80;
 /// The most bytes of a word's place and value, with a space and a colon.
 const WORD: usize = 20;
 
-// Appends a word that was fetched.
-fn put_word(out: &mut Vec<u8>, place: u32, value: u32)
+// Appends a word at a place of three digits or more.
+fn put_far_word(out: &mut Vec<u8>, place: u32, value: u32)
     requires { vec_len out.old + length (word_text (place, value)) ≤ vec_capacity out.old }
     ensures items { out.new.items ≡ out.old.items ++ word_text (place, value) }
     ensures len { vec_len out.new ≡ vec_len out.old + length (word_text (place, value)) }
@@ -24,6 +24,28 @@ fn put_word(out: &mut Vec<u8>, place: u32, value: u32)
     put_decimal(out, u64::from(place));
     out.push_reserved(b':');
     put_hex(out, value);
+}
+
+// Appends a word that was fetched. Most stand in a ring or a memory of few words, and are put down in one piece.
+#[tactic(auto, using(crate::proofs::Numerals::numeral_of_one, crate::proofs::Numerals::numeral_of_two))]
+fn put_word(out: &mut Vec<u8>, place: u32, value: u32)
+    requires { vec_len out.old + length (word_text (place, value)) ≤ vec_capacity out.old }
+    ensures items { out.new.items ≡ out.old.items ++ word_text (place, value) }
+    ensures len { vec_len out.new ≡ vec_len out.old + length (word_text (place, value)) }
+    ensures room { vec_capacity out.old ≤ vec_capacity out.new }
+{
+    if place >= 100 {
+        put_far_word(out, place, value);
+        return;
+    }
+    let near = u64::from(place);
+    let [a, b, c, d, e, f, g, h] = hex(value);
+    if near < 10 {
+        put(out, &[b' ', digit(near), b':', a, b, c, d, e, f, g, h]);
+        return;
+    }
+    let (ten, one) = (digit(near / 10), digit(near % 10));
+    put(out, &[b' ', ten, one, b':', a, b, c, d, e, f, g, h]);
 }
 
 // Appends words that were fetched.
@@ -54,7 +76,8 @@ pub(crate) fn put_why(out: &mut Vec<u8>, why: Why)
 /// Appends the line of an event.
 #[tactic(auto, unfolding(crate::specs::Text::event_text))]
 pub(crate) fn put_event(out: &mut Vec<u8>, event: &Event)
-    requires { vec_len out.old + EVENT + length (flat_map word_text (words_of event.now)) ≤ vec_capacity out.old }
+    requires { vec_len out.old + EVENT + length (flat_map word_text (words_of event.now))
+        ≤ vec_capacity out.old }
     ensures items { out.new.items ≡ out.old.items ++ event_text event.now }
     ensures room { vec_capacity out.old ≤ vec_capacity out.new }
 {
@@ -115,7 +138,8 @@ fn room_with(words: &[(u32, u32)]) -> Option<usize>
 
 /// How many bytes hold the line of an event, where that many can be counted.
 pub(crate) fn room_of(event: &Event) -> Option<usize>
-    ensures { IfSome result (λ room. EVENT + length (flat_map word_text (words_of event.now)) ≤ room) }
+    ensures { IfSome result (λ room. EVENT + length
+        (flat_map word_text (words_of event.now)) ≤ room) }
 {
     match event {
         Event::Step { words, .. } | Event::Lost { words, .. } => room_with(words.as_slice()),

@@ -17,7 +17,11 @@ impl Model for Journal {
 
     ghost Value = { Past };
 
-    ghost view = { λ journal. record { events = reverse journal.events.items; spare = vec_capacity journal.events - vec_len journal.events } };
+    ghost view = { λ journal.
+        record {
+          events = reverse journal.events.items;
+          spare = vec_capacity journal.events - vec_len journal.events;
+        } };
 }
 
 impl Journal {

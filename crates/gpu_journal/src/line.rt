@@ -81,7 +81,8 @@ impl Line {
     /// The own line of an image: its number, its width and its height.
     pub fn image(&mut self, images: &Images, image: u32)
         requires { IsSome (picture_of images.now image) }
-        ensures { IfSome (picture_of images.now image) (λ picture. self.new ≡ head_text image picture.width picture.height) }
+        ensures { IfSome (picture_of images.now image)
+            (λ picture. self.new ≡ head_text image picture.width picture.height) }
     {
         let (width, height) = images.size(image).unwrap();
         self.bytes.clear();
@@ -91,7 +92,8 @@ impl Line {
     /// The line of a row of an image: its texels from left to right.
     pub fn row(&mut self, images: &Images, image: u32, y: u32)
         requires { IsSomeAnd (picture_of images.now image) (λ picture. y < picture.height) }
-        ensures { IfSome (picture_of images.now image) (λ picture. self.new ≡ row_text (row_of picture y)) }
+        ensures { IfSome (picture_of images.now image)
+            (λ picture. self.new ≡ row_text (row_of picture y)) }
     {
         self.bytes.clear();
         put_row(&mut self.bytes, images.row(image, y));

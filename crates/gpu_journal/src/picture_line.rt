@@ -29,7 +29,8 @@ pub(crate) fn put_head(out: &mut Vec<u8>, image: u32, width: u32, height: u32)
 // Appends a space and a texel for each of the texels.
 fn put_texels(out: &mut Vec<u8>, texels: &[u32])
     requires { vec_len out.old + TEXEL * length texels.now ≤ vec_capacity out.old }
-    ensures items { out.new.items ≡ out.old.items ++ flat_map (λ texel. 32 ∷ hex8 texel) texels.now }
+    ensures items { out.new.items
+        ≡ out.old.items ++ flat_map (λ texel. 32 ∷ hex8 texel) texels.now }
     ensures len { vec_len out.new ≡ vec_len out.old + TEXEL * length texels.now }
     ensures room { vec_capacity out.old ≤ vec_capacity out.new }
 {

@@ -43,8 +43,11 @@ fn execute(
     requires lawful { IsLawfulAreas areas.now }
     requires taken { IsTaken areas.now words.now state.old }
     requires within { IsWithin state.old }
-    ensures images { OnOk result (images.new ≡ (drawn_by (effect areas.now words.now state.old) images.old).images) }
-    ensures state { OnOk result (state.new ≡ noted (drawn_by (effect areas.now words.now state.old) images.old).answer (stepped areas.now words.now state.old)) }
+    ensures images { OnOk result
+        (images.new ≡ (drawn_by (effect areas.now words.now state.old) images.old).images) }
+    ensures state { OnOk result
+        (state.new ≡ noted (drawn_by (effect areas.now words.now state.old) images.old).answer
+        (stepped areas.now words.now state.old)) }
 {
     let (command, size) = command_taken(words, values)?;
     let answer = match state.step(&command, size, words, areas)? {

@@ -33,7 +33,8 @@ pub fn journal_text(alloc: Global, events: &[Event]) -> Result<Vec<u8>, Memory>
 // Appends the lines of an image.
 fn push_image(out: &mut Vec<u8>, images: &Images, image: u32) -> Result<(), Memory>
     requires { IsSome (picture_of images.now image) }
-    ensures { IfOk result (λ _. IfSome (picture_of images.now image) (λ picture. out.new.items ≡ out.old.items ++ image_text (image, picture))) }
+    ensures { IfOk result (λ _. IfSome (picture_of images.now image)
+        (λ picture. out.new.items ≡ out.old.items ++ image_text (image, picture))) }
 {
     let (width, height) = images.size(image).unwrap();
     out.reserve(HEAD)?;

@@ -17,3 +17,4 @@ pub mod Stepping
 pub mod RunTurns
 pub mod Taking
 pub mod Starting
+pub mod Putting

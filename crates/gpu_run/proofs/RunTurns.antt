@@ -1,5 +1,5 @@
 -- One turn of a run, in the terms of the code.
-use Rattle.std.proofs.Common.{◌≡◌, ◌≢◌, ℕ, ◌-◌, true, false, None, Some, List, ◌∷◌, ◌++◌, length, get_or, refl, sym, ap, subst, ◌∙◌, arith}
+use Rattle.std.proofs.Common.{◌≡◌, ◌≢◌, ℕ, ◌-◌, ◌<◌, Bool, true, false, None, Some, List, ◌∷◌, ◌++◌, length, get_or, refl, sym, ap, subst, ◌∙◌, arith}
 use Rattle.std.proofs.lemmas.List.Elements.{All-weaker}
 use Rattle.std.specs.List.{All}
 use Rattle.gpu_cmd.specs.declared.facts.StreamFacts.{StreamFacts}
@@ -14,27 +14,30 @@ use Rattle.sync_core.specs.Standing.{IsKnown, is_open}
 use Rattle.gpu_journal.specs.declared.event.Event.{Event}
 use Rattle.gpu_journal.specs.declared.event.Event.TheVariants.{Finish}
 use Rattle.gpu_journal.specs.Waits.{standing_of}
-use Rattle.gpu_journal.specs.Serial.{count, stays, is_runnable, run_event, IsPlayed, runner}
+use Rattle.gpu_journal.specs.Serial.{count, stays, is_runnable, begins_round, run_event, IsPlayed, runner, choice}
 use Rattle.serial_laws.specs.Scripts.{AreLawfulPlans}
 use Rattle.serial_laws.proofs.Obeying.{can_run, played_is_legal}
 use Rattle.run_laws.proofs.Fronts.{left_open}
 use Rattle.house_core.specs.Core.{with_out}
-use Rattle.house_core.specs.Desks.{at_home}
+use Rattle.house_core.specs.Desks.{RunData, at_home}
 use Rattle.gpu_house.specs.Slots.{slot_at}
 use Rattle.gpu_house.specs.House.{OutData}
-use Rattle.gpu_house.specs.Changes.{CameDone}
+use Rattle.gpu_house.specs.Changes.{CameDone, StillBelongs}
 use Rattle.gpu_house.specs.Steps.{Steps}
 use Rattle.gpu_house.specs.declared.answers.Next.{Next}
 use Rattle.gpu_house.specs.declared.answers.Next.TheVariants.{More, Paused, FlushEnd, Invalid, Lost, Closed}
 use Rattle.gpu_run.specs.Clients.{ClientData, client_at, done_at}
+use Rattle.gpu_run.specs.Reading.{HaveRead}
 use Rattle.gpu_run.specs.Rounds.{IsRunning, goes_on}
 use Rattle.gpu_run.specs.Served.{PlainHouse, IsClientOf, IsServed, IsOut}
+use Rattle.gpu_run.specs.Turning.{HasStepped}
 use Rattle.gpu_run.proofs.Rows.{client_there}
 use Rattle.gpu_run.proofs.Serving.{client_on, has_event}
+use Rattle.gpu_run.proofs.AllFound.{found_after}
 use Rattle.gpu_run.proofs.Turns.{Ran, run_turn, run_ordered}
 use Rattle.gpu_run.proofs.RunEvents.{event_finish}
 use Rattle.gpu_run.proofs.Homing.{home_served}
-use Rattle.gpu_run.proofs.Stepping.{HasFetched, has_fetched, goes_further}
+use Rattle.gpu_run.proofs.Stepping.{HasFetched, has_fetched, goes_further, has_stepped}
 use Rattle.std.proofs.lemmas.Bool.{ne_eqb}
 
 -- a stream that can run is open
@@ -103,6 +106,19 @@ stays_met side mark p house new run now words (Invalid error) met is = is.met �
 stays_met side mark p house new run now words Lost met is = ap (λ (r : OutData SideData ℕ). r.note) is.run
 stays_met side mark p house new run now words Closed met is = ap (λ (r : OutData SideData ℕ). r.note) is.run
 
+-- ---- the step on what was fetched
+
+pub stepped_with : (p : PlansData) (house new : PlainHouse) (clients : List ClientData) (out run now : OutData SideData ℕ) (words : List (ℕ × ℕ)) (w : PlainData) (next : Next) (more : Bool) → AreLawfulPlans p → IsPlayed p house.core.past → is_runnable p house.core.past out.run.stream ≡ true
+    → HasFetched p house clients run words → run.run ≡ out.run → run.note ≡ None → w ≡ (client_at clients out.run.stream).words → (side : SideData → SideData) (mark : ℕ → ℕ) → Steps side mark p house new run now words next → new.slots ≡ house.slots
+    → StillBelongs IsBeside IsNoteBeside w run.side now.side → now.side.fetched ≡ run.side.fetched → more ≡ goes_further next → HasStepped p house new clients out.run.stream now more
+stepped_with p house new clients out run now words w next more lawful played runs has same met is side mark steps slots still list answer =
+    let stream : run.run.stream ≡ out.run.stream = ap (λ (r : RunData). r.stream) same in
+    let here : w ≡ (client_at clients run.run.stream).words = is ∙ ap (λ (u : ℕ). (client_at clients u).words) (sym stream) in
+    let stepped = has_stepped p house new clients run now words has (played_is_legal p house.core.past lawful played) (subst (λ (u : ℕ). is_runnable p house.core.past u ≡ true) (sym stream) runs)
+    slots (stays_met side mark p house new run now words next met steps) (subst (IsBeside now.side) here still.beside) (λ n b. subst (λ (v : PlainData). IsNoteBeside now.side v n) here (still.notes n (subst (λ (v : PlainData). IsNoteBeside run.side v n) (sym here) b))) list
+    side mark next steps in
+    subst (λ (u : ℕ). HasStepped p house new clients u now more) stream (subst (HasStepped p house new clients run.run.stream now) (sym answer) stepped)
+
 -- what is neither of the answers to go on is one to stop
 pub stops : (next : Next) → (next ≡ More → ⊥) → (next ≡ FlushEnd → ⊥) → goes_further next ≡ false
 stops More not_more not_end = absurd (not_more refl)
@@ -120,3 +136,27 @@ there_of p h done s lawful played running is_known runs = running.there s is_kno
 
 pub ran : (p : PlansData) (h g : List Event) (done : ℕ → ℕ) (s : ℕ) → g ≡ run_event p h s ∷ h → IsPlayed p h → IsRunning p h done → IsKnown (length p.plans) s → runner p h ≡ Some s → Ran p g done s
 ran p h g done s event played running is_known chosen = subst (λ (x : List Event). Ran p x done s) (sym event) (run_turn p h done s played running is_known.0 is_known.1 chosen)
+
+pub one_longer : (e : Event) (h g : List Event) → g ≡ e ∷ h → length h < length g
+one_longer e h g event = let l = ap length event in omega (arith, l)
+
+-- a run that does not go on: what its last event leaves
+pub record HasRunOut (p : PlansData) (h g : List Event) (clients : List ClientData) : Type 0 where
+  pub played : IsPlayed p g
+  pub read : HaveRead p g clients
+  pub chosen : runner p g ≡ choice p g
+  pub running : begins_round p g ≡ false → IsRunning p g (done_at clients)
+  pub longer : length h < length g
+
+pub run_out : (p : PlansData) (h g : List Event) (clients : List ClientData) (s : ℕ) → AreLawfulPlans p → IsPlayed p h → IsRunning p h (done_at clients) → IsKnown (length p.plans) s → runner p h ≡ Some s → is_runnable p h s ≡ true → HaveRead p h clients
+    → g ≡ run_event p h s ∷ h → false ≡ goes_on p g s → HasRunOut p h g clients
+run_out p h g clients s lawful played running is_known chosen runs read event stops =
+    let t = ran p h g (done_at clients) s event played running is_known chosen in
+    let stopped = t.stopped (sym stops) in
+    record {
+      played = t.played;
+      read = found_after p h g clients s event (there_of p h (done_at clients) s lawful played running is_known runs) read;
+      chosen = stopped.1;
+      running = stopped.0;
+      longer = one_longer (run_event p h s) h g event;
+    }

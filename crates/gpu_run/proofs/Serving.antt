@@ -1,5 +1,5 @@
 -- What keeps the clients and the sides of the house together.
-use Rattle.std.proofs.Common.{◌≡◌, ◌≢◌, ℕ, ◌+◌, ◌≤◌, ◌<◌, ◌⊎◌, inl, inr, eqb, false, Option, None, Some, List, [], ◌∷◌, ◌++◌, length, sym, ap, subst, ◌∙◌, arith}
+use Rattle.std.proofs.Common.{◌≡◌, ◌≢◌, ℕ, ◌+◌, ◌≤◌, ◌<◌, ◌⊎◌, inl, inr, eqb, false, Option, None, Some, List, [], ◌∷◌, ◌++◌, length, refl, sym, ap, subst, ◌∙◌, arith}
 use Rattle.std.proofs.lemmas.List.Elements.{All-weaker, All-push}
 use Rattle.std.specs.Prelude.{IfSome}
 use Rattle.std.specs.Option.{IsSomeAnd}
@@ -91,6 +91,11 @@ side_keeps f t old new first notes x keeps is_f is_t was =
 pub beside_keeps : (f t : ℕ) (old new : PlainData) (side : Option SideData) (first : Option ℕ) (notes : List ℕ) → Keeps f t old new → IfSome side (λ x. x.finished ≡ f) → IfSome side (λ x. x.greatest ≡ t) → IsSomeAnd side (AreBeside old first notes) → IsSomeAnd side (AreBeside new first notes)
 beside_keeps f t old new None first notes keeps is_f is_t was = absurd was
 beside_keeps f t old new (Some x) first notes keeps is_f is_t was = side_keeps f t old new first notes x keeps is_f is_t was
+
+-- and puts do so, whatever is finished
+pub beside_puts : (old new : PlainData) (side : Option SideData) (first : Option ℕ) (notes : List ℕ) → ((f t : ℕ) → Keeps f t old new) → IsSomeAnd side (AreBeside old first notes) → IsSomeAnd side (AreBeside new first notes)
+beside_puts old new None first notes keeps was = absurd was
+beside_puts old new (Some x) first notes keeps was = side_keeps x.finished x.greatest old new first notes x (keeps x.finished x.greatest) refl refl was
 
 -- and a note more
 pub beside_noted : (f t : ℕ) (old new : PlainData) (side : Option SideData) (first : Option ℕ) (notes : List ℕ) (note : ℕ) → Keeps f t old new → ((x : SideData) → IsBeside x old → IsNoteBeside x new note)

@@ -19,7 +19,7 @@ use Rattle.gpu_journal.specs.World.{world, asked_by, stream_in}
 use Rattle.gpu_journal.specs.Waits.{standing_of}
 use Rattle.gpu_journal.specs.Facts.{facts_at, verdict_at}
 use Rattle.gpu_journal.specs.Legal.{IsLegal}
-use Rattle.gpu_journal.specs.Serial.{count, stays, is_runnable, next_words, run_event}
+use Rattle.gpu_journal.specs.Serial.{count, stays, is_runnable, next_words}
 use Rattle.serial_laws.proofs.Obeying.{CanRun, can_run}
 use Rattle.run_laws.specs.Going.{MayGoOn, keeps}
 use Rattle.run_laws.proofs.Fronts.{left_open}
@@ -38,6 +38,7 @@ use Rattle.gpu_house.specs.declared.answers.Next.TheVariants as nexts
 use Rattle.gpu_run.specs.Clients.{ClientData, client_at, done_at}
 use Rattle.gpu_run.specs.Rounds.{goes_on}
 use Rattle.gpu_run.specs.Served.{PlainHouse, AreBeside, IsClientOf, AreAsMany, IsAtHomeWith, IsServed, IsOut}
+use Rattle.gpu_run.specs.Turning.{IsTakenBack, HasStepped}
 use Rattle.gpu_run.proofs.Rows.{home_apart}
 use Rattle.gpu_run.proofs.Serving.{if_some, client_on, has_event, stays_so, other_home}
 use Rattle.gpu_run.proofs.Turns.{IsRun, run_ordered}
@@ -95,15 +96,6 @@ goes_further (Invalid error) = false
 goes_further nexts.Lost = false
 goes_further Closed = false
 
--- what a step leaves: its event, whether the run goes on, and all that its coming home needs
-pub record HasStepped (p : PlansData) (house new : PlainHouse) (clients : List ClientData) (run now : OutData SideData ℕ) (more : Bool) : Type 0 where
-  pub event : new.core.past ≡ run_event p house.core.past run.run.stream ∷ house.core.past
-  pub goes : more ≡ goes_on p new.core.past run.run.stream
-  pub same : now.run.stream ≡ run.run.stream
-  pub on : more ≡ true → IsOut p new clients now
-  pub list : stays p new.core.past now.run.stream ≡ true → length now.side.fetched ≡ now.run.facts.fetched
-  pub home : (last : PlainHouse) → last.core.past ≡ new.core.past → last.core.outs ≡ with_out new.core.outs now.run.stream at_home → last.slots ≡ with_side new.slots now.run.stream now.side now.note → IsServed p last clients
-
 module _ (p : PlansData) (house new : PlainHouse) (clients : List ClientData) (run now : OutData SideData ℕ) (words : List (ℕ × ℕ)) (has : HasFetched p house clients run words) where
   abbrev s : ℕ
   s = run.run.stream
@@ -132,12 +124,12 @@ module _ (p : PlansData) (house new : PlainHouse) (clients : List ClientData) (r
           notes_beside = All-weaker (IsNoteBeside run.side w) (IsNoteBeside now.side w) notes (slot_at house.slots s).notes has.beside.notes_beside;
         })
 
-    home_now : (last : PlainHouse) → last.core.past ≡ new.core.past → last.core.outs ≡ with_out new.core.outs now.run.stream at_home → last.slots ≡ with_side new.slots now.run.stream now.side now.note → IsServed p last clients
-    home_now last past' outs' slots' =
-        home_served p new last clients s record (slot_at new.slots s) { side = Some now.side; begun = true; first = now.note } has.is_known many_now others_now (λ t off. stays_so past')
-        (outs' ∙ ap (λ (u : ℕ). with_out new.core.outs u at_home) same)
-        (slots' ∙ ap (λ (u : ℕ). with_side new.slots u now.side now.note) same)
-        (subst (λ (g : List Event). IsClientOf p g s (client_at clients s).words) (sym past') client_now)
+    home_now : (last : PlainHouse) → IsTakenBack new last now → IsServed p last clients
+    home_now last back =
+        home_served p new last clients s record (slot_at new.slots s) { side = Some now.side; begun = true; first = now.note } has.is_known many_now others_now (λ t off. stays_so back.past)
+        (back.outs ∙ ap (λ (u : ℕ). with_out new.core.outs u at_home) same)
+        (back.slots ∙ ap (λ (u : ℕ). with_side new.slots u now.side now.note) same)
+        (subst (λ (g : List Event). IsClientOf p g s (client_at clients s).words) (sym back.past) client_now)
         beside_now
 
     out_now : IsRunOf p new.core.past now.run → now.run.paused ≡ false → length now.side.fetched ≡ now.run.facts.fetched → IsOut p new clients now
@@ -167,7 +159,7 @@ module _ (p : PlansData) (house new : PlainHouse) (clients : List ClientData) (r
 
     -- a command that was executed
     stepped_done : (kept : Bool) → IsOk (verdict_at p h s words) → kept ≡ keeps p h s (asked_by p s words (world p h)) → new.core.past ≡ Step s words ∷ h → IsMovedBy run.run now.run words kept → IsRunOf p new.core.past now.run → (out : Out) → new.core.outs ≡ with_out house.core.outs s out
-        → HasStepped p house new clients run now (not kept)
+        → HasStepped p house new clients s now (not kept)
     stepped_done kept valid keeping past moved its_run out outs =
         let homes : (t : ℕ) → t ≢ s → is_home new.core.outs t ≡ is_home house.core.outs t = λ t off. ap (λ (row : List Out). is_home row t) outs ∙ home_apart house.core.outs s t out has.is_known.0 off in
         let as_outs : length new.core.outs ≡ length house.core.outs = ap length outs ∙ length-set house.core.outs (s - 1) out in
@@ -187,7 +179,7 @@ module _ (p : PlansData) (house new : PlainHouse) (clients : List ClientData) (r
         back false e = refl
 
     -- a command that was invalid
-    stepped_lost : (error : CmdError) → verdict_at p h s words ≡ Err error → new.core.past ≡ Lost s (Error error) words ∷ h → now.run ≡ run.run → new.core.outs ≡ house.core.outs → HasStepped p house new clients run now false
+    stepped_lost : (error : CmdError) → verdict_at p h s words ≡ Err error → new.core.past ≡ Lost s (Error error) words ∷ h → now.run ≡ run.run → new.core.outs ≡ house.core.outs → HasStepped p house new clients s now false
     stepped_lost error refused past same outs =
         let stream : now.run.stream ≡ s = ap (λ (r : RunData). r.stream) same in
         record {
@@ -208,7 +200,7 @@ module _ (p : PlansData) (house new : PlainHouse) (clients : List ClientData) (r
     not_closed x o closed = let off : is_open x ≡ false = ap (λ (b : Bool). not x.lost && not b) closed ∙ and_right (not x.lost) false refl in cc
 
     -- whatever was answered
-    pub has_stepped : (side : SideData → SideData) (mark : ℕ → ℕ) (next : Next) → Steps side mark p house new run now words next → HasStepped p house new clients run now (goes_further next)
+    pub has_stepped : (side : SideData → SideData) (mark : ℕ → ℕ) (next : Next) → Steps side mark p house new run now words next → HasStepped p house new clients s now (goes_further next)
     has_stepped side mark More is = stepped_done false is.valid is.kept is.event is.moved is.run record { order = run.run.order; paused = false } is.outs
     has_stepped side mark Paused is = stepped_done true is.valid is.kept is.event is.moved is.run record { order = run.run.order; paused = true } is.outs
     has_stepped side mark FlushEnd is = stepped_done false is.valid is.kept is.event is.moved is.run record { order = run.run.order; paused = false } is.outs

@@ -5,3 +5,4 @@ pub mod Clients
 pub mod Rounds
 pub mod Served
 pub mod Stands
+pub mod Turning

@@ -2,6 +2,7 @@
 ghost use Rattle.std.specs.Prelude.{◌≡◌, ◌-◌, ◌≤◌, length, true, IfOk, OnOk};
 ghost use Rattle.sync_core.specs.Standing.{IsKnown};
 ghost use Rattle.gpu_journal.specs.Serial.{stays};
+ghost use Rattle.gpu_run.specs.Clients.{done_at};
 ghost use Rattle.gpu_run.specs.Reading.{HaveRead};
 ghost use Rattle.gpu_run.specs.Served.{IsServed};
 ghost use Rattle.gpu_run.specs.Stands.{Acting, Stands, HasActed};
@@ -38,7 +39,8 @@ fn act_once<N: Naming, H: Hook>(
     requires open { stays N.plans house.old.core.past stream ≡ true }
     ensures served { OnOk result (IsServed N.plans house.new clients.new) }
     ensures read { OnOk result (HaveRead N.plans house.new.core.past clients.new) }
-    ensures acts { IfOk result (λ act. HasActed N.plans act house.old house.new clients.old clients.new stream) }
+    ensures acts { IfOk result
+        (λ act. HasActed N.plans act house.old house.new clients.old clients.new stream) }
 {
     let finishes = house.finishes(stream);
     let token = house.greatest(stream);
@@ -55,6 +57,16 @@ fn act_once<N: Naming, H: Hook>(
             Err(_) => Err(Memory),
         },
     }
+}
+
+/// The client of a stream does all puts that come next. Each of them passes, so nothing is asked of the house.
+fn put_all<N: Naming, H: Hook>(house: &House<N, PlainPass, H>, clients: &mut [Client], stream: u32)
+    requires known { IsKnown (length N.plans.plans) stream }
+    requires stands { Stands (Acting (stream - 1)) N.plans house.now clients.old }
+    ensures stands { Stands (Acting (stream - 1)) N.plans house.now clients.new }
+    ensures further { done_at clients.old stream ≤ done_at clients.new stream }
+{
+    clients[stream as usize - 1].put_all(house.plans().plan(stream));
 }
 
 /// The client of a stream goes as far as it can.
@@ -76,6 +88,7 @@ fn act_on<N: Naming, H: Hook>(
         return Ok(());
     }
     loop {
+        put_all(house, clients, stream);
         match act_once(house, clients, stream)? {
             Act::Stays => return Ok(()),
             _ => {}
@@ -93,7 +106,8 @@ pub(crate) fn act_all<N: Naming, H: Hook>(
     clients: &mut [Client],
 ) -> Result<(), Memory>
     requires stands { Stands (Acting 0) N.plans house.old clients.old }
-    ensures stands { OnOk result (Stands (Acting (length N.plans.plans)) N.plans house.new clients.new) }
+    ensures stands { OnOk result
+        (Stands (Acting (length N.plans.plans)) N.plans house.new clients.new) }
     ensures longer { OnOk result (length house.old.core.past ≤ length house.new.core.past) }
 {
     for stream in 1..=house.plans().count() {

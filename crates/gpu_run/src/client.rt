@@ -2,9 +2,9 @@
 ghost use Rattle.std.specs.Prelude.{◌≡◌, ℕ, ◌+◌, ◌≤◌, [], ◌∷◌, ◌++◌, length, slice_get, true, IfOk, IfSome, IfNone, OnOk};
 ghost use Rattle.gpu_plan.specs.Passes.{passes};
 ghost use Rattle.gpu_fetch.specs.Side.{SideData, fresh_side};
-ghost use Rattle.gpu_fetch.specs.Plain.{IsBeside, IsNoteBeside, IsNext, IsFlush, one_further};
+ghost use Rattle.gpu_fetch.specs.Plain.{IsBeside, IsNoteBeside, IsNext, IsPut, IsFlush, one_further};
 ghost use Rattle.stream_state.specs.State.{result_of};
-ghost use Rattle.gpu_run.specs.Clients.{fresh_client, flushes_to};
+ghost use Rattle.gpu_run.specs.Clients.{ArePuts, fresh_client, flushes_to};
 ghost use Rattle.gpu_run.specs.Reading.{read_with};
 
 use crate::dumps::Dumps;
@@ -83,7 +83,9 @@ impl Client {
     pub(crate) fn read(&mut self, plan: &Plan, state: &StreamState) -> Result<(), Memory>
         ensures words { self.new.words ≡ self.old.words }
         ensures read { OnOk result (self.new.read
-            ≡ self.old.read ++ read_with (slice_get plan.now.dumps (length self.old.read)) self.old.words.done (result_of state.now)) }
+            ≡ self.old.read ++ read_with
+            (slice_get plan.now.dumps (length self.old.read)) self.old.words.done
+            (result_of state.now)) }
     {
         let Some(dump) = plan.dumps().get(self.dumps.as_slice().len()) else {
             return Ok(());
@@ -102,6 +104,28 @@ impl Client {
         self.dumps
     }
 
+    /// Stores the values of all puts that come next, one after the other.
+    pub(crate) fn put_all(&mut self, plan: &Plan)
+        requires { plan.now ≡ self.old.words.plan }
+        ensures plan { self.new.words.plan ≡ self.old.words.plan }
+        ensures read { self.new.read ≡ self.old.read }
+        ensures further { self.old.words.done ≤ self.new.words.done }
+        ensures puts { ArePuts plan.now.actions self.old.words.done self.new.words.done }
+        ensures last { IsNext IsPut plan.now.actions self.new.words.done → ⊥ }
+        ensures beside { (side : SideData) → IsBeside side self.old.words
+            → IsBeside side self.new.words }
+        ensures notes { (side : SideData) (mark : ℕ)
+            → IsNoteBeside side self.old.words mark → IsNoteBeside side self.new.words mark }
+    {
+        let actions = plan.actions();
+        let mut position = self.position as usize;
+        while let Some(Action::Put { .. }) = actions.get(position) {
+            self.words.put(plan);
+            position += 1;
+        }
+        self.position = position as u32;
+    }
+
     /// Does the next action, which passes. A flush gives its note.
     pub(crate) fn act(&mut self, plan: &Plan, finishes: u32, token: u32) -> Option<PlainNote>
         requires plan { plan.now ≡ self.old.words.plan }
@@ -110,14 +134,17 @@ impl Client {
         ensures read { self.new.read ≡ self.old.read }
         ensures beside { (side : SideData) → finishes ≤ side.finished → token ≤ side.greatest
             → IsBeside side self.old.words → IsBeside side self.new.words }
-        ensures notes { (side : SideData) (mark : ℕ) → finishes ≤ side.finished → token ≤ side.greatest
+        ensures notes { (side : SideData) (mark : ℕ) → finishes ≤ side.finished
+            → token ≤ side.greatest
             → IsNoteBeside side self.old.words mark → IsNoteBeside side self.new.words mark }
         ensures quiet { IfNone result (flushes_to plan.now (self.old.words.done + 1)
             ≡ flushes_to plan.now self.old.words.done) }
-        ensures flush { IfSome result (λ note. IsNext IsFlush plan.now.actions self.old.words.done) }
+        ensures flush { IfSome result
+            (λ note. IsNext IsFlush plan.now.actions self.old.words.done) }
         ensures mark { IfSome result (λ note. note ≡ self.old.words.done + 1) }
         ensures noted { IfSome result
-            (λ note. (side : SideData) → IsBeside side self.old.words → IsNoteBeside side self.new.words note) }
+            (λ note. (side : SideData) → IsBeside side self.old.words
+            → IsNoteBeside side self.new.words note) }
     {
         let action = &plan.actions()[self.position as usize];
         self.position += 1;

@@ -20,7 +20,8 @@ use wait_hooks::Hook;
 ///
 /// `Memory`: some of them may have been read.
 fn read_left(dumps: &mut Dumps, planned: &[(u32, u32)], state: &StreamState) -> Result<(), Memory>
-    ensures { OnOk result (dumps.new ≡ dumps.old ++ read_left planned.now dumps.old (result_of state.now)) }
+    ensures { OnOk result (dumps.new
+        ≡ dumps.old ++ read_left planned.now dumps.old (result_of state.now)) }
 {
     while let Some(dump) = planned.get(dumps.as_slice().len()) {
         let (action, place) = *dump;

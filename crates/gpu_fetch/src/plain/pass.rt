@@ -29,7 +29,13 @@ impl Model for PlainPass {
 
     ghost Value = { SideData };
 
-    ghost view = { λ p. record { plan = arc_value p.plan; fetched = p.fetched.items; finished = p.finished; greatest = p.greatest; met = p.met } };
+    ghost view = { λ p. record {
+      plan = arc_value p.plan;
+      fetched = p.fetched.items;
+      finished = p.finished;
+      greatest = p.greatest;
+      met = p.met;
+    } };
 }
 
 impl PlainPass {
@@ -89,13 +95,15 @@ impl ServiceSide for PlainPass {
         requires belongs { IsBeside self.old words.now }
         requires place { place < places_of self.old.plan.areas }
 
-        ensures grows { MatchResult result (λ value. self.new ≡ with_words self.old ((place, value) ∷ []))
+        ensures grows { MatchResult result
+            (λ value. self.new ≡ with_words self.old ((place, value) ∷ []))
             (λ _. self.new ≡ self.old) }
         ensures may { IfOk result (λ value. MayFetch self.old (place, value)) }
         ensures shows { IfOk result (λ value. IsHeld words.now (place, value)) }
         ensures memory { IfErr result (λ _. ⊥) }
         ensures belongs { IsBeside self.new words.now }
-        ensures notes { (n : ℕ) → IsNoteBeside self.old words.now n → IsNoteBeside self.new words.now n }
+        ensures notes { (n : ℕ) → IsNoteBeside self.old words.now n
+            → IsNoteBeside self.new words.now n }
         ensures value { result ≡ Ok (value_at words.now.plan.actions words.now.done place) }
     {
         let value = words.value(place);

@@ -70,7 +70,8 @@ fn zeros(alloc: Global, count: usize) -> Result<Vec<u32>, Memory>
 fn store(values: &mut Vec<u32>, action: &Action)
     requires { IsWithin (length values.old.items) action.now }
     ensures count { length values.new.items ≡ length values.old.items }
-    ensures each { (i : ℕ) → slice_index values.new.items i ≡ after i (slice_index values.old.items i) action.now }
+    ensures each { (i : ℕ) → slice_index values.new.items i
+        ≡ after i (slice_index values.old.items i) action.now }
 {
     if let Action::Put { place, value } = action {
         values[*place as usize] = *value;
@@ -112,7 +113,8 @@ impl PlainWords {
 
         ensures done { self.new ≡ one_further self.old }
         ensures beside { (side : SideData) → IsBeside side self.old → IsBeside side self.new }
-        ensures notes { (side : SideData) (mark : ℕ) → IsNoteBeside side self.old mark → IsNoteBeside side self.new mark }
+        ensures notes { (side : SideData) (mark : ℕ) → IsNoteBeside side self.old mark
+            → IsNoteBeside side self.new mark }
     {
         self.advance(plan);
     }
@@ -124,8 +126,11 @@ impl PlainWords {
         requires passes { IsTrue (passes plan.now.actions self.old.done finishes (token ∷ [])) }
 
         ensures done { self.new ≡ one_further self.old }
-        ensures beside { (side : SideData) → finishes ≤ side.finished → token ≤ side.greatest → IsBeside side self.old → IsBeside side self.new }
-        ensures notes { (side : SideData) (mark : ℕ) → finishes ≤ side.finished → token ≤ side.greatest → IsNoteBeside side self.old mark → IsNoteBeside side self.new mark }
+        ensures beside { (side : SideData) → finishes ≤ side.finished → token ≤ side.greatest
+            → IsBeside side self.old → IsBeside side self.new }
+        ensures notes { (side : SideData) (mark : ℕ) → finishes ≤ side.finished
+            → token ≤ side.greatest → IsNoteBeside side self.old mark
+            → IsNoteBeside side self.new mark }
     {
         let _ = (finishes, token);
         self.advance(plan);
@@ -138,8 +143,10 @@ impl PlainWords {
 
         ensures done { self.new ≡ one_further self.old }
         ensures note { result ≡ self.old.done + 1 }
-        ensures beside { (side : SideData) → IsBeside side self.old → IsNoteBeside side self.new result }
-        ensures notes { (side : SideData) (mark : ℕ) → IsNoteBeside side self.old mark → IsNoteBeside side self.new mark }
+        ensures beside { (side : SideData) → IsBeside side self.old
+            → IsNoteBeside side self.new result }
+        ensures notes { (side : SideData) (mark : ℕ) → IsNoteBeside side self.old mark
+            → IsNoteBeside side self.new mark }
     {
         self.advance(plan);
         PlainNote { mark: self.done }

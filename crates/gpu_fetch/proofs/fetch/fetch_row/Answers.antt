@@ -41,19 +41,6 @@ returns-in_err-value-clause-part g c =
     let here = row_in_part s t u c.args.from (c.loop-place.place - c.args.from) c.args.count c.args.list.now.items c.loop-place.list.items c.loop-place.invariant.row (omega arith) c.in_err-value.ensures.grows in
     MatchResult-from_err c.from_residual-in_err-value.result _ _ c.from_residual-in_err-value.ensures.0 (λ _. here)
 
--- room for the row was made, so no push wants memory
-pub returns-in_err-push-clause-part : goal.returns-in_err-push-clause-part
-returns-in_err-push-clause-part g c =
-    let room = c.loop-place.invariant.room in
-    let full = c.in_err-push.ensures.full in
-    absurd (omega arith)
-
-pub returns-in_err-push-clause-whole : goal.returns-in_err-push-clause-whole
-returns-in_err-push-clause-whole g c =
-    let room = c.loop-place.invariant.room in
-    let full = c.in_err-push.ensures.full in
-    absurd (omega arith)
-
 pub returns-in_err-value-clause-whole : goal.returns-in_err-value-clause-whole
 returns-in_err-value-clause-whole g c = MatchResult-from_err c.from_residual-in_err-value.result _ _ c.from_residual-in_err-value.ensures.0 (λ _. inl c.in_err-value.ensures.memory)
 
@@ -69,13 +56,13 @@ loop-place-preserved g c =
     let place = c.loop-place.place in
     let value = c.in_ok-value.value in
     let one = fetches_one t u place value c.in_ok-value.ensures.grows c.in_ok-value.ensures.may in
-    let more = row_more s t u c.args.from count place value c.args.list.now.items c.loop-place.list.items c.push.new.self.items c.loop-place.invariant.row (omega arith) one c.in_ok-push.ensures.items in
+    let more = row_more s t u c.args.from count place value c.args.list.now.items c.loop-place.list.items c.push_reserved.new.self.items c.loop-place.invariant.row (omega arith) one c.push_reserved.ensures.items in
     let next : count + 1 ≡ place + 1 - c.args.from = omega arith in
     record {
       belongs = c.in_ok-value.ensures.belongs;
-      row = subst (λ (n : ℕ). FetchesRow s u c.args.from n c.args.list.now.items c.push.new.self.items) next more;
-      shows = added_shown (g.P.ServiceSide.shows c.args.words.now) s t c.args.from count c.args.list.now.items c.loop-place.list.items c.push.new.self.items (place, value) c.loop-place.invariant.row c.in_ok-push.ensures.items c.loop-place.invariant.shows c.in_ok-value.ensures.shows;
-      room = (let room = c.loop-place.invariant.room in let len = c.push.ensures.len in let more = c.push.ensures.capacity in omega arith);
+      row = subst (λ (n : ℕ). FetchesRow s u c.args.from n c.args.list.now.items c.push_reserved.new.self.items) next more;
+      shows = added_shown (g.P.ServiceSide.shows c.args.words.now) s t c.args.from count c.args.list.now.items c.loop-place.list.items c.push_reserved.new.self.items (place, value) c.loop-place.invariant.row c.push_reserved.ensures.items c.loop-place.invariant.shows c.in_ok-value.ensures.shows;
+      room = (let room = c.loop-place.invariant.room in let len = c.push_reserved.ensures.len in let more = c.push_reserved.ensures.capacity in omega arith);
       table = c.in_ok-value.ensures.table ∙ c.loop-place.invariant.table;
       notes = λ n h. c.in_ok-value.ensures.notes n (c.loop-place.invariant.notes n h);
     }

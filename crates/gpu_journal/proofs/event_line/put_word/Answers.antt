@@ -1,9 +1,12 @@
-use Rattle.std.proofs.Common.{◌≡◌, length, ap, arith}
-use Rattle.gpu_journal.specs.Digits.{numeral}
-use Rattle.gpu_journal.proofs.Lengths.{length-word}
+use Rattle.std.proofs.Common.{rules, ◌≡◌, ◌++◌, ◌∷◌, [], List, ℕ, ap, sym, ◌∙◌, arith}
+use Rattle.gpu_journal.specs.Digits.{numeral, hex8}
+use Rattle.gpu_journal.proofs.Numerals.{numeral_of_one, numeral_of_two}
 use Rattle.gpu_journal.proofs.event_line.put_word.Goals as goal
 
-pub put_hex-requires : goal.put_hex-requires
-put_hex-requires c =
-    let same : length (numeral c.from.result) ≡ length (numeral c.args.place) = ap (λ n. length (numeral n)) c.from.ensures in
-    omega (arith, length-word c.args.place c.args.value)
+pub returns-then-near-lt10-clause-items : goal.returns-then-near-lt10-clause-items
+unfolding hex8
+returns-then-near-lt10-clause-items c = rw (numeral_of_one c.args.place (omega arith)) (search (rules))
+
+pub returns-clause-items : goal.returns-clause-items
+unfolding hex8
+returns-clause-items c = rw (numeral_of_two c.args.place (omega arith) (omega arith)) (search (rules))

@@ -6,8 +6,8 @@ use Rattle.gpu_run.specs.Rounds.{IsRunning}
 use Rattle.gpu_run.specs.Served.{IsOut}
 use Rattle.gpu_run.proofs.running.run_out.Given as goal
 
-abbrev pub invariant-loop-on : goal.invariant-loop-on
-invariant-loop-on g l = record {
+abbrev pub invariant-loop-house : goal.invariant-loop-house
+invariant-loop-house g l = record {
   played : IsPlayed g.N.Naming.plans l.house.core.past;
   out : IsOut g.N.Naming.plans l.house l.clients l.out;
   read : HaveRead g.N.Naming.plans l.house.core.past l.clients;
@@ -17,5 +17,5 @@ invariant-loop-on g l = record {
   longer : length l.initial.house.core.past ≤ length l.house.core.past;
 }
 
-abbrev pub decreases-loop-on : goal.decreases-loop-on
-decreases-loop-on g l = most_events g.N.Naming.plans - length l.house.core.past
+abbrev pub decreases-loop-house : goal.decreases-loop-house
+decreases-loop-house g l = most_events g.N.Naming.plans - length l.house.core.past

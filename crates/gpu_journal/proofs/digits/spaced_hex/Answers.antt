@@ -1,7 +1,0 @@
-use Rattle.std.proofs.Common.{ℕ, List, ◌∷◌, ap, sym, arith}
-use Rattle.gpu_journal.proofs.Pairs.{hex8_by_bytes}
-use Rattle.gpu_journal.proofs.digits.spaced_hex.Goals as goal
-
-pub returns : goal.returns
-returns c =
-    rw (c.pair-a.ensures, c.pair-c.ensures, c.pair-e.ensures, c.pair-g.ensures) (ap (λ (digits : List ℕ). 32 ∷ digits) (sym (hex8_by_bytes c.args.number (omega arith))))

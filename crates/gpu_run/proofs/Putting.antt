@@ -1,0 +1,249 @@
+-- The puts that follow one another.
+use Rattle.std.proofs.Common.{◌≡◌, ◌≢◌, ℕ, zero, suc, ◌+◌, ◌-◌, ◌≤◌, ◌<◌, ◌⊎◌, inl, inr, true, Option, None, Some, List, [], ◌∷◌, ◌++◌, length, get_or, set, take, refl, sym, ap, subst, ◌∙◌, arith}
+use Rattle.std.proofs.lemmas.List.{length-set}
+use Rattle.std.proofs.lemmas.List.Elements.{All-head, All-tail, All-weaker}
+use Rattle.std.proofs.lemmas.Option.{slice_get-get_or}
+use Rattle.std.specs.Prelude.{slice_get}
+use Rattle.std.specs.List.{All}
+use Rattle.std.specs.Option.{IsSomeAnd}
+use Rattle.gpu_cmd.specs.declared.areas.Span.{Span}
+use Rattle.gpu_plan.specs.declared.plan.Action.{Action}
+use Rattle.gpu_plan.specs.declared.plan.Action.TheVariants.{Put, Flush, Finish, Token, Close}
+use Rattle.gpu_plan.specs.Plans.{PlansData, PlanData, no_plan, plan_of, IsDump, RiseFrom}
+use Rattle.gpu_plan.specs.Passes.{flush_count, flushes, passes, passes_if_there, bound, greatest}
+use Rattle.gpu_plan.proofs.Passing.{flushes_one_further, bound_one_further}
+use Rattle.gpu_fetch.specs.Side.{SideData}
+use Rattle.gpu_fetch.specs.Plain.{PlainData, IsNext, IsPut, IsBeside, IsNoteBeside}
+use Rattle.sync_core.specs.Standing.{IsKnown}
+use Rattle.gpu_journal.specs.declared.event.Event.{Event}
+use Rattle.gpu_journal.specs.World.{known}
+use Rattle.gpu_journal.specs.Facts.{reach}
+use Rattle.gpu_journal.specs.Serial.{count}
+use Rattle.serial_laws.specs.Scripts.{AreLawfulPlans}
+use Rattle.serial_laws.proofs.First.{nat_cases}
+use Rattle.run_laws.proofs.Tokens.{reach_is}
+use Rattle.gpu_house.specs.Slots.{slot_at}
+use Rattle.gpu_run.specs.Clients.{ClientData, client_at, done_at, flushes_to, ArePuts, IsCounted}
+use Rattle.gpu_run.specs.Reading.{HasRead, HaveRead}
+use Rattle.gpu_run.specs.Served.{PlainHouse, IsClientOf, IsServedAt, IsServed}
+use Rattle.gpu_run.specs.Stands.{Acting, Stands}
+use Rattle.gpu_run.proofs.NextAction.{next_is}
+use Rattle.gpu_run.proofs.Rows.{plan_is, client_there, client_same, client_other}
+use Rattle.gpu_run.proofs.Serving.{beside_puts, stays_so, other_home, served_all}
+use Rattle.gpu_run.proofs.Phases.{acted_passed}
+
+-- ---- one put
+
+some_put : (o : Option Action) → IsSomeAnd o IsPut → (before f : ℕ) (tokens : List ℕ) → passes_if_there before f tokens o ≡ true
+some_put None is before f tokens = absurd is
+some_put (Some (Put place value)) is before f tokens = refl
+some_put (Some (Flush put fences)) is before f tokens = refl
+some_put (Some Finish) is before f tokens = absurd is
+some_put (Some (Token token)) is before f tokens = absurd is
+some_put (Some Close) is before f tokens = absurd is
+
+-- it passes, whatever is finished
+put_passes : (actions : List Action) (k f : ℕ) (tokens : List ℕ) → IsNext IsPut actions k → passes actions k f tokens ≡ true
+put_passes actions k f tokens is = some_put (slice_get actions k) is (flushes (take k actions)) f tokens
+
+put_counts : (a : Action) → IsPut a → flush_count a ≡ 0
+put_counts (Put place value) is = refl
+put_counts (Flush put fences) is = absurd is
+put_counts Finish is = refl
+put_counts (Token token) is = refl
+put_counts Close is = refl
+
+-- it is no flush
+pub put_quiet : (actions : List Action) (k : ℕ) → IsNext IsPut actions k → flushes (take (k + 1) actions) ≡ flushes (take k actions)
+put_quiet actions k is = by (slice_get actions k) refl is
+  where
+    by : (o : Option Action) → slice_get actions k ≡ o → IsSomeAnd o IsPut → flushes (take (k + 1) actions) ≡ flushes (take k actions)
+    by None e at = absurd at
+    by (Some a) e at = let step = flushes_one_further actions k a e in let none = put_counts a at in omega (arith, step, none)
+
+-- ---- puts that follow one another
+
+-- none where nothing is between
+pub no_puts : (actions : List Action) (from : ℕ) → ArePuts actions from from
+no_puts actions from k low high = absurd (omega (arith, low, high))
+
+-- and one more
+pub puts_more : (actions : List Action) (from to next : ℕ) → ArePuts actions from to → IsNext IsPut actions to → next ≡ to + 1 → ArePuts actions from next
+puts_more actions from to next puts one is k low high = by (nat_cases k to)
+  where
+    by : (k ≡ to) ⊎ (k ≢ to) → IsNext IsPut actions k
+    by (inl same) = subst (IsNext IsPut actions) (sym same) one
+    by (inr off) = puts k low (omega (arith, high, is, off))
+
+fewer_puts : (actions : List Action) (from n : ℕ) → ArePuts actions from (from + suc n) → ArePuts actions from (from + n)
+fewer_puts actions from n puts k low high = puts k low (omega (arith, high))
+
+bound_puts : (actions : List Action) (from n f : ℕ) (tokens : List ℕ) → from ≤ bound actions f tokens → ArePuts actions from (from + n) → from + n ≤ bound actions f tokens
+bound_puts actions from zero f tokens low puts = omega (arith, low)
+bound_puts actions from (suc n) f tokens low puts =
+    let here = bound_puts actions from n f tokens low (fewer_puts actions from n puts) in
+    let one = bound_one_further actions (from + n) f tokens here (put_passes actions (from + n) f tokens (puts (from + n) (omega arith) (omega arith))) in
+    omega (arith, one)
+
+quiet_puts : (actions : List Action) (from n : ℕ) → ArePuts actions from (from + n) → flushes (take (from + n) actions) ≡ flushes (take from actions)
+quiet_puts actions from zero puts = ap (λ (k : ℕ). flushes (take k actions)) (omega arith)
+quiet_puts actions from (suc n) puts =
+    let more : from + suc n ≡ (from + n) + 1 = omega arith in
+    ap (λ (k : ℕ). flushes (take k actions)) more ∙ put_quiet actions (from + n) (puts (from + n) (omega arith) (omega arith)) ∙ quiet_puts actions from n (fewer_puts actions from n puts)
+
+apart : (from to : ℕ) → from ≤ to → to ≡ from + (to - from)
+apart from to le = omega (arith, le)
+
+-- no flush is among them
+pub puts_quiet : (actions : List Action) (from to : ℕ) → from ≤ to → ArePuts actions from to → flushes (take to actions) ≡ flushes (take from actions)
+puts_quiet actions from to le puts =
+    let far = apart from to le in
+    ap (λ (k : ℕ). flushes (take k actions)) far ∙ quiet_puts actions from (to - from) (subst (ArePuts actions from) far puts)
+
+-- the client may do them all
+puts_reach : (p : PlansData) (h : List Event) (s from to : ℕ) → from ≤ to → ArePuts (plan_of p s).actions from to → from ≤ reach p h s → to ≤ reach p h s
+puts_reach p h s from to le puts low =
+    let far = apart from to le in
+    let is = reach_is p h s in
+    let there = bound_puts (plan_of p s).actions from (to - from) (known p h s).finished (greatest (known p h s).tokens ∷ []) (omega (arith, is, low)) (subst (ArePuts (plan_of p s).actions from) far puts) in
+    omega (arith, is, there, far)
+
+-- ---- the loop of the code
+
+-- the next action, as the code finds it
+pub put_found : (xs actions : List Action) (position done place value : ℕ) (a : Action) → actions ≡ xs → position ≡ done → position < length actions → a ≡ get_or actions position a → a ≡ Put place value → IsNext IsPut xs done
+put_found xs actions position done place value a same at lt read is =
+    let there : slice_get xs done ≡ Some a = ap (slice_get xs) (sym at) ∙ ap (λ (l : List Action). slice_get l position) (sym same) ∙ slice_get-get_or actions position a lt ∙ ap Some (sym read) in
+    next_is IsPut xs done a there (subst IsPut (sym is) tt)
+
+-- a client counts on over puts
+pub counted_puts : (old new : PlainData) (plan : PlanData) (position was flushed : ℕ) → plan ≡ old.plan → new.plan ≡ old.plan → position ≡ new.done → flushed ≡ was → was ≡ flushes_to old.plan old.done → old.done ≤ new.done → ArePuts plan.actions old.done new.done → IsCounted new position flushed
+counted_puts old new plan position was flushed same kept place still made le puts =
+    let quiet = puts_quiet old.plan.actions old.done new.done le (subst (λ (q : PlanData). ArePuts q.actions old.done new.done) same puts) in
+    record { place = place; made = still ∙ made ∙ sym quiet ∙ ap (λ (q : PlanData). flushes_to q new.done) (sym kept) }
+
+-- ---- no dump is among them
+
+no_dump : (actions : List Action) (results : List (Option Span)) (dump : ℕ × ℕ) → IsDump results actions dump → IsNext IsPut actions dump.0 → ⊥
+no_dump actions results dump is put = subst (λ (o : Option Action). IsSomeAnd o IsPut) is.0 put
+
+rise_on : (actions : List Action) (results : List (Option Span)) (dumps : List (ℕ × ℕ)) (from to : ℕ) → All (IsDump results actions) dumps → ArePuts actions from to → RiseFrom from dumps → RiseFrom to dumps
+rise_on actions results [] from to all puts rises = tt
+rise_on actions results (dump ∷ dumps) from to all puts rises =
+    let low = rises.0 in
+    let beyond : dump.0 < to → ⊥ = λ lt. no_dump actions results dump (All-head (IsDump results actions) dump dumps all) (puts dump.0 low lt) in
+    (omega (arith, low, beyond), rises.1)
+
+all_behind : {X : Type 0} (P : X → Type 0) (xs ys : List X) → All P (xs ++ ys) → All P ys
+all_behind P [] ys all = all
+all_behind P (x ∷ xs) ys all = all_behind P xs ys (All-tail P x (xs ++ ys) all)
+
+dumps_lawful : (p : PlansData) (s : ℕ) → AreLawfulPlans p → IsKnown (length p.plans) s → All (IsDump (plan_of p s).areas.results (plan_of p s).actions) (plan_of p s).dumps
+dumps_lawful p zero lawful is_known = absurd (let low = is_known.0 in omega (arith, low))
+dumps_lawful p (suc k) lawful is_known = (lawful.each k no_plan (let high = is_known.1 in omega (arith, high))).1
+
+-- so the client has read what it should
+read_puts : (p : PlansData) (h : List Event) (s from to : ℕ) (read : List (ℕ × ℕ × ℕ)) → AreLawfulPlans p → IsKnown (length p.plans) s → from ≤ to → to ≤ count p h s → ArePuts (plan_of p s).actions from to → HasRead p h s from read → HasRead p h s to read
+read_puts p h s from to read lawful is_known le within puts old =
+    let plan = plan_of p s in
+    let ahead = all_behind (IsDump plan.areas.results plan.actions) old.behind old.ahead (subst (All (IsDump plan.areas.results plan.actions)) (sym old.dumps) (dumps_lawful p s lawful is_known)) in
+    record {
+      behind = old.behind;
+      ahead = old.ahead;
+      dumps = old.dumps;
+      found = old.found;
+      passed = All-weaker (λ (d : ℕ × ℕ). d.0 < from) (λ (d : ℕ × ℕ). d.0 < to) (λ d lt. omega (arith, lt, le)) old.behind old.passed;
+      rising = λ r. rise_on plan.actions plan.areas.results old.ahead from to ahead puts (old.rising r);
+      within = within;
+      still = λ action place low. old.still action place (omega (arith, low, le));
+    }
+
+-- ---- the client of stream s has done puts
+
+-- what puts leave of a client
+pub record HasPut (actions : List Action) (old new : ClientData) : Type 0 where
+  pub plan : new.words.plan ≡ old.words.plan
+  pub read : new.read ≡ old.read
+  pub further : old.words.done ≤ new.words.done
+  pub puts : ArePuts actions old.words.done new.words.done
+  pub beside : (side : SideData) → IsBeside side old.words → IsBeside side new.words
+  pub notes : (side : SideData) (mark : ℕ) → IsNoteBeside side old.words mark → IsNoteBeside side new.words mark
+
+-- the plan that the code takes is the client's
+pub its_plan : (p : PlansData) (house : PlainHouse) (clients : List ClientData) (s : ℕ) (plan : PlanData) (other : ClientData) → IsKnown (length p.plans) s → IsServed p house clients → slice_get p.plans (s - 1) ≡ Some plan → plan ≡ (get_or clients (s - 1) other).words.plan
+its_plan p house clients s plan other is_known served at =
+    let high = is_known.1 in
+    let many = served.many.as_clients in
+    let here : get_or clients (s - 1) other ≡ client_at clients s = client_there clients s other (is_known.0, omega (arith, high, many)) in
+    let own = (served.each s is_known).1 in
+    sym (plan_is p s plan is_known.0 at) ∙ sym own.client.plan ∙ ap (λ (c : ClientData). c.words.plan) (sym here)
+
+-- the same by what the code tells of the plan and the client
+pub has_put : (p : PlansData) (clients : List ClientData) (s : ℕ) (plan : PlanData) (client other now : ClientData) → IsKnown (length p.plans) s → length clients ≡ length p.plans → client ≡ get_or clients (s - 1) other → slice_get p.plans (s - 1) ≡ Some plan → HasPut plan.actions client now → HasPut (plan_of p s).actions (client_at clients s) now
+has_put p clients s plan client other now is_known many read at has =
+    let high = is_known.1 in
+    let here : client ≡ client_at clients s = read ∙ client_there clients s other (is_known.0, omega (arith, high, many)) in
+    subst (λ (c : ClientData). HasPut (plan_of p s).actions c now) here (subst (λ (q : PlanData). HasPut q.actions client now) (sym (plan_is p s plan is_known.0 at)) has)
+
+module _ (p : PlansData) (house : PlainHouse) (clients : List ClientData) (s : ℕ) (now : ClientData) (is_known : IsKnown (length p.plans) s) (stands : Stands (Acting (s - 1)) p house clients) (has : HasPut (plan_of p s).actions (client_at clients s) now) where
+  abbrev after : List ClientData
+  after = set clients (s - 1) now
+
+  in_row : IsKnown (length clients) s
+  in_row = (is_known.0, (let high = is_known.1 in let many = stands.served.many.as_clients in omega (arith, high, many)))
+
+  there : client_at after s ≡ now
+  there = client_same clients s now in_row
+
+  other : (t : ℕ) → t ≢ s → client_at after t ≡ client_at clients t
+  other t off = client_other clients s t now is_known.0 off
+
+  own : IsServedAt p house.core.past s (slot_at house.slots s) (client_at clients s).words
+  own = (stands.served.each s is_known).1
+
+  within : now.words.done ≤ count p house.core.past s
+  within =
+      let fresh = stands.rising.fresh s in
+      let low = own.client.within in
+      let far = puts_reach p house.core.past s (done_at clients s) now.words.done has.further has.puts (omega (arith, fresh, low)) in
+      omega (arith, fresh, far)
+
+  client : IsClientOf p house.core.past s now.words
+  client = record {
+    plan = has.plan ∙ own.client.plan;
+    within = within;
+    passed = λ o. own.client.passed o ∙ sym (puts_quiet (plan_of p s).actions (done_at clients s) now.words.done has.further has.puts);
+  }
+
+  served : IsServed p house after
+  served =
+      served_all p house after s record { as_clients = length-set clients (s - 1) now ∙ stands.served.many.as_clients; as_slots = stands.served.many.as_slots; as_outs = stands.served.many.as_outs } (
+        (stands.served.each s is_known).0,
+        subst (λ (c : ClientData). IsServedAt p house.core.past s (slot_at house.slots s) c.words) (sym there) record {
+          client = client;
+          beside = beside_puts (client_at clients s).words now.words (slot_at house.slots s).side (slot_at house.slots s).first (slot_at house.slots s).notes (λ f t. record { beside = λ x a b. has.beside x; notes = λ x n a b. has.notes x n }) own.beside;
+        },
+      )
+      (λ t k off. other_home p house house clients after t (stays_so refl) refl refl (other t off) (stands.served.each t k))
+
+  read : HaveRead p house.core.past after
+  read t k = by (nat_cases t s)
+    where
+      mine : HasRead p house.core.past s now.words.done now.read
+      mine = subst (HasRead p house.core.past s now.words.done) (sym has.read) (read_puts p house.core.past s (done_at clients s) now.words.done (client_at clients s).read stands.lawful is_known has.further within has.puts (stands.read s is_known))
+
+      by : (t ≡ s) ⊎ (t ≢ s) → HasRead p house.core.past t (done_at after t) (client_at after t).read
+      by (inl same) = subst (λ (u : ℕ). HasRead p house.core.past u (done_at after u) (client_at after u).read) (sym same) (subst (λ (c : ClientData). HasRead p house.core.past s c.words.done c.read) (sym there) mine)
+      by (inr off) = subst (λ (c : ClientData). HasRead p house.core.past t c.words.done c.read) (sym (other t off)) (stands.read t k)
+
+  pub puts_stand : Stands (Acting (s - 1)) p house (set clients (s - 1) now)
+  puts_stand = record {
+    lawful = stands.lawful;
+    rising = stands.rising;
+    served = served;
+    read = read;
+    come = acted_passed p house.core.past (done_at clients) (done_at after) s stands.come (λ t off. ap (λ (c : ClientData). c.words.done) (other t off));
+  }
+
+  pub puts_further : done_at clients s ≤ done_at (set clients (s - 1) now) s
+  puts_further = subst (λ (c : ClientData). done_at clients s ≤ c.words.done) (sym there) has.further
