@@ -20,7 +20,8 @@ pub fn trial_text(
     images: &Images,
     endings: &[Ending],
 ) -> Result<Vec<u8>, Memory>
-    ensures { IfOk result (λ text. text.items ≡ line_text size seed journal.now.events images.now endings.now) }
+    ensures { IfOk result (λ text. text.items
+        ≡ line_text size seed journal.now.events images.now endings.now) }
 {
     let events = journal.events();
     let mut text = Vec::new(alloc);

@@ -24,9 +24,11 @@ fn order_or_lose<N: Naming, P: NamedSide, H: Hook>(
     note: Note,
 )
     requires known { IsKnown (length N.plans.plans) stream }
-    requires next { (known N.plans house.old.core.past stream).ordered < flushes (plan_of N.plans stream).actions }
+    requires next { (known N.plans house.old.core.past stream).ordered
+        < flushes (plan_of N.plans stream).actions }
     requires open { is_open (standing_of N.plans house.old.core.past stream) ≡ true }
-    requires mark { note.mark ≡ mark_of (plan_of N.plans stream) (known N.plans house.old.core.past stream).ordered }
+    requires mark { note.mark
+        ≡ mark_of (plan_of N.plans stream) (known N.plans house.old.core.past stream).ordered }
     requires table { note.table ≡ table_at N.words stream }
     ensures { OrderedOrLost N.plans stream house.old.core.past house.new.core.past }
 {

@@ -35,7 +35,8 @@ impl<N: Naming, P: NamedSide, H: Hook> Model for Hall<N, P, H> {
 
     ghost view = { λ h. h.house.core.past };
 
-    ghost invariant = { λ h. HallFits N.plans N.words N.queues N.view h.house.core.past h.takers.items h.view };
+    ghost invariant = { λ h. HallFits N.plans N.words N.queues N.view h.house.core.past
+        h.takers.items h.view };
 }
 
 impl<N: Naming, P: NamedSide, H: Hook> Hall<N, P, H> {

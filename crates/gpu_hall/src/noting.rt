@@ -27,7 +27,10 @@ pub(crate) fn make_room(view: &mut Option<ViewWriter>, more: usize) -> bool
 fn note_each(writer: &mut ViewWriter, ops: Vec<Op>)
     requires room { length ops.items ≤ writer.old.spare }
     requires texels { All HasItsTexels ops.items }
-    ensures { writer.new ≡ record writer.old { noted = writer.old.noted ++ ops.items; spare = writer.new.spare } }
+    ensures { writer.new ≡ record writer.old {
+      noted = writer.old.noted ++ ops.items;
+      spare = writer.new.spare;
+    } }
 {
     for op in ops {
         writer.note(op);

@@ -21,7 +21,8 @@ impl<N: Naming, P: NamedSide, H: Hook> Hall<N, P, H> {
     pub fn take(&mut self) -> Option<Run<N, P>>
         ensures past { self.new ≡ self.old }
         ensures run { IfSome result (λ out. IsRunOf N.plans self.old out.run) }
-        ensures ready { IfSome result (IsReady P.side P.table P.mark P.note_of N.plans N.words N.books) }
+        ensures ready { IfSome result
+            (IsReady P.side P.table P.mark P.note_of N.plans N.words N.books) }
     {
         let run = self.house.take()?;
         run.holds();
@@ -36,12 +37,16 @@ impl<N: Naming, P: NamedSide, H: Hook> Hall<N, P, H> {
         requires going { run.run.paused ≡ false }
         requires chained { AreChained run.run.facts batch }
         requires list { drop run.run.facts.fetched (P.side run.side).fetched ≡ batch_words batch }
-        requires words { P.words_of words.now (table_at N.words run.run.stream) (table_at N.result_words run.run.stream) }
-        ensures ready { IfSome result (IsReady P.side P.table P.mark P.note_of N.plans N.words N.books) }
+        requires words { P.words_of words.now (table_at N.words run.run.stream)
+            (table_at N.result_words run.run.stream) }
+        ensures ready { IfSome result
+            (IsReady P.side P.table P.mark P.note_of N.plans N.words N.books) }
         ensures same { IfSome result (λ on. on.run.stream ≡ run.run.stream) }
-        ensures more { IfSome result (λ on. HasSteps N.plans self.old self.new run.run.stream (member_words batch) false) }
+        ensures more { IfSome result
+            (λ on. HasSteps N.plans self.old self.new run.run.stream (member_words batch) false) }
         ensures home { IfNone result
-            ((how : Return) × CameHome N.plans self.old self.new run.run.stream run.run.order (member_words batch) how) }
+            ((how : Return) × CameHome N.plans self.old self.new run.run.stream run.run.order
+            (member_words batch) how) }
     {
         let mut run = run;
         if !make_room(&mut self.view, batch.members().len()) {
@@ -78,10 +83,12 @@ impl<N: Naming, P: NamedSide, H: Hook> Hall<N, P, H> {
     pub fn finish(&mut self, run: Run<N, P>, words: &P::Words)
         requires end { run.run.facts.get ≡ run.run.facts.put }
         requires going { run.run.paused ≡ false }
-        requires words { P.words_of words.now (table_at N.words run.run.stream) (table_at N.result_words run.run.stream) }
+        requires words { P.words_of words.now (table_at N.words run.run.stream)
+            (table_at N.result_words run.run.stream) }
         ensures event { is_open (standing_of N.plans self.old run.run.stream) ≡ true
             → self.new ≡ Finish run.run.stream run.run.order ∷ self.old }
-        ensures over { is_open (standing_of N.plans self.old run.run.stream) ≡ false → self.new ≡ self.old }
+        ensures over { is_open (standing_of N.plans self.old run.run.stream) ≡ false
+            → self.new ≡ self.old }
     {
         run.holds();
         self.house.holds();
@@ -92,7 +99,8 @@ impl<N: Naming, P: NamedSide, H: Hook> Hall<N, P, H> {
     pub fn lose(&mut self, run: Run<N, P>)
         ensures event { is_open (standing_of N.plans self.old run.run.stream) ≡ true
             → self.new ≡ Lost run.run.stream Memory [] ∷ self.old }
-        ensures over { is_open (standing_of N.plans self.old run.run.stream) ≡ false → self.new ≡ self.old }
+        ensures over { is_open (standing_of N.plans self.old run.run.stream) ≡ false
+            → self.new ≡ self.old }
     {
         self.house.lose(run);
     }

@@ -28,10 +28,12 @@ impl Model for Shown {
       plans = s.report.plans;
       base = s.report.base;
       past = s.report.past;
-      view = option_map (λ (writer : WriterData). record { view = writer.view; versions = writer.versions }) s.view;
+      view = option_map (λ (writer : WriterData).
+          record { view = writer.view; versions = writer.versions }) s.view;
     } };
 
-    ghost invariant = { λ s. IfSome s.view (λ writer. ShowAll s.report.plans s.report.past writer.versions) };
+    ghost invariant = { λ s. IfSome s.view
+        (λ writer. ShowAll s.report.plans s.report.past writer.versions) };
 }
 
 impl Shown {

@@ -19,7 +19,8 @@ pub trait NamedSide: ServiceSide<Note = Note> {
     ghost noted: { (n : NoteData) → Self.note_of n n.table };
 
     // A side belongs with words of its table, and so does a note of that table.
-    ghost beside: { (s : Self) (w : Self.Words) (r : TableId) → words_of w (Self.table s) r → Self.belongs s w };
+    ghost beside: { (s : Self) (w : Self.Words) (r : TableId) → words_of w (Self.table s) r
+        → Self.belongs s w };
 
     ghost note_beside: { (s : Self) (w : Self.Words) (n : NoteData) (r : TableId)
         → words_of w (Self.table s) r → Self.note_of n (Self.table s) → Self.note_belongs s w n };

@@ -18,7 +18,8 @@ impl<N: Naming, P: NamedSide, H: Hook> Hall<N, P, H> {
     /// Loses a stream for want of memory, where it is neither lost nor closed. It takes no memory.
     pub fn lose_client(&mut self, stream: u32)
         requires known { IsKnown (length N.plans.plans) stream }
-        ensures event { is_open (standing_of N.plans self.old stream) ≡ true → self.new ≡ Lost stream Memory [] ∷ self.old }
+        ensures event { is_open (standing_of N.plans self.old stream) ≡ true
+            → self.new ≡ Lost stream Memory [] ∷ self.old }
         ensures over { is_open (standing_of N.plans self.old stream) ≡ false → self.new ≡ self.old }
     {
         self.house.lose_client(stream);
@@ -28,12 +29,16 @@ impl<N: Naming, P: NamedSide, H: Hook> Hall<N, P, H> {
     pub fn close(&mut self, stream: u32) -> Closing
         requires known { IsKnown (length N.plans.plans) stream }
         requires closes { is_closed (plan_of N.plans stream).actions ≡ true }
-        ensures lost { (result ≡ Closing.Lost) ↔ ((standing_of N.plans self.old stream).lost ≡ true) }
+        ensures lost { (result ≡ Closing.Lost)
+            ↔ ((standing_of N.plans self.old stream).lost ≡ true) }
         ensures early { (result ≡ Closing.Early)
-            ↔ ((is_open (standing_of N.plans self.old stream) ≡ true) × (MayClose N.plans self.old stream → ⊥)) }
-        ensures event { result ≡ Closing.Closed → is_open (standing_of N.plans self.old stream) ≡ true
+            ↔ ((is_open (standing_of N.plans self.old stream) ≡ true)
+            × (MayClose N.plans self.old stream → ⊥)) }
+        ensures event { result ≡ Closing.Closed
+            → is_open (standing_of N.plans self.old stream) ≡ true
             → self.new ≡ Close stream ∷ self.old }
-        ensures same { (result ≡ Closing.Closed → is_open (standing_of N.plans self.old stream) ≡ true → ⊥)
+        ensures same { (result ≡ Closing.Closed
+            → is_open (standing_of N.plans self.old stream) ≡ true → ⊥)
             → self.new ≡ self.old }
     {
         self.house.close(stream)
@@ -43,7 +48,8 @@ impl<N: Naming, P: NamedSide, H: Hook> Hall<N, P, H> {
     /// journal stays.
     pub fn settle(&mut self, stream: u32, words: &P::Words, reader: P::Reader)
         requires known { IsKnown (length N.plans.plans) stream }
-        requires words { P.words_of words.now (table_at N.words stream) (table_at N.result_words stream) }
+        requires words { P.words_of words.now (table_at N.words stream)
+            (table_at N.result_words stream) }
         requires reader { P.reader_of reader (table_at N.result_words stream) }
         ensures settled { AreSettled P.written N.plans self.old stream (P.reads reader) }
         ensures same { self.new ≡ self.old }

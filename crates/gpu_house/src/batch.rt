@@ -88,7 +88,8 @@ fn facts_behind(
     requires lawful { IsLawfulFacts facts.now }
     requires copy { IsCopy words.now facts.now verdict.now }
     ensures none { IfNone result (ends_by verdict.now (facts_after facts.now words.now) ≡ true) }
-    ensures goes_on { IfSome result (λ _. ends_by verdict.now (facts_after facts.now words.now) ≡ false) }
+    ensures goes_on { IfSome result
+        (λ _. ends_by verdict.now (facts_after facts.now words.now) ≡ false) }
     ensures some { IfSome result (λ behind. behind ≡ facts_after facts.now words.now) }
     ensures lawful { IfSome result IsLawfulFacts }
     ensures more { IfSome result (λ behind. behind.get ≢ behind.put) }
@@ -122,11 +123,14 @@ impl Batch {
         ensures chained { IfOk result (AreChained facts.now) }
         ensures copies { IfOk result (All IsFetched) }
         ensures end { IfOk result EndsExactly }
-        ensures fetches { IfOk result (λ batch. Fetches (P.side side.old) (P.side side.new) (batch_words batch)) }
+        ensures fetches { IfOk result
+            (λ batch. Fetches (P.side side.old) (P.side side.new) (batch_words batch)) }
         ensures shows { IfOk result (λ batch. All (P.shows words.now) (batch_words batch)) }
-        ensures some { IfErr result (λ _. FetchesInPart (P.side side.old) (P.side side.new) facts.now) }
+        ensures some { IfErr result
+            (λ _. FetchesInPart (P.side side.old) (P.side side.new) facts.now) }
         ensures belongs { P.belongs side.new words.now }
-        ensures notes { (n : P.Note) → P.note_belongs side.old words.now n → P.note_belongs side.new words.now n }
+        ensures notes { (n : P.Note) → P.note_belongs side.old words.now n
+            → P.note_belongs side.new words.now n }
         ensures table { P.table side.new ≡ P.table side.old }
     {
         let mut list = Vec::new(alloc);

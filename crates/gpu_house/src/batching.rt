@@ -34,7 +34,8 @@ impl<N: Naming, P: ServiceSide, H: Hook> House<N, P, H> {
     // How a step of a stream is answered where that is over.
     fn over(&self, stream: u32) -> Option<Next>
         requires { IsKnown (length N.plans.plans) stream }
-        ensures none { IfNone result (is_open (standing_of N.plans self.now.core.past stream) ≡ true) }
+        ensures none { IfNone result
+            (is_open (standing_of N.plans self.now.core.past stream) ≡ true) }
         ensures over { IfSome result (λ next. IsOverBy N.plans self.now.core.past stream next) }
     {
         if self.core.is_lost(stream) {
@@ -59,16 +60,21 @@ impl<N: Naming, P: ServiceSide, H: Hook> House<N, P, H> {
         requires list { AreNext run.old.run.facts (P.side run.old.side).fetched member.words }
         requires belongs { P.belongs run.old.side words.now }
         requires note { IfSome run.old.note (P.note_belongs run.old.side words.now) }
-        requires results { ResultsBelong P.results_belong words.now self.old.results run.old.run.stream }
-        ensures steps { IfOk result (Steps P.side P.mark N.plans self.old self.new run.old run.new member.words) }
-        ensures end { IfOk result (λ next. (next ≡ Next.FlushEnd → run.new.run.facts.get ≡ run.new.run.facts.put)
+        requires results { ResultsBelong P.results_belong words.now self.old.results
+            run.old.run.stream }
+        ensures steps { IfOk result
+            (Steps P.side P.mark N.plans self.old self.new run.old run.new member.words) }
+        ensures end { IfOk result
+            (λ next. (next ≡ Next.FlushEnd → run.new.run.facts.get ≡ run.new.run.facts.put)
             × (next ≡ Next.More → run.new.run.facts.get ≢ run.new.run.facts.put)) }
         ensures drawn { IfOk result (λ next. drawn.new.items ≡ drawn.old.items
-            ++ option_to_list (drawn_if next (drawn_at N.plans self.old.core.past run.old.run.stream member.words))) }
+            ++ option_to_list (drawn_if next
+            (drawn_at N.plans self.old.core.past run.old.run.stream member.words))) }
         ensures draws { IfOk result (λ next. TellsDrawn (replay N.plans self.old.core.past)
             (replay N.plans self.new.core.past) drawn.old.items drawn.new.items) }
         ensures slots { self.new.slots ≡ self.old.slots }
-        ensures results { WroteResults P.results_belong words.now self.old.results self.new.results run.old.run.stream }
+        ensures results { WroteResults P.results_belong words.now self.old.results self.new.results
+            run.old.run.stream }
         ensures still { StillBelongs P.belongs P.note_belongs words.now run.old.side run.new.side }
         ensures list { (P.side run.new.side).fetched ≡ (P.side run.old.side).fetched }
         ensures err { OnErr result (Same self.old self.new) }
@@ -98,26 +104,33 @@ impl<N: Naming, P: ServiceSide, H: Hook> House<N, P, H> {
     ) -> Result<Next, Memory>
         requires going { run.old.run.paused ≡ false }
         requires chained { AreChained run.old.run.facts batch }
-        requires list { drop run.old.run.facts.fetched (P.side run.old.side).fetched ≡ batch_words batch }
+        requires list { drop run.old.run.facts.fetched (P.side run.old.side).fetched
+            ≡ batch_words batch }
         requires belongs { P.belongs run.old.side words.now }
         requires note { IfSome run.old.note (P.note_belongs run.old.side words.now) }
-        requires results { ResultsBelong P.results_belong words.now self.old.results run.old.run.stream }
+        requires results { ResultsBelong P.results_belong words.now self.old.results
+            run.old.run.stream }
         ensures commits { IfOk result (Commits P.side P.mark N.plans
             (record { house = self.old; out = run.old; drawn = drawn.old.items })
-            (record { house = self.new; out = run.new; drawn = drawn.new.items }) (member_words batch)) }
-        ensures end { IfOk result (λ next. (next ≡ Next.FlushEnd → run.new.run.facts.get ≡ run.new.run.facts.put)
+            (record { house = self.new; out = run.new; drawn = drawn.new.items })
+            (member_words batch)) }
+        ensures end { IfOk result
+            (λ next. (next ≡ Next.FlushEnd → run.new.run.facts.get ≡ run.new.run.facts.put)
             × (next ≡ Next.More → run.new.run.facts.get ≢ run.new.run.facts.put)) }
         ensures ready { IfOk result (λ next. is_executed next ≡ true
             → length (P.side run.new.side).fetched ≡ run.new.run.facts.fetched) }
-        ensures draws { TellsDrawn (replay N.plans self.old.core.past) (replay N.plans self.new.core.past)
+        ensures draws { TellsDrawn (replay N.plans self.old.core.past)
+            (replay N.plans self.new.core.past)
             drawn.old.items drawn.new.items }
         ensures slots { self.new.slots ≡ self.old.slots }
-        ensures results { WroteResults P.results_belong words.now self.old.results self.new.results run.old.run.stream }
+        ensures results { WroteResults P.results_belong words.now self.old.results self.new.results
+            run.old.run.stream }
         ensures still { StillBelongs P.belongs P.note_belongs words.now run.old.side run.new.side }
         ensures list { (P.side run.new.side).fetched ≡ (P.side run.old.side).fetched }
         ensures err { IfErr result (λ _. GoneInPart P.side P.mark N.plans
             (record { house = self.old; out = run.old; drawn = drawn.old.items })
-            (record { house = self.new; out = run.new; drawn = drawn.new.items }) (member_words batch)) }
+            (record { house = self.new; out = run.new; drawn = drawn.new.items })
+            (member_words batch)) }
     {
         run.holds();
         if let Some(over) = self.over(run.stream()) {

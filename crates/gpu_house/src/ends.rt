@@ -25,7 +25,8 @@ impl<N: Naming, P: ServiceSide, H: Hook> House<N, P, H> {
         requires known { IsKnown (length N.plans.plans) stream }
         ensures event { is_open (standing_of N.plans self.old.core.past stream) ≡ true
             → Appends self.old self.new (Lost stream Memory []) }
-        ensures over { is_open (standing_of N.plans self.old.core.past stream) ≡ false → Same self.old self.new }
+        ensures over { is_open (standing_of N.plans self.old.core.past stream) ≡ false
+            → Same self.old self.new }
     {
         let House { core, hooks, .. } = self;
         core.lose_client(stream);
@@ -37,13 +38,16 @@ impl<N: Naming, P: ServiceSide, H: Hook> House<N, P, H> {
     pub fn close(&mut self, stream: u32) -> Closing
         requires known { IsKnown (length N.plans.plans) stream }
         requires closes { is_closed (plan_of N.plans stream).actions ≡ true }
-        ensures lost { (result ≡ Closing.Lost) ↔ ((standing_of N.plans self.old.core.past stream).lost ≡ true) }
+        ensures lost { (result ≡ Closing.Lost)
+            ↔ ((standing_of N.plans self.old.core.past stream).lost ≡ true) }
         ensures early { (result ≡ Closing.Early)
             ↔ ((is_open (standing_of N.plans self.old.core.past stream) ≡ true)
             × (MayClose N.plans self.old.core.past stream → ⊥)) }
-        ensures event { result ≡ Closing.Closed → is_open (standing_of N.plans self.old.core.past stream) ≡ true
+        ensures event { result ≡ Closing.Closed
+            → is_open (standing_of N.plans self.old.core.past stream) ≡ true
             → Appends self.old self.new (Close stream) }
-        ensures same { (result ≡ Closing.Closed → is_open (standing_of N.plans self.old.core.past stream) ≡ true
+        ensures same { (result ≡ Closing.Closed
+            → is_open (standing_of N.plans self.old.core.past stream) ≡ true
             → ⊥) → Same self.old self.new }
     {
         let House { core, hooks, .. } = self;
@@ -62,10 +66,12 @@ impl<N: Naming, P: ServiceSide, H: Hook> House<N, P, H> {
         ensures settled { IsSomeAnd (slice_get self.new.results (stream - 1))
             (λ own. IfSome (P.written own) (λ list. Settles list (P.reads reader))) }
         ensures told { IsSomeAnd (slice_get self.new.results (stream - 1))
-            (λ own. IfSome (P.written own) (λ list. list ≡ written N.plans self.old.core.past stream)) }
+            (λ own. IfSome (P.written own)
+            (λ list. list ≡ written N.plans self.old.core.past stream)) }
         ensures core { self.new.core ≡ self.old.core }
         ensures slots { self.new.slots ≡ self.old.slots }
-        ensures results { WroteResults P.results_belong words.now self.old.results self.new.results stream }
+        ensures results { WroteResults P.results_belong words.now self.old.results
+            self.new.results stream }
     {
         P::settle(&mut self.results[stream as usize - 1], words, reader);
     }

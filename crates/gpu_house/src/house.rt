@@ -51,9 +51,15 @@ impl<N: Naming, P: ServiceSide, H: Hook> Model for House<N, P, H> {
 
     ghost Value = { HouseData P P.Note P.Results };
 
-    ghost view = { λ h. record { core = h.core; slots = h.slots.items; results = h.results.items } };
+    ghost view = { λ h. record {
+      core = h.core;
+      slots = h.slots.items;
+      results = h.results.items;
+    } };
 
-    ghost invariant = { λ h. HouseInvariant P.side P.table P.mark P.note_of P.takes P.written P.results_of N.plans N.base N.words N.books N.result_words h.hooks record { core = h.core; slots = h.slots.items; results = h.results.items } };
+    ghost invariant = { λ h. HouseInvariant P.side P.table P.mark P.note_of P.takes P.written
+        P.results_of N.plans N.base N.words N.books N.result_words h.hooks
+        record { core = h.core; slots = h.slots.items; results = h.results.items } };
 }
 
 impl<N: Naming, P: ServiceSide, H: Hook> House<N, P, H> {
@@ -71,11 +77,13 @@ impl<N: Naming, P: ServiceSide, H: Hook> House<N, P, H> {
         requires sides { AreFreshSides P.side P.table plans.plans N.words sides.items }
         requires results { AreFreshResults P.takes P.written P.results_of (table_at N.result_words)
             1 plans.plans results.items }
-        requires books { (names_of books.items ≡ N.books) × (length books.items ≡ length plans.plans) }
+        requires books { (names_of books.items ≡ N.books)
+            × (length books.items ≡ length plans.plans) }
         requires fresh { All IsFresh books.items }
         ensures past { IfOk result (λ house. house.core.past ≡ []) }
         ensures plans { IfOk result (λ house. house.core.plans ≡ plans) }
-        ensures outs { IfOk result (λ house. house.core.outs ≡ replicate (length plans.plans) at_home) }
+        ensures outs { IfOk result
+            (λ house. house.core.outs ≡ replicate (length plans.plans) at_home) }
         ensures slots { IfOk result (λ house. house.slots ≡ fresh_slots sides.items) }
         ensures results { IfOk result (λ house. house.results ≡ results.items) }
     {
@@ -141,7 +149,8 @@ impl<N: Naming, P: ServiceSide, H: Hook> House<N, P, H> {
         requires { IsKnown (length N.plans.plans) stream }
         ensures value { result ≡ (known N.plans self.now.core.past stream).finished }
         ensures home { is_open (standing_of N.plans self.now.core.past stream) ≡ true
-            → IfSome (slot_at self.now.slots stream).side (λ side. (P.side side).finished ≡ result) }
+            → IfSome (slot_at self.now.slots stream).side
+            (λ side. (P.side side).finished ≡ result) }
     {
         self.core.finishes(stream)
     }
@@ -151,7 +160,8 @@ impl<N: Naming, P: ServiceSide, H: Hook> House<N, P, H> {
         requires { IsKnown (length N.plans.plans) stream }
         ensures value { result ≡ greatest (known N.plans self.now.core.past stream).tokens }
         ensures home { is_open (standing_of N.plans self.now.core.past stream) ≡ true
-            → IfSome (slot_at self.now.slots stream).side (λ side. (P.side side).greatest ≡ result) }
+            → IfSome (slot_at self.now.slots stream).side
+            (λ side. (P.side side).greatest ≡ result) }
     {
         self.core.greatest(stream)
     }

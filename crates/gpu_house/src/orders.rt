@@ -30,7 +30,8 @@ impl<N: Naming, P: ServiceSide, H: Hook> House<N, P, H> {
     /// `Lost`: exactly where the stream is lost. `Memory`: nothing has changed. The note comes back.
     pub fn order(&mut self, stream: u32, note: P::Note) -> Result<u32, OrderRefused<P::Note>>
         requires known { IsKnown (length N.plans.plans) stream }
-        requires next { (known N.plans self.old.core.past stream).ordered < flushes (plan_of N.plans stream).actions }
+        requires next { (known N.plans self.old.core.past stream).ordered
+            < flushes (plan_of N.plans stream).actions }
         requires note { P.mark note
             ≡ mark_of (plan_of N.plans stream) (known N.plans self.old.core.past stream).ordered }
         requires table { P.note_of note (table_at N.words stream) }

@@ -36,7 +36,8 @@ impl<N: Naming, P: ServiceSide, H: Hook> House<N, P, H> {
         ensures targets { HaveTargets N.plans self.now.core.past }
         ensures no_cycle { FormNoCycle N.plans self.now.core.past }
         ensures results { (stream : ℕ) → IsKnown (length N.plans.plans) stream
-            → IsSomeAnd (slice_get self.now.results (stream - 1)) (λ own. P.results_of own (table_at N.result_words stream)) }
+            → IsSomeAnd (slice_get self.now.results (stream - 1))
+            (λ own. P.results_of own (table_at N.result_words stream)) }
     {
         let _ = &self.core;
     }

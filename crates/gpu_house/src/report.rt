@@ -37,7 +37,8 @@ impl Model for Report {
 
     ghost view = { λ r. record { plans = r.core.plans; base = r.base; past = r.core.past } };
 
-    ghost invariant = { λ r. r.marks.items ≡ map (mark r.base) (endings_in r.core.plans r.core.past) };
+    ghost invariant = { λ r. r.marks.items
+        ≡ map (mark r.base) (endings_in r.core.plans r.core.past) };
 }
 
 impl Report {

@@ -42,14 +42,16 @@ impl<N: Naming, P: ServiceSide> Model for Run<N, P> {
 
     ghost view = { λ r. record { run = r.carried; side = r.side; note = r.note } };
 
-    ghost invariant = { λ r. RunFits P.side P.table P.mark P.note_of N.plans (table_at N.words) (book_at N.books) r.carried r.side r.note };
+    ghost invariant = { λ r. RunFits P.side P.table P.mark P.note_of N.plans (table_at N.words)
+        (book_at N.books) r.carried r.side r.note };
 }
 
 impl<N: Naming, P: ServiceSide> Run<N, P> {
     /// Shows what the type of a run keeps, so that a run that comes out of a lock is known to be of its stream, of its words and of
     /// its book. It changes nothing.
     pub fn holds(&self)
-        ensures { RunFits P.side P.table P.mark P.note_of N.plans (table_at N.words) (book_at N.books)
+        ensures { RunFits P.side P.table P.mark P.note_of N.plans (table_at N.words)
+            (book_at N.books)
             self.now.run self.now.side self.now.note }
     {
         let _ = &self.side;
@@ -107,15 +109,19 @@ impl<N: Naming, P: ServiceSide> Run<N, P> {
         ensures met { self.new.note ≡ None }
         ensures facts { IfOk result (λ found. found.facts ≡ self.old.run.facts) }
         ensures grows { IfOk result
-            (λ found. (P.side self.new.side).fetched ≡ (P.side self.old.side).fetched ++ found.words) }
+            (λ found. (P.side self.new.side).fetched
+            ≡ (P.side self.old.side).fetched ++ found.words) }
         ensures fetches { IfOk result
-            (λ found. Fetches (met_by (option_map P.mark self.old.note) (P.side self.old.side)) (P.side self.new.side) found.words) }
+            (λ found. Fetches (met_by (option_map P.mark self.old.note) (P.side self.old.side))
+            (P.side self.new.side) found.words) }
         ensures places { IfOk result
             (λ found. places_listed found.words ≡ fetched_places found.words self.old.run.facts) }
-        ensures verdict { IfOk result (λ found. copied found.words self.old.run.facts ≡ found.verdict) }
+        ensures verdict { IfOk result
+            (λ found. copied found.words self.old.run.facts ≡ found.verdict) }
         ensures shows { IfOk result (λ found. All (P.shows words.now) found.words) }
         ensures some { IfErr result
-            (λ _. FetchesSome (met_by (option_map P.mark self.old.note) (P.side self.old.side)) (P.side self.new.side) self.old.run.facts) }
+            (λ _. FetchesSome (met_by (option_map P.mark self.old.note) (P.side self.old.side))
+            (P.side self.new.side) self.old.run.facts) }
         ensures belongs { P.belongs self.new.side words.now }
         ensures notes { (n : P.Note) → P.note_belongs self.old.side words.now n
             → P.note_belongs self.new.side words.now n }
@@ -147,14 +153,19 @@ impl<N: Naming, P: ServiceSide> Run<N, P> {
         ensures chained { IfOk result (AreChained self.old.run.facts) }
         ensures copies { IfOk result (All IsFetched) }
         ensures end { IfOk result EndsExactly }
-        ensures grows { IfOk result (λ batch. (P.side self.new.side).fetched ≡ (P.side self.old.side).fetched ++ batch_words batch) }
-        ensures fetches { IfOk result (λ batch. Fetches (met_by (option_map P.mark self.old.note) (P.side self.old.side))
+        ensures grows { IfOk result
+            (λ batch. (P.side self.new.side).fetched
+            ≡ (P.side self.old.side).fetched ++ batch_words batch) }
+        ensures fetches { IfOk result
+            (λ batch. Fetches (met_by (option_map P.mark self.old.note) (P.side self.old.side))
             (P.side self.new.side) (batch_words batch)) }
         ensures shows { IfOk result (λ batch. All (P.shows words.now) (batch_words batch)) }
-        ensures some { IfErr result (λ _. FetchesInPart (met_by (option_map P.mark self.old.note) (P.side self.old.side))
+        ensures some { IfErr result
+            (λ _. FetchesInPart (met_by (option_map P.mark self.old.note) (P.side self.old.side))
             (P.side self.new.side) self.old.run.facts) }
         ensures belongs { P.belongs self.new.side words.now }
-        ensures notes { (n : P.Note) → P.note_belongs self.old.side words.now n → P.note_belongs self.new.side words.now n }
+        ensures notes { (n : P.Note) → P.note_belongs self.old.side words.now n
+            → P.note_belongs self.new.side words.now n }
     {
         let Run {
             alloc,

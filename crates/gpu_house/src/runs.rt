@@ -30,15 +30,20 @@ impl<N: Naming, P: ServiceSide, H: Hook> House<N, P, H> {
         ensures results { self.new.results ≡ self.old.results }
         ensures run { IfSome result (λ out. IsRunOf N.plans self.old.core.past out.run) }
         ensures going { IfSome result (λ out. out.run.paused ≡ false) }
-        ensures side { IfSome result (λ out. Some out.side ≡ (slot_at self.old.slots out.run.stream).side) }
-        ensures note { IfSome result (λ out. out.note ≡ note_ahead (slot_at self.old.slots out.run.stream)) }
-        ensures list { IfSome result (λ out. length (P.side out.side).fetched ≡ out.run.facts.fetched) }
+        ensures side { IfSome result
+            (λ out. Some out.side ≡ (slot_at self.old.slots out.run.stream).side) }
+        ensures note { IfSome result
+            (λ out. out.note ≡ note_ahead (slot_at self.old.slots out.run.stream)) }
+        ensures list { IfSome result
+            (λ out. length (P.side out.side).fetched ≡ out.run.facts.fetched) }
         ensures outs { IfSome result
             (λ out. self.new.core.outs
-            ≡ with_out self.old.core.outs out.run.stream record { order = out.run.order; paused = false }) }
+            ≡ with_out self.old.core.outs out.run.stream
+            record { order = out.run.order; paused = false }) }
         ensures slots { IfSome result
             (λ out. self.new.slots
-            ≡ with_slot self.old.slots out.run.stream (left_slot (slot_at self.old.slots out.run.stream))) }
+            ≡ with_slot self.old.slots out.run.stream
+            (left_slot (slot_at self.old.slots out.run.stream))) }
     {
         let House {
             alloc,
@@ -67,17 +72,20 @@ impl<N: Naming, P: ServiceSide, H: Hook> House<N, P, H> {
         requires going { run.run.paused ≡ false }
         requires belongs { P.belongs run.side words.now }
         requires note { IfSome run.note (P.note_belongs run.side words.now) }
-        requires results { ResultsBelong P.results_belong words.now self.old.results run.run.stream }
+        requires results { ResultsBelong P.results_belong words.now self.old.results
+            run.run.stream }
         ensures event { is_open (standing_of N.plans self.old.core.past run.run.stream) ≡ true
             → self.new.core.past ≡ Finish run.run.stream run.run.order ∷ self.old.core.past }
         ensures over { is_open (standing_of N.plans self.old.core.past run.run.stream) ≡ false
             → self.new.core.past ≡ self.old.core.past }
         ensures outs { self.new.core.outs ≡ with_out self.old.core.outs run.run.stream at_home }
         ensures done { is_open (standing_of N.plans self.old.core.past run.run.stream) ≡ true
-            → CameDone P.side P.mark P.belongs P.note_belongs words.now self.old.slots self.new.slots run.run.stream run.side run.note }
+            → CameDone P.side P.mark P.belongs P.note_belongs words.now
+            self.old.slots self.new.slots run.run.stream run.side run.note }
         ensures home { is_open (standing_of N.plans self.old.core.past run.run.stream) ≡ false
             → self.new.slots ≡ with_side self.old.slots run.run.stream run.side run.note }
-        ensures results { WroteResults P.results_belong words.now self.old.results self.new.results run.run.stream }
+        ensures results { WroteResults P.results_belong words.now self.old.results self.new.results
+            run.run.stream }
     {
         let Run {
             carried,

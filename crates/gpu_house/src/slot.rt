@@ -19,7 +19,12 @@ impl<S, T> Model for Slot<S, T> {
 
     ghost Value = { SlotData S T };
 
-    ghost view = { λ s. record { side = s.side; begun = s.begun; first = s.first; notes = s.notes.items } };
+    ghost view = { λ s. record {
+      side = s.side;
+      begun = s.begun;
+      first = s.first;
+      notes = s.notes.items;
+    } };
 }
 
 impl<S: Drop, T: Drop> Slot<S, T> {
@@ -41,7 +46,8 @@ impl<S: Drop, T: Drop> Slot<S, T> {
     ///
     /// Memory was wanted; the note comes back.
     pub fn push(&mut self, note: T) -> Result<(), T>
-        ensures ok { OnOk result (self.new ≡ record self.old { notes = self.old.notes ++ note ∷ [] }) }
+        ensures ok { OnOk result
+            (self.new ≡ record self.old { notes = self.old.notes ++ note ∷ [] }) }
         ensures err { IfErr result (λ back. back ≡ note) }
         ensures same { OnErr result (self.new ≡ self.old) }
     {

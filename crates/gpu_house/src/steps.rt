@@ -29,7 +29,8 @@ use wait_hooks::Hook;
 fn tell<P: ServiceSide>(side: &mut P, results: &mut P::Results, words: &P::Words, acted: &Acted)
     requires belongs { P.belongs side.old words.now }
     requires results { P.results_belong words.now results.old }
-    requires takes { All (λ write. IsTrue (P.takes results.old write.0)) (writes_told acted.now.effect) }
+    requires takes { All (λ write. IsTrue (P.takes results.old write.0))
+        (writes_told acted.now.effect) }
     ensures side { P.side side.new ≡ told_side acted.now.effect (P.side side.old) }
     ensures still { StillBelongs P.belongs P.note_belongs words.now side.old side.new }
     ensures table { P.table side.new ≡ P.table side.old }
@@ -59,18 +60,24 @@ impl<N: Naming, P: ServiceSide, H: Hook> House<N, P, H> {
         requires list { AreNext run.old.run.facts (P.side run.old.side).fetched fetched.words }
         requires belongs { P.belongs run.old.side words.now }
         requires note { IfSome run.old.note (P.note_belongs run.old.side words.now) }
-        requires results { ResultsBelong P.results_belong words.now self.old.results run.old.run.stream }
+        requires results { ResultsBelong P.results_belong words.now self.old.results
+            run.old.run.stream }
         ensures steps { IfOk result
-            (λ progress. Steps P.side P.mark N.plans self.old self.new run.old run.new fetched.words progress.next) }
+            (λ progress. Steps P.side P.mark N.plans self.old self.new run.old run.new fetched.words
+            progress.next) }
         ensures end { IfOk result
-            (λ progress. (progress.next ≡ Next.FlushEnd → run.new.run.facts.get ≡ run.new.run.facts.put)
+            (λ progress. (progress.next ≡ Next.FlushEnd
+            → run.new.run.facts.get ≡ run.new.run.facts.put)
             × (progress.next ≡ Next.More → run.new.run.facts.get ≢ run.new.run.facts.put)) }
         ensures drawn { IfOk result (λ progress. progress.drawn
-            ≡ drawn_if progress.next (drawn_at N.plans self.old.core.past run.old.run.stream fetched.words)) }
+            ≡ drawn_if progress.next
+            (drawn_at N.plans self.old.core.past run.old.run.stream fetched.words)) }
         ensures draws { IfOk result
-            (λ progress. Draws (replay N.plans self.old.core.past) (replay N.plans self.new.core.past) progress.drawn) }
+            (λ progress. Draws (replay N.plans self.old.core.past)
+            (replay N.plans self.new.core.past) progress.drawn) }
         ensures slots { self.new.slots ≡ self.old.slots }
-        ensures results { WroteResults P.results_belong words.now self.old.results self.new.results run.old.run.stream }
+        ensures results { WroteResults P.results_belong words.now self.old.results self.new.results
+            run.old.run.stream }
         ensures still { StillBelongs P.belongs P.note_belongs words.now run.old.side run.new.side }
         ensures list { (P.side run.new.side).fetched ≡ (P.side run.old.side).fetched }
         ensures err { OnErr result (Same self.old self.new) }
@@ -125,21 +132,28 @@ impl<N: Naming, P: ServiceSide, H: Hook> House<N, P, H> {
     ) -> Result<Progress, Memory>
         requires going { run.old.run.paused ≡ false }
         requires facts { fetched.facts ≡ run.old.run.facts }
-        requires list { drop run.old.run.facts.fetched (P.side run.old.side).fetched ≡ fetched.words }
+        requires list { drop run.old.run.facts.fetched (P.side run.old.side).fetched
+            ≡ fetched.words }
         requires belongs { P.belongs run.old.side words.now }
         requires note { IfSome run.old.note (P.note_belongs run.old.side words.now) }
-        requires results { ResultsBelong P.results_belong words.now self.old.results run.old.run.stream }
+        requires results { ResultsBelong P.results_belong words.now self.old.results
+            run.old.run.stream }
         ensures steps { IfOk result
-            (λ progress. Steps P.side P.mark N.plans self.old self.new run.old run.new fetched.words progress.next) }
+            (λ progress. Steps P.side P.mark N.plans self.old self.new run.old run.new fetched.words
+            progress.next) }
         ensures end { IfOk result
-            (λ progress. (progress.next ≡ Next.FlushEnd → run.new.run.facts.get ≡ run.new.run.facts.put)
+            (λ progress. (progress.next ≡ Next.FlushEnd
+            → run.new.run.facts.get ≡ run.new.run.facts.put)
             × (progress.next ≡ Next.More → run.new.run.facts.get ≢ run.new.run.facts.put)) }
         ensures drawn { IfOk result (λ progress. progress.drawn
-            ≡ drawn_if progress.next (drawn_at N.plans self.old.core.past run.old.run.stream fetched.words)) }
+            ≡ drawn_if progress.next
+            (drawn_at N.plans self.old.core.past run.old.run.stream fetched.words)) }
         ensures draws { IfOk result
-            (λ progress. Draws (replay N.plans self.old.core.past) (replay N.plans self.new.core.past) progress.drawn) }
+            (λ progress. Draws (replay N.plans self.old.core.past)
+            (replay N.plans self.new.core.past) progress.drawn) }
         ensures slots { self.new.slots ≡ self.old.slots }
-        ensures results { WroteResults P.results_belong words.now self.old.results self.new.results run.old.run.stream }
+        ensures results { WroteResults P.results_belong words.now self.old.results self.new.results
+            run.old.run.stream }
         ensures still { StillBelongs P.belongs P.note_belongs words.now run.old.side run.new.side }
         ensures list { (P.side run.new.side).fetched ≡ (P.side run.old.side).fetched }
         ensures err { OnErr result (Same self.old self.new) }

@@ -42,9 +42,26 @@ impl Model for Client {
 
     ghost Value = { ClientData };
 
-    ghost view = { λ c. record { stream = c.stream; pass = c.pass; poster = c.poster; held = c.held; reader = c.reader; due = c.due; dumps = c.dumps.items } };
+    ghost view = { λ c. record {
+      stream = c.stream;
+      pass = c.pass;
+      poster = c.poster;
+      held = c.held;
+      reader = c.reader;
+      due = c.due;
+      dumps = c.dumps.items;
+    } };
 
-    ghost invariant = { λ c. IsClient record { stream = c.stream; pass = c.pass; poster = c.poster; held = c.held; reader = c.reader; due = c.due; dumps = c.dumps.items }
+    ghost invariant = { λ c. IsClient
+        record {
+          stream = c.stream;
+          pass = c.pass;
+          poster = c.poster;
+          held = c.held;
+          reader = c.reader;
+          due = c.due;
+          dumps = c.dumps.items;
+        }
         c.planned.items c.position c.flushed c.dumps.cap };
 }
 
@@ -128,7 +145,16 @@ impl Client {
         requires poster { poster ≡ fresh_end poster.queue pass.table plan.now }
         requires fresh { reader.reads ≡ [] }
         requires places { words_in plan.now.areas.results ≤ reader.places }
-        ensures { IfOk result (λ client. client ≡ record { stream = stream; pass = pass; poster = poster; held = None; reader = reader; due = None; dumps = [] }) }
+        ensures { IfOk result (λ client. client
+            ≡ record {
+              stream = stream;
+              pass = pass;
+              poster = poster;
+              held = None;
+              reader = reader;
+              due = None;
+              dumps = [];
+            }) }
     {
         plan.actions();
         let planned = copied(alloc, plan.dumps())?;

@@ -59,7 +59,8 @@ impl Parts {
         stream: u32,
         plan: &Plan,
     ) -> Result<(), Memory>
-        ensures { OnOk result ((plans : List PlanData) → stream ≡ length plans + 1 → AreFreshFor plans self.old
+        ensures { OnOk result ((plans : List PlanData) → stream ≡ length plans + 1
+            → AreFreshFor plans self.old
             → AreFreshFor (plans ++ plan.now ∷ []) self.new) }
     {
         let (words, pass, side) = shm_words::make(alloc, plan)?;

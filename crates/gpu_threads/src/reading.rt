@@ -60,7 +60,8 @@ fn read_of<N: Naming, H: Hook>(
     requires words { AreWordsOf of_tables N.plans N.words N.result_words words.now }
     requires through { IsThrough N.plans hall.old client }
     ensures same { hall.new ≡ hall.old }
-    ensures read { AreRead N.plans hall.old client.stream (dumps_of N.plans hall.old client.stream) result }
+    ensures read { AreRead N.plans hall.old client.stream
+        (dumps_of N.plans hall.old client.stream) result }
 {
     let stream = client.stream();
     let lost = is_lost(hall, stream);

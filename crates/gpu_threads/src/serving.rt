@@ -67,7 +67,8 @@ fn finish<N: Naming, P: NamedSide, H: Hook, R: Wait>(
 ) -> bool
     requires end { run.run.facts.get ≡ run.run.facts.put }
     requires going { run.run.paused ≡ false }
-    requires words { P.words_of words.now (table_at N.words run.run.stream) (table_at N.result_words run.run.stream) }
+    requires words { P.words_of words.now (table_at N.words run.run.stream)
+        (table_at N.result_words run.run.stream) }
 {
     run.holds();
     let stream = run.stream();
@@ -90,8 +91,10 @@ fn commit<N: Naming, P: NamedSide, H: Hook, R: Wait>(
     requires going { run.run.paused ≡ false }
     requires chained { AreChained run.run.facts batch }
     requires list { drop run.run.facts.fetched (P.side run.side).fetched ≡ batch_words batch }
-    requires words { P.words_of words.now (table_at N.words run.run.stream) (table_at N.result_words run.run.stream) }
-    ensures ready { IfSome result.0 (IsReady P.side P.table P.mark P.note_of N.plans N.words N.books) }
+    requires words { P.words_of words.now (table_at N.words run.run.stream)
+        (table_at N.result_words run.run.stream) }
+    ensures ready { IfSome result.0
+        (IsReady P.side P.table P.mark P.note_of N.plans N.words N.books) }
     ensures same { IfSome result.0 (λ on. on.run.stream ≡ run.run.stream) }
 {
     run.holds();
@@ -132,8 +135,10 @@ fn advance<N: Naming, P: NamedSide, H: Hook, R: Wait, G: Gate>(
     run: Run<N, P>,
 ) -> Option<Run<N, P>>
     requires ready { IsReady P.side P.table P.mark P.note_of N.plans N.words N.books run }
-    requires words { P.words_of words.now (table_at N.words run.run.stream) (table_at N.result_words run.run.stream) }
-    ensures ready { IfSome result (IsReady P.side P.table P.mark P.note_of N.plans N.words N.books) }
+    requires words { P.words_of words.now (table_at N.words run.run.stream)
+        (table_at N.result_words run.run.stream) }
+    ensures ready { IfSome result
+        (IsReady P.side P.table P.mark P.note_of N.plans N.words N.books) }
     ensures same { IfSome result (λ on. on.run.stream ≡ run.run.stream) }
 {
     let mut run = run;
@@ -165,7 +170,8 @@ fn run_out<N: Naming, P: NamedSide, H: Hook, R: Wait, G: Gate>(
     run: Run<N, P>,
 )
     requires ready { IsReady P.side P.table P.mark P.note_of N.plans N.words N.books run }
-    requires words { P.words_of words.now (table_at N.words run.run.stream) (table_at N.result_words run.run.stream) }
+    requires words { P.words_of words.now (table_at N.words run.run.stream)
+        (table_at N.result_words run.run.stream) }
 {
     let mut out = run;
     for _ in rt.forever() {

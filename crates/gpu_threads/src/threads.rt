@@ -182,8 +182,10 @@ fn end<N: Naming, H: Hook, R: Wait, G: Gate>(
     ensures base { IfOk result (λ ran. ran.0.base ≡ N.base) }
     ensures legal { IfOk result (λ ran. IsLegal N.plans ran.0.past) }
     ensures complete { IfOk result (λ ran. IsComplete N.plans ran.0.past) }
-    ensures looks { IfOk result (λ ran. AreAllLooks N.plans ran.0.past (length watches.items) ran.1.items) }
-    ensures dumps { IfOk result (λ ran. AreAllRead N.plans ran.0.past (streams_of N.plans) ran.2.items) }
+    ensures looks { IfOk result
+        (λ ran. AreAllLooks N.plans ran.0.past (length watches.items) ran.1.items) }
+    ensures dumps { IfOk result
+        (λ ran. AreAllRead N.plans ran.0.past (streams_of N.plans) ran.2.items) }
 {
     let mut clients = clients;
     let mut hall = play_left(rt, hall, words, queues, gate, &mut clients);
@@ -215,8 +217,10 @@ fn run_hall<N: Naming + Send + Sync, H: Hook + Send, G: Gate + Sync, R: Threads 
     ensures base { IfOk result (λ ran. ran.0.base ≡ N.base) }
     ensures legal { IfOk result (λ ran. IsLegal N.plans ran.0.past) }
     ensures complete { IfOk result (λ ran. IsComplete N.plans ran.0.past) }
-    ensures looks { IfOk result (λ ran. AreAllLooks N.plans ran.0.past (length watches.items) ran.1.items) }
-    ensures dumps { IfOk result (λ ran. AreAllRead N.plans ran.0.past (streams_of N.plans) ran.2.items) }
+    ensures looks { IfOk result
+        (λ ran. AreAllLooks N.plans ran.0.past (length watches.items) ran.1.items) }
+    ensures dumps { IfOk result
+        (λ ran. AreAllRead N.plans ran.0.past (streams_of N.plans) ran.2.items) }
 {
     let mut clients = clients;
     let mut watches = watches;
@@ -265,8 +269,10 @@ fn run_named<N: Naming + Send + Sync, H: Hook + Send, G: Gate + Sync, R: Threads
     ensures base { IfOk result (λ ran. ran.0.base ≡ N.base) }
     ensures legal { IfOk result (λ ran. IsLegal N.plans ran.0.past) }
     ensures complete { IfOk result (λ ran. IsComplete N.plans ran.0.past) }
-    ensures looks { IfOk result (λ ran. AreAllLooks N.plans ran.0.past (length views.watches.items) ran.1.items) }
-    ensures dumps { IfOk result (λ ran. AreAllRead N.plans ran.0.past (streams_of N.plans) ran.2.items) }
+    ensures looks { IfOk result
+        (λ ran. AreAllLooks N.plans ran.0.past (length views.watches.items) ran.1.items) }
+    ensures dumps { IfOk result
+        (λ ran. AreAllRead N.plans ran.0.past (streams_of N.plans) ran.2.items) }
 {
     let Parts {
         words,
@@ -313,7 +319,8 @@ pub fn run_threads<H: Hook + Send, G: Gate + Sync, R: Threads + Wait + Sync>(
     ensures legal { IfOk result (λ ran. IsLegal plans ran.0.past) }
     ensures complete { IfOk result (λ ran. IsComplete plans ran.0.past) }
     ensures looks { IfOk result (λ ran. AreAllLooks plans ran.0.past views ran.1.items) }
-    ensures dumps { IfOk result (λ ran. AreAllRead plans ran.0.past (streams_of plans) ran.2.items) }
+    ensures dumps { IfOk result
+        (λ ran. AreAllRead plans ran.0.past (streams_of plans) ran.2.items) }
 {
     let parts = Parts::make(rt, alloc, &plans)?;
     let viewers = Views::make(rt, alloc, views)?;

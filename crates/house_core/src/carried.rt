@@ -33,9 +33,33 @@ impl Model for Carried {
 
     ghost Value = { RunData };
 
-    ghost view = { λ r. record { stream = r.stream; order = r.order; place = r.place; facts = r.facts; entries = r.entries; finished = r.finished; greatest = r.greatest; paused = r.paused; book = r.half.book } };
+    ghost view = { λ r. record {
+      stream = r.stream;
+      order = r.order;
+      place = r.place;
+      facts = r.facts;
+      entries = r.entries;
+      finished = r.finished;
+      greatest = r.greatest;
+      paused = r.paused;
+      book = r.half.book;
+    } };
 
-    ghost invariant = { λ r. (0 < r.order) × IsLawfulFacts r.facts × (r.facts.get ≡ r.entries % r.facts.areas.ring) × (r.half.numbers ≡ carried_numbers (record { stream = r.stream; order = r.order; place = r.place; facts = r.facts; entries = r.entries; finished = r.finished; greatest = r.greatest; paused = r.paused; book = r.half.book })) };
+    ghost invariant = { λ r. (0 < r.order) × IsLawfulFacts r.facts
+        × (r.facts.get ≡ r.entries % r.facts.areas.ring)
+        × (r.half.numbers
+        ≡ carried_numbers
+        (record {
+          stream = r.stream;
+          order = r.order;
+          place = r.place;
+          facts = r.facts;
+          entries = r.entries;
+          finished = r.finished;
+          greatest = r.greatest;
+          paused = r.paused;
+          book = r.half.book;
+        })) };
 }
 
 impl Carried {
@@ -119,7 +143,8 @@ impl Carried {
     ) -> Carried
         requires order { 0 < order }
         requires home { desk.old.out.order ≡ 0 }
-        ensures desk { desk.new ≡ record desk.old { out = record { order = order; paused = false } } }
+        ensures desk { desk.new ≡
+            record desk.old { out = record { order = order; paused = false } } }
         ensures home { desk.old.out ≡ at_home }
         ensures run { result ≡ run_of stream plan.now.areas place put desk.new }
     {
@@ -148,10 +173,13 @@ impl Carried {
         requires agree { Agree self.old desk.old }
         requires areas { self.old.facts.areas ≡ areas_of taken.now }
         requires ready { IsReady taken.now scene.old.sync desk.old.state }
-        ensures executes { IfOk result (Executes taken.now scene.old scene.new desk.old.state desk.new.state) }
-        ensures desk { IfOk result (λ acted. desk.new ≡ stepped_desk desk.new.state acted desk.old) }
+        ensures executes { IfOk result
+            (Executes taken.now scene.old scene.new desk.old.state desk.new.state) }
+        ensures desk { IfOk result
+            (λ acted. desk.new ≡ stepped_desk desk.new.state acted desk.old) }
         ensures run { OnOk result (self.new
-            ≡ run_of self.old.stream (areas_of taken.now) self.old.place self.old.facts.put desk.new) }
+            ≡ run_of self.old.stream
+            (areas_of taken.now) self.old.place self.old.facts.put desk.new) }
         ensures same_scene { OnErr result (scene.new ≡ scene.old) }
         ensures same_desk { OnErr result (desk.new ≡ desk.old) }
         ensures same_run { OnErr result (self.new ≡ self.old) }

@@ -47,9 +47,25 @@ impl Model for Core {
 
     ghost Value = { CoreData };
 
-    ghost view = { λ c. record { plans = c.plans; past = c.journal.events; spare = c.journal.spare; books = books_of c.desks.items; outs = outs_of c.desks.items } };
+    ghost view = { λ c. record {
+      plans = c.plans;
+      past = c.journal.events;
+      spare = c.journal.spare;
+      books = books_of c.desks.items;
+      outs = outs_of c.desks.items;
+    } };
 
-    ghost invariant = { λ c. CoreInvariant record { plans = c.plans; past = c.journal.events; spare = c.journal.spare; owed = c.owed; sync = c.scene.sync; seats = c.scheduler; images = c.scene.images; desks = c.desks.items } };
+    ghost invariant = { λ c. CoreInvariant
+        record {
+          plans = c.plans;
+          past = c.journal.events;
+          spare = c.journal.spare;
+          owed = c.owed;
+          sync = c.scene.sync;
+          seats = c.scheduler;
+          images = c.scene.images;
+          desks = c.desks.items;
+        } };
 }
 
 impl Core {

@@ -41,15 +41,39 @@ impl Model for Desk {
 
     ghost Value = { DeskData };
 
-    ghost view = { λ d. record { book = d.book; places = d.places.items; state = d.state; ordered = d.ordered; finished = d.finished; greatest = d.greatest; lost = d.lost; closed = d.closed; walk = d.walk; out = record { order = d.out; paused = d.paused } } };
+    ghost view = { λ d. record {
+      book = d.book;
+      places = d.places.items;
+      state = d.state;
+      ordered = d.ordered;
+      finished = d.finished;
+      greatest = d.greatest;
+      lost = d.lost;
+      closed = d.closed;
+      walk = d.walk;
+      out = record { order = d.out; paused = d.paused };
+    } };
 
-    ghost invariant = { λ d. AreBooked d.kept d.home record { book = d.book; places = d.places.items; state = d.state; ordered = d.ordered; finished = d.finished; greatest = d.greatest; lost = d.lost; closed = d.closed; walk = d.walk; out = record { order = d.out; paused = d.paused } } };
+    ghost invariant = { λ d. AreBooked d.kept d.home
+        record {
+          book = d.book;
+          places = d.places.items;
+          state = d.state;
+          ordered = d.ordered;
+          finished = d.finished;
+          greatest = d.greatest;
+          lost = d.lost;
+          closed = d.closed;
+          walk = d.walk;
+          out = record { order = d.out; paused = d.paused };
+        } };
 }
 
 // The numbers of a book whose run that is out has this order, or none where it is 0.
 fn numbers(state: &StreamState, finished: u32, greatest: u32, order: u32, paused: bool) -> [u64; 6]
     ensures { result
-        ≡ book_numbers state.now.entries state.now.fetched finished greatest record { order = order; paused = paused } }
+        ≡ book_numbers state.now.entries state.now.fetched finished greatest
+        record { order = order; paused = paused } }
 {
     [
         state.entries(),
@@ -154,7 +178,8 @@ impl Desk {
 
     /// Whether each flush of the stream is ordered and finished.
     pub fn is_all_done(&self) -> bool
-        ensures { result ≡ (self.now.ordered == length self.now.places && self.now.finished == length self.now.places) }
+        ensures { result ≡ (self.now.ordered == length self.now.places
+            && self.now.finished == length self.now.places) }
     {
         let flushes = self.places.len();
         self.ordered as usize == flushes && self.finished as usize == flushes
@@ -168,7 +193,8 @@ impl Desk {
         ensures desk { self.new ≡ record self.old { walk = self.new.walk } }
         ensures walked { HasWalked actions.now self.old.finished self.old.greatest self.new.walk }
         ensures close { IsTrue result
-            ↔ (slice_get actions.now (bound actions.now self.old.finished (self.old.greatest ∷ [])) ≡ Some Close) }
+            ↔ (slice_get actions.now (bound actions.now self.old.finished (self.old.greatest ∷ []))
+            ≡ Some Close) }
     {
         let (finished, greatest) = (self.finished, self.greatest);
         self.walk.comes_to_close(actions, finished, greatest)
@@ -217,7 +243,8 @@ impl Desk {
     pub fn leave(&mut self, order: u32) -> Half
         requires order { 0 < order }
         requires home { self.old.out.order ≡ 0 }
-        ensures desk { self.new ≡ record self.old { out = record { order = order; paused = false } } }
+        ensures desk { self.new ≡
+            record self.old { out = record { order = order; paused = false } } }
         ensures half { result ≡ kept_half self.new }
         ensures home { self.old.out ≡ at_home }
     {
@@ -267,8 +294,10 @@ impl Desk {
         requires book { half.old.book ≡ self.old.book }
         requires out { 0 < self.old.out.order }
         requires ready { IsReady taken.now scene.old.sync self.old.state }
-        ensures executes { IfOk result (Executes taken.now scene.old scene.new self.old.state self.new.state) }
-        ensures desk { IfOk result (λ acted. self.new ≡ stepped_desk self.new.state acted self.old) }
+        ensures executes { IfOk result
+            (Executes taken.now scene.old scene.new self.old.state self.new.state) }
+        ensures desk { IfOk result
+            (λ acted. self.new ≡ stepped_desk self.new.state acted self.old) }
         ensures half { OnOk result (half.new ≡ kept_half self.new) }
         ensures same_scene { OnErr result (scene.new ≡ scene.old) }
         ensures same_desk { OnErr result (self.new ≡ self.old) }

@@ -72,7 +72,8 @@ impl Core {
         requires known { IsKnown (length self.old.plans.plans) stream }
         ensures event { is_open (standing_of self.old.plans self.old.past stream) ≡ true
             → Grows self.old self.new (Lost stream Memory []) }
-        ensures over { is_open (standing_of self.old.plans self.old.past stream) ≡ false → Stays self.old self.new }
+        ensures over { is_open (standing_of self.old.plans self.old.past stream) ≡ false
+            → Stays self.old self.new }
         ensures outs { self.new.outs ≡ self.old.outs }
     {
         if self.is_open(stream) {
@@ -103,7 +104,8 @@ impl Core {
     pub fn close(&mut self, stream: u32) -> Closing
         requires known { IsKnown (length self.old.plans.plans) stream }
         requires closes { is_closed (plan_of self.old.plans stream).actions ≡ true }
-        ensures lost { (result ≡ Closing.Lost) ↔ ((standing_of self.old.plans self.old.past stream).lost ≡ true) }
+        ensures lost { (result ≡ Closing.Lost)
+            ↔ ((standing_of self.old.plans self.old.past stream).lost ≡ true) }
         ensures early { (result ≡ Closing.Early)
             ↔ ((is_open (standing_of self.old.plans self.old.past stream) ≡ true)
             × (MayClose self.old.plans self.old.past stream → ⊥)) }
@@ -111,7 +113,8 @@ impl Core {
             → is_open (standing_of self.old.plans self.old.past stream) ≡ true
             → Grows self.old self.new (Close stream) }
         ensures same { (result ≡ Closing.Closed
-            → is_open (standing_of self.old.plans self.old.past stream) ≡ true → ⊥) → Stays self.old self.new }
+            → is_open (standing_of self.old.plans self.old.past stream) ≡ true → ⊥)
+            → Stays self.old self.new }
         ensures outs { self.new.outs ≡ self.old.outs }
     {
         if self.is_lost(stream) {

@@ -26,7 +26,8 @@ fn rank(priority: Priority) -> u32
 
 /// The rank of each stream, from stream 1 on.
 pub(crate) fn ranks(alloc: Global, plans: &Plans) -> Result<Vec<u32>, Memory>
-    ensures { IfOk result (λ ranks. ranks.items ≡ map (λ (plan : PlanData). rank plan.priority) plans.now.plans) }
+    ensures { IfOk result (λ ranks. ranks.items
+        ≡ map (λ (plan : PlanData). rank plan.priority) plans.now.plans) }
 {
     let count = plans.count();
     let mut ranks = Vec::with_capacity(alloc, count as usize)?;

@@ -21,9 +21,11 @@ impl Core {
     pub fn order(&mut self, stream: u32) -> Result<u32, OrderFault>
         requires known { IsKnown (length self.old.plans.plans) stream }
         requires next { IsSome
-            (slice_get (flush_places (plan_of self.old.plans stream).actions) (known self.old.plans self.old.past stream).ordered) }
+            (slice_get (flush_places (plan_of self.old.plans stream).actions)
+            (known self.old.plans self.old.past stream).ordered) }
         ensures number { IfOk result (λ n. n ≡ drawn self.old.plans self.old.past + 1) }
-        ensures event { IfOk result (λ n. Grows self.old self.new (order_event self.old.plans self.old.past stream)) }
+        ensures event { IfOk result
+            (λ n. Grows self.old self.new (order_event self.old.plans self.old.past stream)) }
         ensures outs { self.new.outs ≡ self.old.outs }
         ensures lost { IsErrOf result OrderFault.Lost
             ↔ ((standing_of self.old.plans self.old.past stream).lost ≡ true) }

@@ -28,9 +28,11 @@ impl Core {
         ensures going { IfSome result (λ run. run.paused ≡ false) }
         ensures home { IfSome result (λ run. out_at self.old.outs run.stream ≡ at_home) }
         ensures outs { IfSome result
-            (λ run. self.new.outs ≡ with_out self.old.outs run.stream record { order = run.order; paused = false }) }
+            (λ run. self.new.outs ≡ with_out self.old.outs run.stream
+            record { order = run.order; paused = false }) }
         ensures out { IfSome result
-            (λ run. out_at self.new.outs run.stream ≡ record { order = run.order; paused = false }) }
+            (λ run. out_at self.new.outs run.stream
+            ≡ record { order = run.order; paused = false }) }
     {
         let Core {
             plans,
@@ -59,11 +61,13 @@ impl Core {
         requires book { run.old.book ≡ book_at self.old.books run.old.stream }
         ensures core { self.new ≡ self.old }
         ensures run { run.new ≡ run.old }
-        ensures out { out_at self.old.outs run.old.stream ≡ record { order = run.old.order; paused = run.old.paused } }
+        ensures out { out_at self.old.outs run.old.stream
+            ≡ record { order = run.old.order; paused = run.old.paused } }
         ensures positive { 0 < run.old.order }
         ensures shows { is_open (standing_of self.old.plans self.old.past run.old.stream) ≡ true
             → IsRunOf self.old.plans self.old.past run.old }
-        ensures runs { MayGoOn self.old.plans self.old.past run.old.stream run.old.order run.old.paused }
+        ensures runs { MayGoOn self.old.plans self.old.past run.old.stream run.old.order
+            run.old.paused }
         ensures lawful { AreLawfulPlans self.old.plans }
         ensures legal { IsLegal self.old.plans self.old.past }
     {
@@ -78,7 +82,8 @@ impl Core {
         ensures same { Waits self.old self.new }
         ensures outs { self.new.outs ≡ with_out self.old.outs run.stream at_home }
         ensures spare { self.old.spare ≤ self.new.spare }
-        ensures out { out_at self.old.outs run.stream ≡ record { order = run.order; paused = run.paused } }
+        ensures out { out_at self.old.outs run.stream
+            ≡ record { order = run.order; paused = run.paused } }
         ensures shows { is_open (standing_of self.old.plans self.old.past run.stream) ≡ true
             → IsRunOf self.old.plans self.old.past run }
     {
@@ -99,7 +104,8 @@ impl Core {
         requires book { run.book ≡ book_at self.old.books run.stream }
         requires going { run.paused ≡ false }
         requires end { run.facts.get ≡ run.facts.put }
-        requires out { out_at self.old.outs run.stream ≡ record { order = run.order; paused = run.paused } }
+        requires out { out_at self.old.outs run.stream
+            ≡ record { order = run.order; paused = run.paused } }
         requires open { is_open (standing_of self.old.plans self.old.past run.stream) ≡ true }
         requires shows { IsRunOf self.old.plans self.old.past run }
         ensures event { Grows self.old self.new (Finish run.stream run.order) }
@@ -132,9 +138,11 @@ impl Core {
         requires end { run.facts.get ≡ run.facts.put }
         ensures event { is_open (standing_of self.old.plans self.old.past run.stream) ≡ true
             → Grows self.old self.new (Finish run.stream run.order) }
-        ensures over { is_open (standing_of self.old.plans self.old.past run.stream) ≡ false → Waits self.old self.new }
+        ensures over { is_open (standing_of self.old.plans self.old.past run.stream) ≡ false
+            → Waits self.old self.new }
         ensures outs { self.new.outs ≡ with_out self.old.outs run.stream at_home }
-        ensures out { out_at self.old.outs run.stream ≡ record { order = run.order; paused = false } }
+        ensures out { out_at self.old.outs run.stream
+            ≡ record { order = run.order; paused = false } }
         ensures shows { is_open (standing_of self.old.plans self.old.past run.stream) ≡ true
             → IsRunOf self.old.plans self.old.past run }
     {
@@ -153,9 +161,11 @@ impl Core {
         requires book { run.book ≡ book_at self.old.books run.stream }
         ensures event { is_open (standing_of self.old.plans self.old.past run.stream) ≡ true
             → Grows self.old self.new (Lost run.stream Memory []) }
-        ensures over { is_open (standing_of self.old.plans self.old.past run.stream) ≡ false → Waits self.old self.new }
+        ensures over { is_open (standing_of self.old.plans self.old.past run.stream) ≡ false
+            → Waits self.old self.new }
         ensures outs { self.new.outs ≡ with_out self.old.outs run.stream at_home }
-        ensures out { out_at self.old.outs run.stream ≡ record { order = run.order; paused = run.paused } }
+        ensures out { out_at self.old.outs run.stream
+            ≡ record { order = run.order; paused = run.paused } }
         ensures shows { is_open (standing_of self.old.plans self.old.past run.stream) ≡ true
             → IsRunOf self.old.plans self.old.past run }
     {

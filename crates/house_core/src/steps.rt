@@ -37,7 +37,8 @@ impl Core {
     fn judge(&self, stream: u32, fetched: &Fetched) -> Result<Command, CmdError>
         requires known { IsKnown (length self.now.plans.plans) stream }
         requires facts { fetched.now.facts ≡ facts_at self.now.plans self.now.past stream }
-        ensures verdict { result ≡ verdict_at self.now.plans self.now.past stream fetched.now.words }
+        ensures verdict { result
+            ≡ verdict_at self.now.plans self.now.past stream fetched.now.words }
     {
         let command = fetched.verdict()?;
         self.stream(stream).check(&command)?;
@@ -53,11 +54,13 @@ impl Core {
     ) -> Result<Acted, Memory>
         requires plan { IsOfPlans self.old.plans run.old }
         requires book { run.old.book ≡ book_at self.old.books run.old.stream }
-        requires out { out_at self.old.outs run.old.stream ≡ record { order = run.old.order; paused = false } }
+        requires out { out_at self.old.outs run.old.stream
+            ≡ record { order = run.old.order; paused = false } }
         requires going { run.old.paused ≡ false }
         requires shows { IsRunOf self.old.plans self.old.past run.old }
         requires obeys { Obeys self.old.plans self.old.past (Step run.old.stream words) }
-        requires command { verdict_at self.old.plans self.old.past run.old.stream words ≡ Ok command.now }
+        requires command { verdict_at self.old.plans self.old.past run.old.stream words
+            ≡ Ok command.now }
         ensures stepped { IfOk result (HasStepped self.old self.new run.old run.new words) }
         ensures err { OnErr result (Stays self.old self.new) }
         ensures same { OnErr result (run.new ≡ run.old) }
@@ -90,7 +93,8 @@ impl Core {
         requires facts { fetched.facts ≡ run.old.facts }
         requires may { All (MayHavePut self.old.plans run.old) fetched.words }
         ensures steps { IfOk result (Steps self.old self.new run.old run.new fetched.words) }
-        ensures out { out_at self.old.outs run.old.stream ≡ record { order = run.old.order; paused = false } }
+        ensures out { out_at self.old.outs run.old.stream
+            ≡ record { order = run.old.order; paused = false } }
         ensures shows { is_open (standing_of self.old.plans self.old.past run.old.stream) ≡ true
             → IsRunOf self.old.plans self.old.past run.old }
         ensures err { OnErr result (Stays self.old self.new) }

@@ -13,7 +13,8 @@ use std::alloc::Global;
 fn set_end(ends: &mut [End], stream: u32, end: End)
     ensures len { length ends.new ≡ length ends.old }
     ensures each { (k : ℕ) → k < length ends.old
-        → slice_index_or ends.new k Done ≡ (if stream == k + 1 then end else slice_index_or ends.old k Done) }
+        → slice_index_or ends.new k Done
+        ≡ (if stream == k + 1 then end else slice_index_or ends.old k Done) }
 {
     let place = stream as usize;
     if place == 0 || place > ends.len() {
@@ -26,7 +27,8 @@ fn set_end(ends: &mut [End], stream: u32, end: End)
 fn note(ends: &mut [End], event: &Event)
     ensures len { length ends.new ≡ length ends.old }
     ensures each { (k : ℕ) → k < length ends.old
-        → slice_index_or ends.new k Done ≡ end_after event.now (k + 1) (slice_index_or ends.old k Done) }
+        → slice_index_or ends.new k Done
+        ≡ end_after event.now (k + 1) (slice_index_or ends.old k Done) }
 {
     match event {
         Event::Lost { stream, why, .. } => set_end(ends, *stream, End::Lost(*why)),
@@ -38,7 +40,8 @@ fn note(ends: &mut [End], event: &Event)
 /// How each of so many streams ended, in one walk over the events from the oldest on.
 #[tactic(auto)]
 pub(crate) fn ends_of(alloc: Global, count: u32, events: &[Event]) -> Result<Vec<End>, Memory>
-    ensures { IfOk result (λ ends. ends.items ≡ map (end_of (reverse events.now)) (range_with_len 1 count)) }
+    ensures { IfOk result (λ ends. ends.items
+        ≡ map (end_of (reverse events.now)) (range_with_len 1 count)) }
 {
     let mut ends = vec![in alloc; End::Done; count as usize]?;
     for event in events {

@@ -12,7 +12,8 @@ pub(crate) struct ImageLines<'a> {
     images: &'a Images,
     image: u32,
     height: u32,
-    ghost there: { option_map (λ picture. picture.height) (picture_of images.now image) ≡ Some height },
+    ghost there: { option_map (λ picture. picture.height) (picture_of images.now image)
+        ≡ Some height },
     ghost small: { height < 2 ^ 32 },
 }
 

@@ -31,7 +31,8 @@ fn give<K: Sink>(gathered: &mut Vec<u8>, sink: &mut K) -> Result<(), Failed>
 // Gives a line to the sink, behind all that is gathered.
 #[tactic(auto, using(crate::proofs::Pieces::puts_behind, crate::proofs::Pieces::failed_before))]
 fn pass<K: Sink>(gathered: &mut Vec<u8>, line: &[u8], sink: &mut K) -> Result<(), Failed>
-    ensures puts { Puts K.written K.faults sink.old gathered.old.items sink.new gathered.new.items result
+    ensures puts { Puts K.written K.faults sink.old gathered.old.items sink.new
+        gathered.new.items result
         line.now }
     ensures room { vec_capacity gathered.old ≤ vec_capacity gathered.new }
 {
@@ -51,7 +52,8 @@ fn gather<K: Sink>(
     sink: &mut K,
 ) -> Result<(), Failed>
     requires { limit ≤ vec_capacity gathered.old }
-    ensures puts { Puts K.written K.faults sink.old gathered.old.items sink.new gathered.new.items result
+    ensures puts { Puts K.written K.faults sink.old gathered.old.items sink.new
+        gathered.new.items result
         line.now }
     ensures below { length gathered.old.items + length line.now < limit → sink.new ≡ sink.old }
     ensures room { vec_capacity gathered.old ≤ vec_capacity gathered.new }
@@ -119,9 +121,11 @@ impl Page {
     ) -> Result<(), Failed>
         requires fits { L.fits lines.now }
         requires within { index < length (L.lines lines.now) }
-        ensures puts { Puts K.written K.faults sink.old self.old.gathered sink.new self.new.gathered result
+        ensures puts { Puts K.written K.faults sink.old self.old.gathered sink.new
+            self.new.gathered result
             (slice_index_or (L.lines lines.now) index []) }
-        ensures below { length self.old.gathered + length (slice_index_or (L.lines lines.now) index []) < self.old.limit
+        ensures below { length self.old.gathered + length
+            (slice_index_or (L.lines lines.now) index []) < self.old.limit
             → sink.new ≡ sink.old }
         ensures limit { self.new.limit ≡ self.old.limit }
     {
@@ -131,9 +135,11 @@ impl Page {
 
     /// Puts a text behind the lines that are gathered.
     pub(crate) fn put_text<K: Sink>(&mut self, sink: &mut K, text: &[u8]) -> Result<(), Failed>
-        ensures puts { Puts K.written K.faults sink.old self.old.gathered sink.new self.new.gathered result
+        ensures puts { Puts K.written K.faults sink.old self.old.gathered sink.new
+            self.new.gathered result
             text.now }
-        ensures below { length self.old.gathered + length text.now < self.old.limit → sink.new ≡ sink.old }
+        ensures below { length self.old.gathered + length text.now < self.old.limit
+            → sink.new ≡ sink.old }
         ensures limit { self.new.limit ≡ self.old.limit }
     {
         gather(&mut self.gathered, text, self.limit, sink)
@@ -146,7 +152,8 @@ impl Page {
         lines: &L,
     ) -> Result<(), Failed>
         requires { L.fits lines.now }
-        ensures puts { Puts K.written K.faults sink.old self.old.gathered sink.new self.new.gathered result
+        ensures puts { Puts K.written K.faults sink.old self.old.gathered sink.new
+            self.new.gathered result
             (concat (L.lines lines.now)) }
         ensures limit { self.new.limit ≡ self.old.limit }
     {

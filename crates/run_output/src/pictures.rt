@@ -32,7 +32,8 @@ fn write_pictures<K: Sink>(
     images: &Images,
 ) -> Result<(), Failed>
     requires { page.old.gathered ≡ [] }
-    ensures { Adds K.written K.faults sink.old sink.new result (head.now ++ picture_text images.now) }
+    ensures { Adds K.written K.faults sink.old sink.new result
+        (head.now ++ picture_text images.now) }
 {
     put_pictures(page, sink, head, images)?;
     page.give(sink)

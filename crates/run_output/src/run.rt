@@ -20,7 +20,8 @@ use std::marker::Model;
 
 // How each stream of a run ended.
 fn ends_in(alloc: Global, report: &Report) -> Result<Vec<End>, Memory>
-    ensures { IfOk result (λ ends. ends.items ≡ map (end_of report.now.past) (streams_of report.now.plans)) }
+    ensures { IfOk result (λ ends. ends.items
+        ≡ map (end_of report.now.past) (streams_of report.now.plans)) }
 {
     let count = report.plans().count();
     ends_of(alloc, count, report.journal().events())
@@ -52,9 +53,14 @@ impl Model for RunOutput {
 
     ghost Value = { RunData };
 
-    ghost view = { λ run. record { report = run.report; dumps = run.dumps.items; looks = run.looks.items } };
+    ghost view = { λ run. record {
+      report = run.report;
+      dumps = run.dumps.items;
+      looks = run.looks.items;
+    } };
 
-    ghost invariant = { λ run. IsReady (record { report = run.report; dumps = run.dumps.items; looks = run.looks.items })
+    ghost invariant = { λ run. IsReady
+        (record { report = run.report; dumps = run.dumps.items; looks = run.looks.items })
         run.ends.items run.page };
 }
 

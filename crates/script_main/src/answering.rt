@@ -28,7 +28,8 @@ use wait_hooks::Hook;
 #[tactic(auto, using(run_output::proofs::Texts::serial_text, run_output::proofs::Texts::length_all_dumps))]
 fn run_plans<H: Hook>(alloc: Global, plans: Plans, hook: H) -> Result<RunOutput, Memory>
     ensures { IfOk result (λ run.
-        IsOutput IsSerialRun plans (H.base hook) (run_ending (reverse run.report.past)) (run_text run)) }
+        IsOutput IsSerialRun plans (H.base hook) (run_ending (reverse run.report.past))
+        (run_text run)) }
 {
     plans_are_lawful(&plans);
     serial_history_is_legal_and_complete();

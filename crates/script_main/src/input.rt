@@ -25,7 +25,8 @@ pub(crate) fn take_input<S: Source>(
     ensures too_long { IsErrOf result ReadError.TooLong
         → ReadsMoreThan most_bytes (S.left source.old) (S.left source.new) }
     ensures told_long { IsErrOf result ReadError.TooLong
-        → IfSome (held (reads (Some command)) (S.left source.old)) (λ text. most_bytes < length text) }
+        → IfSome (held (reads (Some command)) (S.left source.old))
+        (λ text. most_bytes < length text) }
 
     ensures reading { IsErrOf result ReadError.Fault → reads (Some command) ≡ true }
     ensures fault { IsErrOf result ReadError.Fault

@@ -34,7 +34,8 @@ fn run_plans<H: Hook + Send, G: Gate + Sync, R: Threads + Wait + Sync>(
 ) -> Result<RunOutput, Memory>
     requires { views ≤ 4 }
     ensures { IfOk result (λ run.
-        IsOutput (IsViewedRun views) plans (H.base hook) (run_ending (reverse run.report.past)) (run_text run)) }
+        IsOutput (IsViewedRun views) plans (H.base hook) (run_ending (reverse run.report.past))
+        (run_text run)) }
 {
     let (report, looks, dumps) = run_threads(rt, alloc, plans, workers, views, hook, gate)?;
     RunOutput::make(alloc, report, dumps, looks)
@@ -53,7 +54,8 @@ fn run_answer<H: Hook + Send, G: Gate + Sync, R: Threads + Wait + Sync>(
     requires short { length input.now ≤ most_bytes }
     requires views { views ≤ 4 }
     ensures { IfOk result (λ answer.
-        Says (RunOnThreads workers views) (H.base hook) input.now (answer_ending answer) (answer_text answer)) }
+        Says (RunOnThreads workers views) (H.base hook) input.now (answer_ending answer)
+        (answer_text answer)) }
 {
     match parse(alloc, input) {
         Ok(plans) => Ok(Answer::Ran(run_plans(rt, alloc, plans, workers, views, gate, hook)?)),

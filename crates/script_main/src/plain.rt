@@ -45,7 +45,8 @@ pub fn plain_top<S: Source, K: Sink, H: Hook>(
     ensures front { result ≡ Status.WriteFault
         → HasBegun (command_of (map string_bytes words.now)) (H.base hook)
         (S.left source.old) (S.left source.new) (K.written sink.old) (K.written sink.new) }
-    ensures write_fault { result ≡ Status.WriteFault → HasRisen (K.faults sink.old) (K.faults sink.new) }
+    ensures write_fault { result ≡ Status.WriteFault
+        → HasRisen (K.faults sink.old) (K.faults sink.new) }
 
     // Every other answer leaves the sink alone.
     ensures nothing { writes result ≡ false → result ≢ Status.WriteFault → sink.new ≡ sink.old }

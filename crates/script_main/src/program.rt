@@ -46,7 +46,8 @@ pub fn top<S: Source, K: Sink, G: Gate + Sync, H: Hook + Send, R: Threads + Wait
     ensures front { result ≡ Status.WriteFault
         → HasBegun (command_of (map string_bytes words.now)) (H.base hook)
         (S.left source.old) (S.left source.new) (K.written sink.old) (K.written sink.new) }
-    ensures write_fault { result ≡ Status.WriteFault → HasRisen (K.faults sink.old) (K.faults sink.new) }
+    ensures write_fault { result ≡ Status.WriteFault
+        → HasRisen (K.faults sink.old) (K.faults sink.new) }
 
     // Every other answer leaves the sink alone.
     ensures nothing { writes result ≡ false → result ≢ Status.WriteFault → sink.new ≡ sink.old }

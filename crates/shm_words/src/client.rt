@@ -57,7 +57,12 @@ impl Model for ClientPass {
 
     ghost Value = { ClientData };
 
-    ghost view = { λ c. record { table = c.seat.table_id; plan = c.plan; done = c.done; loads = (client_of c.seat.me.0).loads } };
+    ghost view = { λ c. record {
+      table = c.seat.table_id;
+      plan = c.plan;
+      done = c.done;
+      loads = (client_of c.seat.me.0).loads;
+    } };
 
     ghost invariant = { λ c. ClientKeeps c.plan c.done c.flushes c.seat.table_id c.seat.me };
 }
@@ -92,7 +97,8 @@ impl ClientPass {
     fn load_finish(&mut self, words: &SharedWords) -> bool
         requires table { words.now ≡ self.old.table }
         requires next { IsAtAwait self.old }
-        ensures { (finished : ℕ) × (result ≡ nat_le (flushes_before self.old) finished) × (self.new ≡ with_load result 1 finished self.old) }
+        ensures { (finished : ℕ) × (result ≡ nat_le (flushes_before self.old) finished)
+            × (self.new ≡ with_load result 1 finished self.old) }
     {
         let shared = &words.table.shared;
         let finished = shared.load::<LoadsFinish>(&mut self.seat, 1);
@@ -107,7 +113,8 @@ impl ClientPass {
     fn load_token(&mut self, words: &SharedWords, token: u32) -> bool
         requires table { words.now ≡ self.old.table }
         requires next { next_action self.old ≡ Some (Token token) }
-        ensures { (greatest : ℕ) × (result ≡ nat_le token greatest) × (self.new ≡ with_load result 2 greatest self.old) }
+        ensures { (greatest : ℕ) × (result ≡ nat_le token greatest)
+            × (self.new ≡ with_load result 2 greatest self.old) }
     {
         let shared = &words.table.shared;
         let greatest = shared.load::<LoadsToken>(&mut self.seat, 2);

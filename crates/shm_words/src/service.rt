@@ -28,7 +28,14 @@ impl Model for ServicePass {
 
     ghost Value = { ServiceData };
 
-    ghost view = { λ p. record { table = p.seat.table_id; plan = (service_of p.seat.me.0).plan; fetched = (service_of p.seat.me.0).fetched; finished = p.finished; greatest = p.greatest; met = (service_of p.seat.me.0).met } };
+    ghost view = { λ p. record {
+      table = p.seat.table_id;
+      plan = (service_of p.seat.me.0).plan;
+      fetched = (service_of p.seat.me.0).fetched;
+      finished = p.finished;
+      greatest = p.greatest;
+      met = (service_of p.seat.me.0).met;
+    } };
 
     ghost invariant = { λ p. ServiceKeeps p.finished p.greatest p.seat.table_id p.seat.me };
 }
@@ -67,7 +74,8 @@ impl ServicePass {
         requires table { words.now ≡ self.old.table }
         requires place { place < places_of self.old.plan.areas }
 
-        ensures grows { self.new ≡ record self.old { fetched = self.old.fetched ++ (place, result) ∷ [] } }
+        ensures grows { self.new
+            ≡ record self.old { fetched = self.old.fetched ++ (place, result) ∷ [] } }
         ensures may { MayHold self.old.plan.actions self.old.met (reach self.old) place result }
     {
         let shared = &words.table.shared;

@@ -88,7 +88,8 @@ fn accept(
 impl Play {
     /// The streams of the script, each with a number.
     pub fn make(rt: &impl Abort, alloc: Global) -> Result<Play, Fail>
-        ensures waits { IfOk result (λ play. length play.scene.sync.streams ≡ length play.plans.plans) }
+        ensures waits { IfOk result
+            (λ play. length play.scene.sync.streams ≡ length play.plans.plans) }
     {
         let plans = parse(alloc, SCRIPT).ok().ok_or("a script")?;
         assert!(rt; plans.count() == 2);

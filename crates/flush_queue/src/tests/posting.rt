@@ -262,11 +262,14 @@ fn hand_over<R: Threads + Wait + Sync>(
     thread::join(
         rt,
         move ||
-            requires { (words.now ≡ client.table) × (queue.now ≡ poster.queue) × HasPostedAll client poster }
+            requires { (words.now ≡ client.table) × (queue.now ≡ poster.queue)
+                × HasPostedAll client poster }
         { post_all(rt, words, queue, client, poster) },
         move ||
-            requires { (words.now ≡ service.table) × (0 < places_of service.plan.areas) × (queue.now ≡ taker.queue) × (taker.words ≡ service.table) }
-            ensures { (result.1.count ≡ taker.count + result.0) × (queue.entry.now ≡ result.1.queue) }
+            requires { (words.now ≡ service.table) × (0 < places_of service.plan.areas)
+                × (queue.now ≡ taker.queue) × (taker.words ≡ service.table) }
+            ensures { (result.1.count ≡ taker.count + result.0)
+                × (queue.entry.now ≡ result.1.queue) }
         { take_all(rt, words, queue, service, taker) },
     )
 }

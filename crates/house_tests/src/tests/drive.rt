@@ -46,11 +46,15 @@ pub fn order<N: Naming, P: ServiceSide, H: Hook>(
     requires one { length N.plans.plans ≡ 1 }
     requires home { IsHome P.belongs P.note_belongs P.results_belong words.now house.old }
     requires next { ordered N.plans house.old.core.past < flushes (plan_of N.plans 1).actions }
-    requires mark { P.mark note ≡ mark_of (plan_of N.plans 1) (ordered N.plans house.old.core.past) }
-    requires belongs { IfSome (slot_at house.old.slots 1).side (λ side. P.note_belongs side words.now note) }
+    requires mark { P.mark note
+        ≡ mark_of (plan_of N.plans 1) (ordered N.plans house.old.core.past) }
+    requires belongs { IfSome (slot_at house.old.slots 1).side
+        (λ side. P.note_belongs side words.now note) }
     requires table { P.note_of note (table_at N.words 1) }
-    ensures home { OnOk result (IsHome P.belongs P.note_belongs P.results_belong words.now house.new) }
-    ensures ordered { OnOk result (ordered N.plans house.new.core.past ≡ ordered N.plans house.old.core.past + 1) }
+    ensures home { OnOk result
+        (IsHome P.belongs P.note_belongs P.results_belong words.now house.new) }
+    ensures ordered { OnOk result
+        (ordered N.plans house.new.core.past ≡ ordered N.plans house.old.core.past + 1) }
 {
     let _ = words;
     match house.order(1, note) {
@@ -69,7 +73,8 @@ fn turn<N: Naming, P: ServiceSide, H: Hook>(
     ensures left { IfOk result (λ left. MatchOption left
         (IsHome P.belongs P.note_belongs P.results_belong words.now house.new)
         (IsOut P.belongs P.note_belongs P.results_belong P.side words.now house.new)) }
-    ensures ordered { OnOk result (ordered N.plans house.new.core.past ≡ ordered N.plans house.old.core.past) }
+    ensures ordered { OnOk result
+        (ordered N.plans house.new.core.past ≡ ordered N.plans house.old.core.past) }
 {
     if run.at_end() {
         house.finish(run, words);
@@ -98,7 +103,8 @@ fn turn_batch<N: Naming, P: ServiceSide, H: Hook>(
     ensures left { IfOk result (λ left. MatchOption left
         (IsHome P.belongs P.note_belongs P.results_belong words.now house.new)
         (IsOut P.belongs P.note_belongs P.results_belong P.side words.now house.new)) }
-    ensures ordered { OnOk result (ordered N.plans house.new.core.past ≡ ordered N.plans house.old.core.past) }
+    ensures ordered { OnOk result
+        (ordered N.plans house.new.core.past ≡ ordered N.plans house.old.core.past) }
 {
     if run.at_end() {
         house.finish(run, words);
@@ -128,7 +134,8 @@ fn turn_by<N: Naming, P: ServiceSide, H: Hook>(
     ensures left { IfOk result (λ left. MatchOption left
         (IsHome P.belongs P.note_belongs P.results_belong words.now house.new)
         (IsOut P.belongs P.note_belongs P.results_belong P.side words.now house.new)) }
-    ensures ordered { OnOk result (ordered N.plans house.new.core.past ≡ ordered N.plans house.old.core.past) }
+    ensures ordered { OnOk result
+        (ordered N.plans house.new.core.past ≡ ordered N.plans house.old.core.past) }
 {
     match pace {
         Pace::Single => turn(house, words, run),
@@ -144,8 +151,10 @@ fn run_out<N: Naming, P: ServiceSide, H: Hook>(
     pace: &mut Pace,
 ) -> Result<(), Fail>
     requires { IsOut P.belongs P.note_belongs P.results_belong P.side words.now house.old run }
-    ensures home { OnOk result (IsHome P.belongs P.note_belongs P.results_belong words.now house.new) }
-    ensures ordered { OnOk result (ordered N.plans house.new.core.past ≡ ordered N.plans house.old.core.past) }
+    ensures home { OnOk result
+        (IsHome P.belongs P.note_belongs P.results_belong words.now house.new) }
+    ensures ordered { OnOk result
+        (ordered N.plans house.new.core.past ≡ ordered N.plans house.old.core.past) }
 {
     let mut out = run;
     for _turn in 0..MOST_TURNS {
@@ -165,8 +174,10 @@ pub fn run<N: Naming, P: ServiceSide, H: Hook>(
     pace: &mut Pace,
 ) -> Result<bool, Fail>
     requires { IsHome P.belongs P.note_belongs P.results_belong words.now house.old }
-    ensures home { OnOk result (IsHome P.belongs P.note_belongs P.results_belong words.now house.new) }
-    ensures ordered { OnOk result (ordered N.plans house.new.core.past ≡ ordered N.plans house.old.core.past) }
+    ensures home { OnOk result
+        (IsHome P.belongs P.note_belongs P.results_belong words.now house.new) }
+    ensures ordered { OnOk result
+        (ordered N.plans house.new.core.past ≡ ordered N.plans house.old.core.past) }
 {
     let run = match house.take() {
         Some(run) => run,

@@ -196,8 +196,10 @@ fn order<N: Naming, P: ServiceSide, H: Hook>(
     note: P::Note,
 ) -> Result<(), Fail>
     requires known { IsKnown (length N.plans.plans) stream }
-    requires next { (known N.plans house.old.core.past stream).ordered < flushes (plan_of N.plans stream).actions }
-    requires note { P.mark note ≡ mark_of (plan_of N.plans stream) (known N.plans house.old.core.past stream).ordered }
+    requires next { (known N.plans house.old.core.past stream).ordered
+        < flushes (plan_of N.plans stream).actions }
+    requires note { P.mark note
+        ≡ mark_of (plan_of N.plans stream) (known N.plans house.old.core.past stream).ordered }
     requires table { P.note_of note (table_at N.words stream) }
     ensures event { OnOk result (house.new.core.past
         ≡ order_event N.plans house.old.core.past stream ∷ house.old.core.past) }
@@ -237,7 +239,8 @@ fn open<N: Naming, P: ServiceSide>(
     requires belongs { P.belongs second.side words.now }
     requires note { P.note_belongs second.side words.now second.note }
     requires results { P.results_belong words.now second.results }
-    ensures home { IfOk result (λ house. SecondIsHome P.belongs P.note_belongs P.results_belong words.now house) }
+    ensures home { IfOk result
+        (λ house. SecondIsHome P.belongs P.note_belongs P.results_belong words.now house) }
 {
     let _ = words;
     let mut sides = Vec::new(alloc);
@@ -268,7 +271,8 @@ fn lose_run<N: Naming, P: ServiceSide, H: Hook>(
     words: &P::Words,
 ) -> Result<(), Fail>
     requires { SecondIsHome P.belongs P.note_belongs P.results_belong words.now house.old }
-    ensures { OnOk result (SecondIsHome P.belongs P.note_belongs P.results_belong words.now house.new) }
+    ensures { OnOk result (SecondIsHome P.belongs P.note_belongs P.results_belong
+        words.now house.new) }
 {
     let _ = words;
     let run = match house.take() {
@@ -352,7 +356,8 @@ where
     requires reader { P.reader_belongs words.now reader }
     requires two { length N.plans.plans ≡ 2 }
     requires home { SecondIsHome P.belongs P.note_belongs P.results_belong words.now house.old }
-    ensures home { OnOk result (SecondIsHome P.belongs P.note_belongs P.results_belong words.now house.new) }
+    ensures home { OnOk result
+        (SecondIsHome P.belongs P.note_belongs P.results_belong words.now house.new) }
 {
     match before {
         Before::LoseRun => lose_run(house, words),

@@ -58,7 +58,8 @@ pub fn open<N: Naming, P: ServiceSide>(
     requires results { P.results_belong words.now results }
     ensures past { IfOk result (λ house. house.core.past ≡ []) }
     ensures slots { IfOk result (λ house. house.slots ≡ fresh_slots (side ∷ [])) }
-    ensures home { IfOk result (λ house. IsHome P.belongs P.note_belongs P.results_belong words.now house) }
+    ensures home { IfOk result
+        (λ house. IsHome P.belongs P.note_belongs P.results_belong words.now house) }
 {
     let _ = words;
     let mut sides = Vec::new(alloc);
