@@ -58,8 +58,10 @@ pub(crate) fn cut(book: &Book, mut full: Holder) -> (Holder, Holder)
     requires full { IsFull full.me }
 
     ensures halves { IsHalf (Some result.0) × IsHalf (Some result.1) }
-    ensures kept { half_of (Some result.0) ≡ record { book = book.now; numbers = numbers_of full.me.0 } }
-    ensures out { half_of (Some result.1) ≡ record { book = book.now; numbers = numbers_of full.me.0 } }
+    ensures kept { half_of (Some result.0)
+        ≡ record { book = book.now; numbers = numbers_of full.me.0 } }
+    ensures out { half_of (Some result.1)
+        ≡ record { book = book.now; numbers = numbers_of full.me.0 } }
 {
     let other = book.table.shared.split_seat::<Halves>(&mut full);
     (full, other)

@@ -29,7 +29,8 @@ fn checked(ring_words: usize, command: Command, facts: &StreamFacts) -> Result<D
     ensures none { IfOk result (λ found. found.count ≡ 0 → found.from ≡ 0) }
     ensures transfer { IfOk result (λ found. 0 < found.count → facts.now.areas.ring ≤ found.from) }
     ensures places { IfOk result (λ found. found.from + found.count ≤ places_of facts.now.areas) }
-    ensures quota { IfOk result (λ found. facts.now.fetched + ring_words + found.count ≤ most_fetched) }
+    ensures quota { IfOk result
+        (λ found. facts.now.fetched + ring_words + found.count ≤ most_fetched) }
 {
     if !command.has_format() || !command.has_slot() {
         return Err(CmdError::InvalidArguments);
@@ -64,7 +65,8 @@ pub fn decode(words: &[u32], facts: &StreamFacts) -> Result<Decoded, CmdError>
     ensures none { IfOk result (λ found. found.count ≡ 0 → found.from ≡ 0) }
     ensures transfer { IfOk result (λ found. 0 < found.count → facts.now.areas.ring ≤ found.from) }
     ensures places { IfOk result (λ found. found.from + found.count ≤ places_of facts.now.areas) }
-    ensures quota { IfOk result (λ found. facts.now.fetched + length words.now + found.count ≤ most_fetched) }
+    ensures quota { IfOk result
+        (λ found. facts.now.fetched + length words.now + found.count ≤ most_fetched) }
 {
     let command = table::command(split(words[0]).id, words);
     checked(words.len(), command, facts)

@@ -28,7 +28,8 @@ pub fn head(entry: u32, facts: &StreamFacts) -> Result<Shape, CmdError>
     requires more { facts.now.get ≢ facts.now.put }
 
     ensures verdict { result ≡ headed entry facts.now }
-    ensures header { IfOk result (λ shape. (shape.id ≡ id_of entry) × (shape.size ≡ size_of entry)) }
+    ensures header { IfOk result
+        (λ shape. (shape.id ≡ id_of entry) × (shape.size ≡ size_of entry)) }
     ensures some { IfOk result (λ shape. 1 ≤ shape.ring_words) }
     ensures fetched { IfOk result (λ shape. shape.ring_words ≤ shape.size) }
     ensures room { IfOk result (λ shape. shape.size ≤ room facts.now) }

@@ -26,7 +26,12 @@ impl Model for MemorySink {
 
     ghost Value = { MemorySinkData };
 
-    ghost view = { λ s. record { written = s.bytes; piece = s.piece; calls = s.calls; faults = s.faults } };
+    ghost view = { λ s. record {
+      written = s.bytes;
+      piece = s.piece;
+      calls = s.calls;
+      faults = s.faults;
+    } };
 
     ghost invariant = { λ s. 0 < s.piece };
 }

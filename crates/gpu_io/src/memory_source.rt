@@ -24,7 +24,12 @@ impl Model for MemorySource {
 
     ghost Value = { MemorySourceData };
 
-    ghost view = { λ s. record { left = s.bytes; piece = s.piece; calls = s.calls; faults = s.faults } };
+    ghost view = { λ s. record {
+      left = s.bytes;
+      piece = s.piece;
+      calls = s.calls;
+      faults = s.faults;
+    } };
 
     ghost invariant = { λ s. 0 < s.piece };
 }

@@ -78,12 +78,14 @@ pub fn read_within<S: Source>(
     ensures later { S.faults source.old ≤ S.faults source.new }
     // No read failed before the end, nor before a byte past the limit.
     ensures faultless { OnOk result (S.faults source.new ≡ S.faults source.old) }
-    ensures unfailed { IsErrOf result ReadError.TooLong → S.faults source.new ≡ S.faults source.old }
+    ensures unfailed { IsErrOf result ReadError.TooLong
+        → S.faults source.new ≡ S.faults source.old }
 
     // Where the bytes are told and no fault rose, they are read exactly where they are within the limit.
     ensures complete { (text : List ℕ) → S.left source.old ≡ Some text
         → ¬ HasRisen (S.faults source.old) (S.faults source.new)
-        → MatchResult result (λ _. length text ≤ most) (λ error. IsExcused error most (length text)) }
+        → MatchResult result (λ _. length text ≤ most)
+        (λ error. IsExcused error most (length text)) }
 {
     let mut bytes = Vec::new(alloc);
     loop {
@@ -119,12 +121,14 @@ pub fn read_all<S: Source>(alloc: Global, source: &mut S) -> Result<Vec<u8>, Rea
     ensures later { S.faults source.old ≤ S.faults source.new }
     // No read failed before the end, nor before a byte past the limit.
     ensures faultless { OnOk result (S.faults source.new ≡ S.faults source.old) }
-    ensures unfailed { IsErrOf result ReadError.TooLong → S.faults source.new ≡ S.faults source.old }
+    ensures unfailed { IsErrOf result ReadError.TooLong
+        → S.faults source.new ≡ S.faults source.old }
 
     // Where the bytes are told and no fault rose, they are read exactly where they are within the limit.
     ensures complete { (text : List ℕ) → S.left source.old ≡ Some text
         → ¬ HasRisen (S.faults source.old) (S.faults source.new)
-        → MatchResult result (λ _. length text ≤ most_bytes) (λ error. IsExcused error most_bytes (length text)) }
+        → MatchResult result (λ _. length text ≤ most_bytes)
+        (λ error. IsExcused error most_bytes (length text)) }
 {
     let mut piece = zeros(alloc, PIECE_BYTES)?;
     read_within(alloc, source, MOST_BYTES, &mut piece)

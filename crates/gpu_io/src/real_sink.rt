@@ -48,7 +48,8 @@ impl<W: Write> Sink for RealSink<W> {
         requires { 0 < length bytes.now }
         ensures some { IfOk result (λ n. 0 < n) }
         ensures bound { IfOk result (λ n. n ≤ length bytes.now) }
-        ensures appended { IfOk result (λ n. Appends self.old.written self.new.written (take n bytes.now)) }
+        ensures appended { IfOk result
+            (λ n. Appends self.old.written self.new.written (take n bytes.now)) }
         ensures kept { OnErr result (Keeps self.old.written self.new.written) }
         ensures faultless { OnOk result (self.new.faults ≡ self.old.faults) }
         ensures fault { OnErr result (self.new.faults ≡ one_more self.old.faults) }

@@ -44,7 +44,8 @@ impl<R: Read> Source for RealSource<R> {
     fn read(&mut self, buffer: &mut [u8]) -> Result<usize, Failed>
         requires { 0 < length buffer.old }
         ensures bound { IfOk result (λ n. n ≤ length buffer.new) }
-        ensures taken { IfOk result (λ n. Consumes self.old.left self.new.left (take n buffer.new)) }
+        ensures taken { IfOk result
+            (λ n. Consumes self.old.left self.new.left (take n buffer.new)) }
         ensures end { IfOk result (λ n. n ≡ 0 → IsAtEnd self.new.left) }
         ensures kept { OnErr result (Keeps self.old.left self.new.left) }
         ensures faultless { OnOk result (self.new.faults ≡ self.old.faults) }

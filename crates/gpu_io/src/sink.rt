@@ -20,7 +20,8 @@ pub trait Sink {
         requires { 0 < length bytes.now }
         ensures some { IfOk result (λ n. 0 < n) }
         ensures bound { IfOk result (λ n. n ≤ length bytes.now) }
-        ensures appended { IfOk result (λ n. Appends (written self.old) (written self.new) (take n bytes.now)) }
+        ensures appended { IfOk result
+            (λ n. Appends (written self.old) (written self.new) (take n bytes.now)) }
         ensures kept { OnErr result (Keeps (written self.old) (written self.new)) }
         ensures faultless { OnOk result (faults self.new ≡ faults self.old) }
         ensures cause { OnErr result (HasRisen (faults self.old) (faults self.new)) }

@@ -19,7 +19,8 @@ pub trait Source {
     fn read(&mut self, buffer: &mut [u8]) -> Result<usize, Failed>
         requires { 0 < length buffer.old }
         ensures bound { IfOk result (λ n. n ≤ length buffer.new) }
-        ensures taken { IfOk result (λ n. Consumes (left self.old) (left self.new) (take n buffer.new)) }
+        ensures taken { IfOk result
+            (λ n. Consumes (left self.old) (left self.new) (take n buffer.new)) }
         ensures end { IfOk result (λ n. n ≡ 0 → IsAtEnd (left self.new)) }
         ensures kept { OnErr result (Keeps (left self.old) (left self.new)) }
         ensures faultless { OnOk result (faults self.new ≡ faults self.old) }

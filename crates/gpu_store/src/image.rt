@@ -20,7 +20,11 @@ impl Model for Image {
 
     ghost Value = { Picture };
 
-    ghost view = { λ image. record { width = image.width; height = image.height; texels = image.texels.items } };
+    ghost view = { λ image. record {
+      width = image.width;
+      height = image.height;
+      texels = image.texels.items;
+    } };
 
     ghost invariant = { λ image. IsStored image.width image.height image.texels.items };
 }

@@ -60,8 +60,10 @@ impl Images {
 
     // Makes an image of zeros.
     fn create(&mut self, image: u32, width: u32, height: u32) -> Result<Answer, Memory>
-        ensures answer { IfOk result (λ answer. answer ≡ (apply self.old (Op.Create image width height)).answer) }
-        ensures images { OnOk result (self.new ≡ (apply self.old (Op.Create image width height)).images) }
+        ensures answer { IfOk result
+            (λ answer. answer ≡ (apply self.old (Op.Create image width height)).answer) }
+        ensures images { OnOk result
+            (self.new ≡ (apply self.old (Op.Create image width height)).images) }
         ensures memory { OnErr result (self.new ≡ self.old) }
     {
         if self.images.contains_key(&image) {
@@ -137,7 +139,8 @@ impl Images {
         h: u32,
     ) -> Answer
         ensures answer { result ≡ (apply self.old (Op.Copy source sx sy target dx dy w h)).answer }
-        ensures images { self.new ≡ (apply self.old (Op.Copy source sx sy target dx dy w h)).images }
+        ensures images { self.new
+            ≡ (apply self.old (Op.Copy source sx sy target dx dy w h)).images }
     {
         let to = Rect { x: dx, y: dy, w, h };
         let answer = self.copy_answer(source, sx, sy, target, to);
@@ -154,7 +157,8 @@ impl Images {
 
     // The answer of a copy from column `sx` of row `sy` on.
     fn copy_answer(&self, source: u32, sx: u32, sy: u32, target: u32, to: Rect) -> Answer
-        ensures { result ≡ (apply self.now (Op.Copy source sx sy target to.x to.y to.w to.h)).answer }
+        ensures { result ≡ (apply self.now
+            (Op.Copy source sx sy target to.x to.y to.w to.h)).answer }
     {
         let from = Rect {
             x: sx,
@@ -176,8 +180,10 @@ impl Images {
 
     // Copies a rectangle of an image into the same image.
     fn copy_within(&mut self, image: u32, sx: u32, sy: u32, to: Rect)
-        requires { (apply self.old (Op.Copy image sx sy image to.x to.y to.w to.h)).answer ≡ Answer.Done }
-        ensures { self.new ≡ (apply self.old (Op.Copy image sx sy image to.x to.y to.w to.h)).images }
+        requires { (apply self.old (Op.Copy image sx sy image to.x to.y to.w to.h)).answer
+            ≡ Answer.Done }
+        ensures { self.new ≡ (apply self.old
+            (Op.Copy image sx sy image to.x to.y to.w to.h)).images }
     {
         self.images.get_mut(&image).unwrap().shift(to, sx, sy);
     }
@@ -185,8 +191,10 @@ impl Images {
     // Copies a rectangle of an image into another image, which is out of the map for as long.
     fn copy_between(&mut self, source: u32, sx: u32, sy: u32, target: u32, to: Rect)
         requires apart { source ≢ target }
-        requires done { (apply self.old (Op.Copy source sx sy target to.x to.y to.w to.h)).answer ≡ Answer.Done }
-        ensures { self.new ≡ (apply self.old (Op.Copy source sx sy target to.x to.y to.w to.h)).images }
+        requires done { (apply self.old (Op.Copy source sx sy target to.x to.y to.w to.h)).answer
+            ≡ Answer.Done }
+        ensures { self.new ≡ (apply self.old
+            (Op.Copy source sx sy target to.x to.y to.w to.h)).images }
     {
         let empty = Image::empty(self.alloc);
         let mut drawn = mem::replace(self.images.get_mut(&target).unwrap(), empty);
@@ -243,7 +251,8 @@ impl Images {
     pub fn id(&self, index: u32) -> u32
         requires { index < length self.now }
         ensures number { slice_get (numbers self.now) index ≡ Some result }
-        ensures found { picture_of self.now result ≡ option_map (λ entry. entry.1) (slice_get self.now index) }
+        ensures found { picture_of self.now result
+            ≡ option_map (λ entry. entry.1) (slice_get self.now index) }
     {
         self.number_at(index as usize)
     }
@@ -268,7 +277,8 @@ impl Images {
 
     /// The width and the height of an image, or `None` where it is missing.
     pub fn size(&self, image: u32) -> Option<(u32, u32)>
-        ensures size { result ≡ option_map (λ picture. (picture.width, picture.height)) (picture_of self.now image) }
+        ensures size { result ≡ option_map (λ picture. (picture.width, picture.height))
+            (picture_of self.now image) }
         ensures whole { IfSome (picture_of self.now image) IsWhole }
     {
         let found = self.images.get(&image)?;
@@ -278,8 +288,10 @@ impl Images {
     /// The texels of a row of an image, from left to right.
     pub fn row(&self, image: u32, y: u32) -> &[u32]
         requires { IsSomeAnd (picture_of self.now image) (λ picture. y < picture.height) }
-        ensures row { IfSome (picture_of self.now image) (λ picture. result.now ≡ row_of picture y) }
-        ensures len { IfSome (picture_of self.now image) (λ picture. length result.now ≡ picture.width) }
+        ensures row { IfSome (picture_of self.now image)
+            (λ picture. result.now ≡ row_of picture y) }
+        ensures len { IfSome (picture_of self.now image)
+            (λ picture. length result.now ≡ picture.width) }
         ensures narrow { length result.now ≤ MOST_SIDE }
     {
         self.images.get(&image).unwrap().row(y)

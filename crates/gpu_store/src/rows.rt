@@ -59,7 +59,9 @@ pub fn put(
     requires rows { (rect.y + rect.h) * width ≤ length texels.old }
     requires source_columns { sx + rect.w ≤ source_width }
     requires source_rows { (sy + rect.h) * source_width ≤ length source.now }
-    ensures { IsDrawn width rect (λ x y. slice_index source.now ((sy + y) * source_width + (sx + x))) rect.y (rect.y + rect.h) texels.old texels.new }
+    ensures { IsDrawn width rect
+        (λ x y. slice_index source.now ((sy + y) * source_width + (sx + x))) rect.y
+        (rect.y + rect.h) texels.old texels.new }
 {
     let left = rect.x as usize;
     let top = rect.y as usize;
@@ -78,7 +80,9 @@ pub fn shift(texels: &mut [u32], width: usize, rect: Rect, sx: u32, sy: u32)
     requires rows { (rect.y + rect.h) * width ≤ length texels.old }
     requires source_columns { sx + rect.w ≤ width }
     requires source_rows { (sy + rect.h) * width ≤ length texels.old }
-    ensures { IsDrawn width rect (λ x y. slice_index texels.old ((sy + y) * width + (sx + x))) rect.y (rect.y + rect.h) texels.old texels.new }
+    ensures { IsDrawn width rect
+        (λ x y. slice_index texels.old ((sy + y) * width + (sx + x))) rect.y
+        (rect.y + rect.h) texels.old texels.new }
 {
     if rect.y <= sy {
         shift_up(texels, width, rect, sx, sy);
@@ -94,7 +98,9 @@ fn shift_up(texels: &mut [u32], width: usize, rect: Rect, sx: u32, sy: u32)
     requires rows { (rect.y + rect.h) * width ≤ length texels.old }
     requires source_columns { sx + rect.w ≤ width }
     requires source_rows { (sy + rect.h) * width ≤ length texels.old }
-    ensures { IsDrawn width rect (λ x y. slice_index texels.old ((sy + y) * width + (sx + x))) rect.y (rect.y + rect.h) texels.old texels.new }
+    ensures { IsDrawn width rect
+        (λ x y. slice_index texels.old ((sy + y) * width + (sx + x))) rect.y
+        (rect.y + rect.h) texels.old texels.new }
 {
     let left = rect.x as usize;
     let top = rect.y as usize;
@@ -111,7 +117,9 @@ fn shift_down(texels: &mut [u32], width: usize, rect: Rect, sx: u32, sy: u32)
     requires rows { (rect.y + rect.h) * width ≤ length texels.old }
     requires source_columns { sx + rect.w ≤ width }
     requires source_rows { (sy + rect.h) * width ≤ length texels.old }
-    ensures { IsDrawn width rect (λ x y. slice_index texels.old ((sy + y) * width + (sx + x))) rect.y (rect.y + rect.h) texels.old texels.new }
+    ensures { IsDrawn width rect
+        (λ x y. slice_index texels.old ((sy + y) * width + (sx + x))) rect.y
+        (rect.y + rect.h) texels.old texels.new }
 {
     let left = rect.x as usize;
     let top = rect.y as usize;

@@ -19,7 +19,8 @@ fn with_row(before: u32, row: &[u32]) -> u32
 // A sum with the texels of an image, modulo 2^32.
 fn with_image(before: u32, images: &Images, image: u32) -> u32
     requires { IsSome (picture_of images.now image) }
-    ensures { IfSome (picture_of images.now image) (λ picture. result ≡ (before + sum picture.texels) % 2 ^ 32) }
+    ensures { IfSome (picture_of images.now image)
+        (λ picture. result ≡ (before + sum picture.texels) % 2 ^ 32) }
 {
     let (_, height) = images.size(image).unwrap();
     let mut total = before;

@@ -39,7 +39,8 @@ fn enter<M: Outcome<Shown, Known>, R: Wait>(rt: &R, seat: Seat) -> Open
 /// One look: what it saw, and the number of its version.
 pub(crate) fn look_once<R: Wait>(seat: Seat, rt: &R) -> (Seat, (Look, u64))
     ensures { (shown : Shown) × Finds (view seat.place) shown × AreRising shown.front.versions
-        × (view result.0.place ≡ looked (view seat.place) shown) × (result.1 ≡ (look_of shown.version, length shown.front.versions)) }
+        × (view result.0.place ≡ looked (view seat.place) shown)
+        × (result.1 ≡ (look_of shown.version, length shown.front.versions)) }
 {
     let open = enter::<Looks, R>(rt, seat);
     let shown = open.get();
@@ -55,7 +56,8 @@ pub(crate) fn look_once<R: Wait>(seat: Seat, rt: &R) -> (Seat, (Look, u64))
 fn meet_once<R: Wait>(rt: &R, seat: Seat, told: &Front) -> (Seat, bool)
     requires met { (view seat.place).front ≡ Some (front_in (view seat.place)) }
     requires same { told.now.view ≡ (front_in (view seat.place)).view }
-    ensures { (shown : Shown) × Finds (view seat.place) shown × (view result.0.place ≡ met (view seat.place) shown)
+    ensures { (shown : Shown) × Finds (view seat.place) shown
+        × (view result.0.place ≡ met (view seat.place) shown)
         × (result.1 ≡ true → IsPrefix told.now.versions shown.front.versions) }
 {
     let open = enter::<Meets, R>(rt, seat);

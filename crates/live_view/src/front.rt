@@ -68,7 +68,8 @@ impl Model for Front {
 
     ghost view = { λ front. record { view = front.seen.book; versions = front.seen.log } };
 
-    ghost invariant = { λ front. (front.number ≡ length front.seen.log) × AreRising front.seen.log };
+    ghost invariant = { λ front. (front.number ≡ length front.seen.log)
+        × AreRising front.seen.log };
 }
 
 impl Front {
@@ -84,7 +85,11 @@ impl Front {
     pub fn with(&self, count: &Word<Version, u64, Rising>, next: &Next<'_>) -> Option<Front>
         requires count { count.now ≡ count_of self.now.view }
         requires rising { IsLatest self.now.versions (next_of next.now).events }
-        ensures { IfSome result (λ front. front ≡ record { view = self.now.view; versions = self.now.versions ++ next_of next.now ∷ [] }) }
+        ensures { IfSome result (λ front. front
+            ≡ record {
+              view = self.now.view;
+              versions = self.now.versions ++ next_of next.now ∷ [];
+            }) }
     {
         if self.number == u64::MAX {
             return None;
@@ -129,7 +134,8 @@ impl Front {
     /// Shows that of two fronts of one view the shorter begins the longer.
     pub fn meet(&self, other: &Front)
         requires { other.now.view ≡ self.now.view }
-        ensures { length self.now.versions ≤ length other.now.versions → IsPrefix self.now.versions other.now.versions }
+        ensures { length self.now.versions ≤ length other.now.versions
+            → IsPrefix self.now.versions other.now.versions }
     {
         let mut both = self.seen.again();
         both.learn(&other.seen);

@@ -67,7 +67,8 @@ fn add_viewers<R: Wait>(rt: &R, copies: &mut Copies, all: &mut Vec<Viewer>, view
     requires room { vec_len all.old + viewers ≤ vec_capacity all.old }
     ensures published { published copies.new ≡ published copies.old }
     ensures pending { pending copies.new ≡ pending copies.old }
-    ensures viewers { all.new.items ≡ replicate viewers (fresh_viewer (published copies.old).front.view) }
+    ensures viewers { all.new.items
+        ≡ replicate viewers (fresh_viewer (published copies.old).front.view) }
 {
     for _ in 0..viewers {
         all.push_reserved(viewer(rt, copies));
@@ -83,9 +84,11 @@ fn copies_of<R: Wait>(
 ) -> Result<Copies, Memory>
     requires first { front.now.versions ≡ blank ∷ [] }
     requires some { (0 < viewers) × (viewers < 2 ^ 32) }
-    ensures published { IfOk result (λ copies. published copies ≡ record { version = blank; front = front.now }) }
+    ensures published { IfOk result
+        (λ copies. published copies ≡ record { version = blank; front = front.now }) }
     ensures pending { IfOk result (λ copies. pending copies ≡ []) }
-    ensures known { IfOk result (λ copies. view copies.desk.place ≡ met nothing (published copies)) }
+    ensures known { IfOk result
+        (λ copies. view copies.desk.place ≡ met nothing (published copies)) }
 {
     let copies = Copies::new(alloc, first(alloc, front), first(alloc, front), viewers)?;
     match copies.publish_as::<Publishes, R>(rt) {
@@ -109,7 +112,8 @@ pub fn make<R: Wait>(
 ) -> Result<(ViewWriter, Vec<Viewer>), Memory>
     requires { (1 ≤ viewers) × (viewers ≤ 4) }
     ensures writer { IfOk result (λ made. made.0 ≡ fresh_writer made.0.view made.0.spare) }
-    ensures viewers { IfOk result (λ made. made.1.items ≡ replicate viewers (fresh_viewer made.0.view)) }
+    ensures viewers { IfOk result
+        (λ made. made.1.items ≡ replicate viewers (fresh_viewer made.0.view)) }
 {
     let mut all = Vec::with_capacity(alloc, viewers as usize)?;
     let roll = Roll::open();

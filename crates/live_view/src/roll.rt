@@ -66,7 +66,9 @@ impl Roll {
     pub fn add(&mut self, next: &Next<'_>) -> bool
         requires { IsLatest self.old.versions (next_of next.now).events }
         ensures view { self.new.view ≡ self.old.view }
-        ensures added { MatchBool result (self.new.versions ≡ self.old.versions ++ next_of next.now ∷ []) (self.new.versions ≡ self.old.versions) }
+        ensures added { MatchBool result
+            (self.new.versions ≡ self.old.versions ++ next_of next.now ∷ [])
+            (self.new.versions ≡ self.old.versions) }
     {
         match self.front.with(&self.count, next) {
             Some(front) => {

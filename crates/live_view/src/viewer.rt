@@ -56,7 +56,8 @@ impl Model for Viewer {
 
     ghost view = { λ viewer. viewer_of viewer.seat.place.me.0.client };
 
-    ghost invariant = { λ viewer. IsViewer viewer.seat.place.me.0.client viewer.latest viewer.looks };
+    ghost invariant = { λ viewer. IsViewer viewer.seat.place.me.0.client viewer.latest
+        viewer.looks };
 }
 
 // Whether looks up to the latest are all at versions that were told, by their numbers.
@@ -87,7 +88,8 @@ impl Viewer {
         ensures view { self.new.view ≡ self.old.view }
         ensures longer { IsPrefix self.old.versions self.new.versions }
         ensures newest { IsOf self.new.versions (sight (length self.new.versions - 1) result) }
-        ensures looks { self.new.looks ≡ self.old.looks ++ sight (length self.new.versions - 1) result ∷ [] }
+        ensures looks { self.new.looks
+            ≡ self.old.looks ++ sight (length self.new.versions - 1) result ∷ [] }
         ensures kept { AreLooks self.new.versions self.new.looks }
     {
         let (look, number) = replace_with(&mut self.seat, rt, look_once::<R>);
@@ -114,7 +116,9 @@ impl Viewer {
         ensures longer { IsPrefix self.old.versions self.new.versions }
         ensures told { IsPrefix told.versions self.new.versions }
         ensures looks { self.new.looks ≡ self.old.looks }
-        ensures answer { result ≡ (nat_lt (length told.versions) (2 ^ 64 - 1) && nat_le (latest_of self.old.looks) (length told.versions)) }
+        ensures answer { result ≡
+            (nat_lt (length told.versions) (2 ^ 64 - 1) && nat_le (latest_of self.old.looks)
+            (length told.versions)) }
         ensures each { IsTrue result → All (IsOf told.versions) self.old.looks }
     {
         let number = told.front.number();

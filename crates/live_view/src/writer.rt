@@ -83,7 +83,10 @@ impl ViewWriter {
     pub fn note(&mut self, op: Op)
         requires room { 0 < self.old.spare }
         requires texels { HasItsTexels op }
-        ensures { self.new ≡ record self.old { noted = self.old.noted ++ op ∷ []; spare = self.old.spare - 1 } }
+        ensures { self.new ≡ record self.old {
+          noted = self.old.noted ++ op ∷ [];
+          spare = self.old.spare - 1;
+        } }
     {
         self.waiting.push_back_reserved(Drawn::of(op));
     }
@@ -98,11 +101,17 @@ impl ViewWriter {
     pub fn publish<R: Wait>(&mut self, rt: &R, events: u32) -> Result<(), Memory>
         requires { IsLatest (self.old.versions ++ self.old.tried) events }
         ensures view { self.new.view ≡ self.old.view }
-        ensures versions { OnOk result (self.new.versions ≡ (self.old.versions ++ self.old.tried) ++ next_version self.old events ∷ []) }
+        ensures versions { OnOk result
+            (self.new.versions
+            ≡ (self.old.versions ++ self.old.tried) ++ next_version self.old events ∷ []) }
         ensures images { OnOk result (self.new.images ≡ drawn_by self.old.images self.old.noted) }
         ensures handed { OnOk result ((self.new.noted ≡ []) × (self.new.tried ≡ [])) }
-        ensures kept { OnErr result ((self.new.versions ≡ self.old.versions) × (self.new.images ≡ self.old.images) × (self.new.noted ≡ self.old.noted)) }
-        ensures tried { OnErr result ((self.new.tried ≡ self.old.tried) ⊎ (self.new.tried ≡ self.old.tried ++ next_version self.old events ∷ [])) }
+        ensures kept { OnErr result
+            ((self.new.versions ≡ self.old.versions) × (self.new.images ≡ self.old.images)
+            × (self.new.noted ≡ self.old.noted)) }
+        ensures tried { OnErr result
+            ((self.new.tried ≡ self.old.tried)
+            ⊎ (self.new.tried ≡ self.old.tried ++ next_version self.old events ∷ [])) }
     {
         hand_over(&mut self.copies, &mut self.waiting)?;
         let next = Next {

@@ -53,7 +53,10 @@ impl ResultReader {
         requires asked { at_least ≡ N.at_least }
         requires counted { HasCounted at_least self.old.counts }
 
-        ensures { self.new ≡ record self.old { reads = self.old.reads ++ (place, at_least, result) ∷ [] } }
+        ensures { self.new ≡ record self.old {
+          reads = self.old.reads ++
+              (place, at_least, result) ∷ [];
+        } }
     {
         let shared = &words.table.shared;
         let found = shared.load::<LoadsResult<N>>(&mut self.seat, 1 + place as usize);

@@ -43,7 +43,8 @@ impl ResultWriter {
         requires table { words.now ≡ self.old.table }
         requires place { place < self.old.places }
 
-        ensures written { self.new ≡ record self.old { written = self.old.written ++ Write place value ∷ [] } }
+        ensures written { self.new
+            ≡ record self.old { written = self.old.written ++ Write place value ∷ [] } }
     {
         let shared = &words.table.shared;
         shared.store::<StoresResult>(&mut self.seat, 1 + place as usize, u64::from(value));

@@ -111,7 +111,8 @@ fn push_stream(
     state: u32,
 ) -> Result<u32, AllocError>
     requires { size ≤ 2000 }
-    ensures text { OnOk result (out.new.items ≡ out.old.items ++ stream_lines priority.now size stream state) }
+    ensures text { OnOk result
+        (out.new.items ≡ out.old.items ++ stream_lines priority.now size stream state) }
     ensures state { IfOk result (λ next. next ≡ after_draws (7 * size) state) }
 {
     push_start(out, priority, stream)?;

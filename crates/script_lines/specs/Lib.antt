@@ -5,3 +5,4 @@ pub mod Outcome
 pub mod Said
 pub mod Naming
 pub mod Mentioned
+pub mod Shown

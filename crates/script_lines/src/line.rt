@@ -1,8 +1,9 @@
 ghost use Rattle.std.specs.Prelude.{◌≡◌, ◌+◌, ◌≤◌, ◌<◌, ◌^◌, length, map, Some, None, if◌then◌else◌, IfOk, IfSome};
 ghost use Rattle.std.specs.List.{list_all};
-ghost use Rattle.script_words.specs.Text.{words_of};
+ghost use Rattle.script_words.specs.Left.{words_left, values_left};
 ghost use Rattle.script_words.specs.Numbers.{decimal_of, long_decimal_of, is_value, value_of};
 ghost use Rattle.script_lines.specs.Outcome.{Gives, or_kind};
+ghost use Rattle.script_lines.specs.Shown.{begun_shown, fill_begun_shown, put_shown, fill_shown, values_counted};
 ghost use Rattle.script_lines.specs.Said.{priority_of, none_said, one_said, two_said, numbered_said, named_said, stream_said, put_begun, put_said, fill_begun, fill_said};
 ghost use Rattle.script_lines.specs.declared.fault.Kind.TheVariants.{Number};
 
@@ -47,7 +48,7 @@ pub(crate) fn long_decimal_at(word: &[u8]) -> Result<u64, LineError>
 /// The words behind `finish` and `close`: there is none.
 #[tactic(auto, unfolding(crate::specs::Said::none_said))]
 pub fn none_said(mut words: Words<'_>) -> Result<(), LineError>
-    ensures { Gives (λ said. tt) result (none_said (words_of words.entry.rest.now)) }
+    ensures { Gives (λ said. tt) result (none_said (words_left words.entry)) }
 {
     match words.next() {
         None => Ok(()),
@@ -58,7 +59,7 @@ pub fn none_said(mut words: Words<'_>) -> Result<(), LineError>
 /// The word behind `token`.
 #[tactic(auto, unfolding(crate::specs::Said::one_said))]
 pub fn one_said(mut words: Words<'_>) -> Result<u32, LineError>
-    ensures { Gives (λ said. said) result (one_said (words_of words.entry.rest.now)) }
+    ensures { Gives (λ said. said) result (one_said (words_left words.entry)) }
 {
     let (Some(n), None) = (words.next(), words.next()) else {
         return Err(LineError::Refused(Kind::Word));
@@ -69,7 +70,7 @@ pub fn one_said(mut words: Words<'_>) -> Result<u32, LineError>
 /// The words behind `memory`, `results` and `dump`.
 #[tactic(auto, unfolding(crate::specs::Said::two_said))]
 pub fn two_said(mut words: Words<'_>) -> Result<(u32, u32), LineError>
-    ensures { Gives (λ said. said) result (two_said (words_of words.entry.rest.now)) }
+    ensures { Gives (λ said. said) result (two_said (words_left words.entry)) }
 {
     let (Some(m), Some(n), None) = (words.next(), words.next(), words.next()) else {
         return Err(LineError::Refused(Kind::Word));
@@ -82,7 +83,7 @@ pub fn two_said(mut words: Words<'_>) -> Result<(u32, u32), LineError>
 // The words behind `stream` in version 1: stream S has the name (0, S).
 #[tactic(auto, unfolding(crate::specs::Said::numbered_said))]
 fn numbered_said(mut words: Words<'_>) -> Result<(Name, Priority, u32), LineError>
-    ensures { Gives (λ said. said) result (numbered_said (words_of words.entry.rest.now)) }
+    ensures { Gives (λ said. said) result (numbered_said (words_left words.entry)) }
 {
     let (Some(s), Some(p), Some(r), None) = (words.next(), words.next(), words.next(), words.next())
     else {
@@ -103,7 +104,7 @@ fn numbered_said(mut words: Words<'_>) -> Result<(Name, Priority, u32), LineErro
 // The words behind `stream` in version 2.
 #[tactic(auto, unfolding(crate::specs::Said::named_said))]
 fn named_said(mut words: Words<'_>) -> Result<(Name, Priority, u32), LineError>
-    ensures { Gives (λ said. said) result (named_said (words_of words.entry.rest.now)) }
+    ensures { Gives (λ said. said) result (named_said (words_left words.entry)) }
 {
     let (Some(n), Some(i), Some(p)) = (words.next(), words.next(), words.next()) else {
         return Err(LineError::Refused(Kind::Word));
@@ -122,7 +123,7 @@ fn named_said(mut words: Words<'_>) -> Result<(Name, Priority, u32), LineError>
 
 /// The words behind `stream`, by the version.
 pub fn stream_said(version: u32, words: Words<'_>) -> Result<(Name, Priority, u32), LineError>
-    ensures { Gives (λ said. said) result (stream_said version (words_of words.entry.rest.now)) }
+    ensures { Gives (λ said. said) result (stream_said version (words_left words.entry)) }
 {
     if version == 2 {
         named_said(words)
@@ -133,9 +134,7 @@ pub fn stream_said(version: u32, words: Words<'_>) -> Result<(Name, Priority, u3
 
 // How many words there are, where each of them is a value.
 fn count_values(values: Values<'_>) -> Option<usize>
-    ensures counted { result
-        ≡ (if list_all is_value (words_of values.entry.rest.now)
-        then Some (length (words_of values.entry.rest.now)) else None) }
+    ensures counted { result ≡ values_counted (values_left values.entry) }
     ensures few { IfSome result (λ count. count ≤ 2 ^ 63) }
 {
     let mut count = 0;
@@ -164,8 +163,7 @@ pub struct Putting<'a> {
 /// The words behind `put`, but for what the values are: a place, and one or more words that are not read yet.
 #[tactic(auto, using(crate::proofs::Puts::put_without_value, crate::proofs::Puts::put_with_place), unfolding(crate::specs::Said::put_begun))]
 pub fn put_begun<'a>(words: Words<'a>) -> Result<(u32, Values<'a>), LineError>
-    ensures { Gives (λ begun. (begun.0, words_of begun.1.rest.now)) result
-        (put_begun (words_of words.entry.rest.now)) }
+    ensures { Gives begun_shown result (put_begun (words_left words.entry)) }
 {
     let Some((place, rest)) = first_decimal(words.rest) else {
         return Err(LineError::Refused(Kind::Word));
@@ -182,9 +180,8 @@ pub fn put_begun<'a>(words: Words<'a>) -> Result<(u32, Values<'a>), LineError>
 /// The words behind `put`.
 #[tactic(auto, using(crate::proofs::Puts::put_said_is))]
 pub fn put_said<'a>(words: Words<'a>) -> Result<Putting<'a>, LineError>
-    ensures said { Gives (λ said. (said.place, map value_of (words_of said.values.rest.now))) result
-        (put_said (words_of words.entry.rest.now)) }
-    ensures counted { IfOk result (λ said. said.count ≡ length (words_of said.values.rest.now)) }
+    ensures said { Gives put_shown result (put_said (words_left words.entry)) }
+    ensures counted { IfOk result (λ said. said.count ≡ length (words_left said.values)) }
     ensures few { IfOk result (λ said. said.count ≤ 2 ^ 63) }
 {
     let (place, values) = put_begun(words)?;
@@ -201,8 +198,7 @@ pub fn put_said<'a>(words: Words<'a>) -> Result<Putting<'a>, LineError>
 /// The words behind `fill`, but for what the values are: a memory, and what a put line begins with.
 #[tactic(auto, unfolding(crate::specs::Said::fill_begun))]
 pub fn fill_begun<'a>(words: Words<'a>) -> Result<(u32, u32, Values<'a>), LineError>
-    ensures { Gives (λ begun. (begun.0, begun.1, words_of begun.2.rest.now)) result
-        (fill_begun (words_of words.entry.rest.now)) }
+    ensures { Gives fill_begun_shown result (fill_begun (words_left words.entry)) }
 {
     let Some((memory, rest)) = first_decimal(words.rest) else {
         return Err(LineError::Refused(Kind::Word));
@@ -221,11 +217,8 @@ pub fn fill_begun<'a>(words: Words<'a>) -> Result<(u32, u32, Values<'a>), LineEr
 /// The words behind `fill`: a memory, and what a put line says.
 #[tactic(auto, unfolding(crate::specs::Said::fill_said))]
 pub fn fill_said<'a>(mut words: Words<'a>) -> Result<(u32, Putting<'a>), LineError>
-    ensures said { Gives (λ said.
-        (said.0, said.1.place, map value_of (words_of said.1.values.rest.now))) result
-        (fill_said (words_of words.entry.rest.now)) }
-    ensures counted { IfOk result
-        (λ said. said.1.count ≡ length (words_of said.1.values.rest.now)) }
+    ensures said { Gives fill_shown result (fill_said (words_left words.entry)) }
+    ensures counted { IfOk result (λ said. said.1.count ≡ length (words_left said.1.values)) }
     ensures few { IfOk result (λ said. said.1.count ≤ 2 ^ 63) }
 {
     let Some(first) = words.next() else {

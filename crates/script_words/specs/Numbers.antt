@@ -4,9 +4,27 @@ use Rattle.std.specs.List.{list_all}
 use Rattle.std.specs.Char.{is_digit}
 use Rattle.std.specs.Str.Parse.{digits_value}
 
+-- a word of digits of a base
+abbrev pub are_digits : ℕ → List ℕ → Bool
+are_digits radix word = list_all (λ digit. is_digit digit radix) word
+
+-- what digits of a base say, where a word has nothing else
+abbrev pub digits_said : ℕ → List ℕ → Option ℕ
+digits_said radix word = if are_digits radix word then Some (digits_value radix word) else None
+
+-- a word of at least one byte, and at most so many
+abbrev pub is_short : ℕ → List ℕ → Bool
+is_short most word = nat_lt 0 (length word) && nat_le (length word) most
+
 -- one to so many digits of a base, with a value below the limit
+abbrev pub is_number : ℕ → ℕ → ℕ → List ℕ → Bool
+is_number radix most limit word =
+    is_short most word && are_digits radix word && nat_lt (digits_value radix word) limit
+
+-- the number that such digits say
 unfoldable pub number_of : ℕ → ℕ → ℕ → List ℕ → Option ℕ
-number_of radix most limit word = if nat_lt 0 (length word) && nat_le (length word) most && list_all (λ digit. is_digit digit radix) word && nat_lt (digits_value radix word) limit then Some (digits_value radix word) else None
+number_of radix most limit word =
+    if is_number radix most limit word then Some (digits_value radix word) else None
 
 -- a decimal number of 32 bits: at most ten digits
 abbrev pub decimal_of : List ℕ → Option ℕ

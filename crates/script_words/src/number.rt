@@ -1,8 +1,5 @@
-ghost use Rattle.std.specs.Prelude.{◌≡◌, ◌≤◌, length, Some, None, if◌then◌else◌};
-ghost use Rattle.std.specs.Char.{is_digit};
-ghost use Rattle.std.specs.List.{list_all};
-ghost use Rattle.std.specs.Str.Parse.{digits_value};
-ghost use Rattle.script_words.specs.Numbers.{decimal_of, hex_of, long_decimal_of};
+ghost use Rattle.std.specs.Prelude.{◌≡◌, ◌≤◌, length};
+ghost use Rattle.script_words.specs.Numbers.{digits_said, decimal_of, hex_of, long_decimal_of};
 
 use crate::digit::digit_of;
 
@@ -11,8 +8,7 @@ fn value_of(word: &[u8], radix: u32) -> Option<u64>
     requires two { 2 ≤ radix }
     requires sixteen { radix ≤ 16 }
     requires short { length word.now ≤ 15 }
-    ensures { result ≡ (if list_all (λ c. is_digit c radix) word.now
-        then Some (digits_value radix word.now) else None) }
+    ensures { result ≡ digits_said radix word.now }
 {
     let mut value = 0;
     for byte in word {
@@ -28,8 +24,7 @@ fn value_of(word: &[u8], radix: u32) -> Option<u64>
 // The value of at most 20 decimal digits.
 fn long_value_of(word: &[u8]) -> Option<u128>
     requires { length word.now ≤ 20 }
-    ensures { result ≡ (if list_all (λ c. is_digit c 10) word.now
-        then Some (digits_value 10 word.now) else None) }
+    ensures { result ≡ digits_said 10 word.now }
 {
     let mut value = 0;
     for byte in word {

@@ -5,7 +5,7 @@ ghost use Rattle.std.specs.List.{list_all};
 ghost use Rattle.std.specs.Str.Parse.{digits_value};
 ghost use Rattle.script_words.specs.Text.{words_of, is_blank};
 ghost use Rattle.script_words.specs.Numbers.{decimal_of, hex_of};
-ghost use Rattle.script_words.specs.Reading.{IsFirstRead, IsShortNumber};
+ghost use Rattle.script_words.specs.Reading.{BeginsWith, ReadsFirst, IsShortNumber};
 
 use crate::digit::digit_of;
 use crate::number::{decimal_u32, hex_u32};
@@ -53,7 +53,7 @@ fn behind_word(line: &[u8], count: usize) -> Option<&[u8]>
     requires some { 0 < count }
     requires within { count ≤ length line.now }
     requires unbroken { list_all (λ byte. not (is_blank byte)) (take count line.now) ≡ true }
-    ensures { IfSome result (λ rest. words_of line.now ≡ take count line.now ∷ words_of rest.now) }
+    ensures { IfSome result (λ rest. BeginsWith words_of line.now (take count line.now) rest.now) }
 {
     if count == line.len() {
         return Some(&[]);
@@ -82,8 +82,7 @@ fn short_number(line: &[u8], radix: u32) -> Option<(u32, &[u8])>
 
 #[cold]
 fn first_decimal_word(line: &[u8]) -> Option<(Option<u32>, &[u8])>
-    ensures { MatchOption result (words_of line.now ≡ [])
-        (λ read. IsFirstRead decimal_of line.now read.0 read.1.now) }
+    ensures { ReadsFirst decimal_of line.now result }
 {
     let (word, rest) = first_word(line)?;
     Some((decimal_u32(word), rest))
@@ -91,8 +90,7 @@ fn first_decimal_word(line: &[u8]) -> Option<(Option<u32>, &[u8])>
 
 #[cold]
 fn first_value_word(line: &[u8]) -> Option<(Option<u32>, &[u8])>
-    ensures { MatchOption result (words_of line.now ≡ [])
-        (λ read. IsFirstRead hex_of line.now read.0 read.1.now) }
+    ensures { ReadsFirst hex_of line.now result }
 {
     let (word, rest) = first_word(line)?;
     Some((hex_u32(word), rest))
@@ -103,8 +101,7 @@ fn first_value_word(line: &[u8]) -> Option<(Option<u32>, &[u8])>
 /// The bytes of a short number are read once, and not first for the word's end.
 #[inline]
 pub fn first_decimal(line: &[u8]) -> Option<(Option<u32>, &[u8])>
-    ensures { MatchOption result (words_of line.now ≡ [])
-        (λ read. IsFirstRead decimal_of line.now read.0 read.1.now) }
+    ensures { ReadsFirst decimal_of line.now result }
 {
     match short_number(line, 10) {
         Some((number, rest)) => Some((Some(number), rest)),
@@ -115,8 +112,7 @@ pub fn first_decimal(line: &[u8]) -> Option<(Option<u32>, &[u8])>
 /// What the first word of a line says as a value, and what stands behind that word.
 #[inline]
 pub fn first_value(line: &[u8]) -> Option<(Option<u32>, &[u8])>
-    ensures { MatchOption result (words_of line.now ≡ [])
-        (λ read. IsFirstRead hex_of line.now read.0 read.1.now) }
+    ensures { ReadsFirst hex_of line.now result }
 {
     match short_number(line, 16) {
         Some((value, rest)) => Some((Some(value), rest)),

@@ -1,6 +1,7 @@
 ghost use Rattle.std.specs.Prelude.{◌≡◌, ◌+◌, ◌<◌, ◌≤◌, [], ◌∷◌, length, take, drop, position, MatchOption};
 ghost use Rattle.std.specs.Iterator.{YieldsFirstRef, item_count};
 ghost use Rattle.script_words.specs.Text.{lines_of, words_of, ends_line, is_blank};
+ghost use Rattle.script_words.specs.Reading.{CutsFirst};
 
 use memchr::memchr;
 
@@ -60,8 +61,7 @@ pub fn cut_at(bytes: &[u8], at: usize) -> (&[u8], &[u8])
 // The first line of a text and what stands behind it.
 #[tactic(auto, using(crate::proofs::Cuts::lines_found, crate::proofs::Cuts::lines_last, crate::proofs::Cuts::lines_none))]
 fn first_line(text: &[u8]) -> Option<(&[u8], &[u8])>
-    ensures { MatchOption result (lines_of text.now ≡ [])
-        (λ cut. lines_of text.now ≡ cut.0.now ∷ lines_of cut.1.now) }
+    ensures { CutsFirst lines_of text.now result }
 {
     if text.is_empty() {
         return None;
@@ -75,8 +75,7 @@ fn first_line(text: &[u8]) -> Option<(&[u8], &[u8])>
 // The first word of a line and what stands behind it.
 #[tactic(auto, using(crate::proofs::Cuts::words_found, crate::proofs::Cuts::words_skip, crate::proofs::Cuts::words_last, crate::proofs::Cuts::words_none))]
 pub(crate) fn first_word(line: &[u8]) -> Option<(&[u8], &[u8])>
-    ensures { MatchOption result (words_of line.now ≡ [])
-        (λ cut. words_of line.now ≡ cut.0.now ∷ words_of cut.1.now) }
+    ensures { CutsFirst words_of line.now result }
 {
     let mut left = line;
     while let Some(end) = word_end(left) {

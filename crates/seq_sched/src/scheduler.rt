@@ -59,7 +59,8 @@ impl Scheduler {
         ensures choice { result ≡ choice self.now core.now }
         ensures least { IfSome result (λ s. IsChoice self.now core.now s) }
         ensures none { IsNone result ↔ NoneCanRun self.now core.now }
-        ensures idle { (h : List SyncEvent) → StandsFor core.now h → AreHome self.now → (IsNone result ↔ NothingLeft core.now) }
+        ensures idle { (h : List SyncEvent) → StandsFor core.now h → AreHome self.now
+            → (IsNone result ↔ NothingLeft core.now) }
     {
         let mut least = None;
         for (i, seat) in self.seats.iter().enumerate() {

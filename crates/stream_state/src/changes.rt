@@ -17,7 +17,9 @@ impl StreamState {
         requires words { HasWords words.now command.now }
         requires bytes { IsTrue (has_bytes command.now self.old) }
         requires slot { IsTrue (has_slot command.now) }
-        ensures changed { OnOk result (self.new ≡ record self.old { buffers = buffers_after command.now words.now self.old.buffers }) }
+        ensures changed { OnOk result
+            (self.new ≡ record self.old
+            { buffers = buffers_after command.now words.now self.old.buffers }) }
         ensures memory { OnErr result (self.new ≡ self.old) }
         ensures free { IsErr result → IsTrue (takes_memory command.now) }
     {

@@ -46,7 +46,9 @@ fn start_writes(
 ) -> Result<Writes, Memory>
     requires size { length bytes.now ≤ 262144 }
     requires place { data_place < 2 ^ 31 }
-    ensures { IfOk result (λ writes. writes ≡ with_write (size_place, length bytes.now) (words_written data_place (take data_size bytes.now))) }
+    ensures { IfOk result (λ writes. writes
+        ≡ with_write (size_place, length bytes.now)
+        (words_written data_place (take data_size bytes.now))) }
 {
     let (data, _) = bytes.split_at(bytes.len().min(data_size as usize));
     let mut writes = Writes::of_bytes(alloc, data_place, data)?;

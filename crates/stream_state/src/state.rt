@@ -46,7 +46,8 @@ impl Model for StreamState {
       results = state.results;
     } };
 
-    ghost invariant = { λ state. (state.fetched ≤ 1048576) × (state.entries ≤ 4096 * state.fetched) };
+    ghost invariant = { λ state. (state.fetched ≤ 1048576)
+        × (state.entries ≤ 4096 * state.fetched) };
 }
 
 impl StreamState {

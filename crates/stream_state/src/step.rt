@@ -25,7 +25,8 @@ impl StreamState {
         requires bytes { IsTrue (has_bytes command.now self.old) }
         requires format { IsTrue (has_format command.now) }
         requires slot { IsTrue (has_slot command.now) }
-        ensures effect { IfOk result (λ given. given ≡ effect_of areas.now command.now words.now self.old) }
+        ensures effect { IfOk result
+            (λ given. given ≡ effect_of areas.now command.now words.now self.old) }
         ensures texels { IfOk result BringsItsTexels }
         ensures state { OnOk result (self.new ≡ acted areas.now command.now words.now self.old) }
         ensures memory { OnErr result (self.new ≡ self.old) }

@@ -17,7 +17,8 @@ const WORDS_BEFORE_DATA: usize = 4;
 #[tactic(auto, using(crate::proofs::Counts::bytes_counted))]
 fn some_bytes(alloc: Global, values: &[u32], from: usize, count: usize) -> Result<Vec<u8>, Memory>
     requires { from + count ≤ 4 * length values.now }
-    ensures bytes { IfOk result (λ bytes. bytes.items ≡ take count (drop from (bytes_of values.now))) }
+    ensures bytes { IfOk result
+        (λ bytes. bytes.items ≡ take count (drop from (bytes_of values.now))) }
     ensures count { IfOk result (λ bytes. length bytes.items ≡ count) }
 {
     bytes_of(alloc, values, from, count)

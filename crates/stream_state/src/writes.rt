@@ -59,7 +59,8 @@ fn index_of(writes: &[(u32, u32)], place: u32) -> usize
 
 // Whether a place is written at an index.
 fn is_at(writes: &[(u32, u32)], index: usize, place: u32) -> bool
-    ensures { result ≡ option_map_or (λ (write : ℕ × ℕ). write.0 == place) (slice_get writes.now index) false }
+    ensures { result ≡ option_map_or (λ (write : ℕ × ℕ). write.0 == place)
+        (slice_get writes.now index) false }
 {
     match writes.get(index) {
         Some(write) => write.0 == place,

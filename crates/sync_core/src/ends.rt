@@ -25,7 +25,8 @@ pub fn passed(s: u32, first: Option<u32>) -> Which
 pub fn drop_numbers(stream: &mut Stream, pending: &mut Queues, taken: &mut Vec<Wait>)
     requires { length pending.old ≤ vec_capacity taken.old }
     ensures stream { stream.new ≡ record stream.old { left = [] } }
-    ensures pending { pending.new ≡ filter (λ (w : Wait). not (contains_number w.order stream.old.left)) pending.old }
+    ensures pending { pending.new
+        ≡ filter (λ (w : Wait). not (contains_number w.order stream.old.left)) pending.old }
     ensures len { length pending.new ≤ length pending.old }
     ensures room { vec_capacity taken.new ≡ vec_capacity taken.old }
 {
@@ -64,7 +65,8 @@ fn ending(streams: &[Stream], wait: &Wait) -> Ending
 /// Records waits that end, in room that was taken before.
 pub fn record_ends(streams: &[Stream], waits: &[Wait], endings: &mut Vec<Ending>)
     requires { length waits.now + vec_len endings.old ≤ vec_capacity endings.old }
-    ensures endings { endings.new.items ≡ endings.old.items ++ map (ending_of (at streams.now)) waits.now }
+    ensures endings { endings.new.items
+        ≡ endings.old.items ++ map (ending_of (at streams.now)) waits.now }
     ensures len { vec_len endings.new ≡ vec_len endings.old + length waits.now }
     ensures room { vec_capacity endings.new ≡ vec_capacity endings.old }
 {

@@ -43,7 +43,9 @@ fn judge_all(
     pending: &mut Queues,
 ) -> Result<(), AllocError>
     requires { All (λ (w : Wait). w.order < n) pending.old }
-    ensures ok { OnOk result (pending.new ≡ pending.old ++ judged (length streams.now) (at streams.now) s n 0 fences.now) }
+    ensures ok { OnOk result
+        (pending.new
+        ≡ pending.old ++ judged (length streams.now) (at streams.now) s n 0 fences.now) }
     ensures olds { filter (leaves (Of n)) pending.new ≡ pending.old }
     ensures len { length pending.new ≤ length pending.old + length fences.now }
 {
@@ -73,8 +75,17 @@ pub fn draw(
     requires known { IsKnown (length streams.old.items) s }
     requires above { All (λ (x : Number). x.order < n) (at streams.old.items s).left }
     requires first { All (λ (w : Wait). w.order < n) pending.old }
-    ensures streams { OnOk result (streams.new.items ≡ slice_set streams.old.items (s - 1) record (at streams.old.items s) { left = (at streams.old.items s).left ++ record { order = n; made = length fences.now } ∷ [] }) }
-    ensures pending { OnOk result (pending.new ≡ pending.old ++ judged (length streams.old.items) (at streams.old.items) s n 0 fences.now) }
+    ensures streams { OnOk result
+        (streams.new.items
+        ≡ slice_set streams.old.items (s - 1) record
+        (at streams.old.items s) {
+          left = (at streams.old.items s).left ++
+              record { order = n; made = length fences.now } ∷ [];
+        }) }
+    ensures pending { OnOk result
+        (pending.new
+        ≡ pending.old ++ judged (length streams.old.items)
+        (at streams.old.items) s n 0 fences.now) }
     ensures err { OnErr result (streams.new.items ≡ streams.old.items) }
     ensures olds { filter (leaves (Of n)) pending.new ≡ pending.old }
     ensures len { length pending.new ≤ length pending.old + length fences.now }
@@ -96,8 +107,14 @@ pub fn judge(
     requires room { length pending.old + vec_len endings.old ≤ vec_capacity endings.old }
     requires taken { length pending.old ≤ vec_capacity taken.old }
     requires last { GoesLast wait pending.old }
-    ensures judged { IfOk result (λ j. j ≡ (if is_kept (length streams.now) (at streams.now) wait.stream wait.order wait.target wait.release then Kept else Dropped)) }
-    ensures pending { OnOk result (pending.new ≡ (if is_kept (length streams.now) (at streams.now) wait.stream wait.order wait.target wait.release then placed wait pending.old else pending.old)) }
+    ensures judged { IfOk result
+        (λ j. j ≡ (if is_kept (length streams.now)
+        (at streams.now) wait.stream wait.order wait.target wait.release then Kept else Dropped)) }
+    ensures pending { OnOk result
+        (pending.new
+        ≡ (if is_kept (length streams.now)
+        (at streams.now) wait.stream wait.order wait.target wait.release
+        then placed wait pending.old else pending.old)) }
     ensures err { OnErr result (pending.new ≡ pending.old) }
     ensures endings { endings.new.items ≡ endings.old.items }
     ensures room { length pending.new + vec_len endings.new ≤ vec_capacity endings.new }

@@ -146,8 +146,11 @@ impl Queues {
 fn first_release(releases: &BTreeSet<ByRelease>, target: u32) -> Option<ByRelease>
     ensures target { IfSome result (λ k. k.target ≡ target) }
     ensures member { IfSome result (λ k. contains release_cmp releases.now k ≡ true) }
-    ensures least { IfSome result (λ k. (q : ByRelease) → contains release_cmp releases.now q ≡ true → q.target ≡ target → k.release ≤ q.release) }
-    ensures none { IfNone result ((q : ByRelease) → contains release_cmp releases.now q ≡ true → q.target ≢ target) }
+    ensures least { IfSome result
+        (λ k. (q : ByRelease) → contains release_cmp releases.now q ≡ true → q.target ≡ target
+        → k.release ≤ q.release) }
+    ensures none { IfNone result
+        ((q : ByRelease) → contains release_cmp releases.now q ≡ true → q.target ≢ target) }
 {
     let from = ByRelease {
         target,
@@ -166,8 +169,11 @@ fn first_release(releases: &BTreeSet<ByRelease>, target: u32) -> Option<ByReleas
 fn first_order(orders: &BTreeSet<ByOrder>, target: u32) -> Option<ByOrder>
     ensures target { IfSome result (λ k. k.target ≡ target) }
     ensures member { IfSome result (λ k. contains order_cmp orders.now k ≡ true) }
-    ensures least { IfSome result (λ k. (q : ByOrder) → contains order_cmp orders.now q ≡ true → q.target ≡ target → k.order ≤ q.order) }
-    ensures none { IfNone result ((q : ByOrder) → contains order_cmp orders.now q ≡ true → q.target ≢ target) }
+    ensures least { IfSome result
+        (λ k. (q : ByOrder) → contains order_cmp orders.now q ≡ true → q.target ≡ target
+        → k.order ≤ q.order) }
+    ensures none { IfNone result
+        ((q : ByOrder) → contains order_cmp orders.now q ≡ true → q.target ≢ target) }
 {
     let from = ByOrder {
         target,

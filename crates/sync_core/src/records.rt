@@ -74,7 +74,9 @@ impl Records {
     pub fn insert(&mut self, wait: Wait) -> Result<(), AllocError>
         requires { GoesLast wait self.old }
         ensures ok { OnOk result (self.new ≡ insert_key wait_cmp self.old wait) }
-        ensures updates { OnOk result ((q : Wait) → has self.new q ≡ (if is_at (wait_cmp wait) q then true else has self.old q)) }
+        ensures updates { OnOk result
+            ((q : Wait) → has self.new q
+            ≡ (if is_at (wait_cmp wait) q then true else has self.old q)) }
         ensures err { OnErr result (self.new ≡ self.old) }
     {
         self.slots.reserve(1)?;
@@ -88,7 +90,8 @@ impl Records {
     pub fn remove(&mut self, wait: Wait)
         requires { has self.old wait ≡ true }
         ensures value { self.new ≡ remove_key (is_at (wait_cmp wait)) self.old }
-        ensures updates { (q : Wait) → has self.new q ≡ (if is_at (wait_cmp wait) q then false else has self.old q) }
+        ensures updates { (q : Wait)
+            → has self.new q ≡ (if is_at (wait_cmp wait) q then false else has self.old q) }
     {
         match self.places.remove(&Place::of(wait)) {
             Some(slot) => {

@@ -36,9 +36,24 @@ impl Model for SyncCore {
 
     ghost Value = { Core };
 
-    ghost view = { λ c. record { drawn = c.drawn; streams = c.streams.items; pending = c.pending; endings = c.endings.items; room = c.room } };
+    ghost view = { λ c. record {
+      drawn = c.drawn;
+      streams = c.streams.items;
+      pending = c.pending;
+      endings = c.endings.items;
+      room = c.room;
+    } };
 
-    ghost invariant = { λ c. (length c.pending + vec_len c.endings ≤ c.room) × (c.room ≤ vec_capacity c.endings) × (length c.pending ≤ vec_capacity c.taken) × StandsForOne record { drawn = c.drawn; streams = c.streams.items; pending = c.pending; endings = c.endings.items; room = c.room } };
+    ghost invariant = { λ c. (length c.pending + vec_len c.endings ≤ c.room)
+        × (c.room ≤ vec_capacity c.endings) × (length c.pending ≤ vec_capacity c.taken)
+        × StandsForOne
+        record {
+          drawn = c.drawn;
+          streams = c.streams.items;
+          pending = c.pending;
+          endings = c.endings.items;
+          room = c.room;
+        } };
 }
 
 impl SyncCore {
@@ -122,7 +137,9 @@ impl SyncCore {
         ensures number { IfOk result (λ n. n ≡ self.old.drawn + 1) }
         ensures drawn { OnOk result (self.new.drawn ≡ self.old.drawn + 1) }
         ensures count { length self.new.streams ≡ length self.old.streams }
-        ensures stands { OnOk result ((h : List SyncEvent) → StandsFor self.old h → StandsFor self.new ((s, Ordered fences.now) ∷ h)) }
+        ensures stands { OnOk result
+            ((h : List SyncEvent) → StandsFor self.old h
+            → StandsFor self.new ((s, Ordered fences.now) ∷ h)) }
         ensures lost { IsErrOf result OrderFault.Lost ↔ ((at self.old.streams s).lost ≡ true) }
         ensures err { OnErr result (self.new ≡ self.old) }
     {
@@ -157,7 +174,9 @@ impl SyncCore {
         ensures judged { IfOk result (λ j. j ≡ judgement self.old s t r) }
         ensures drawn { self.new.drawn ≡ self.old.drawn }
         ensures count { length self.new.streams ≡ length self.old.streams }
-        ensures stands { OnOk result ((h : List SyncEvent) → StandsFor self.old h → StandsFor self.new ((s, Waited t r) ∷ h)) }
+        ensures stands { OnOk result
+            ((h : List SyncEvent) → StandsFor self.old h
+            → StandsFor self.new ((s, Waited t r) ∷ h)) }
         ensures err { OnErr result (self.new ≡ self.old) }
     {
         let SyncCore {
@@ -194,7 +213,8 @@ impl SyncCore {
         requires known { IsKnown (length self.old.streams) s }
         ensures drawn { self.new.drawn ≡ self.old.drawn }
         ensures count { length self.new.streams ≡ length self.old.streams }
-        ensures stands { (h : List SyncEvent) → StandsFor self.old h → StandsFor self.new ((s, Released r) ∷ h) }
+        ensures stands { (h : List SyncEvent) → StandsFor self.old h
+            → StandsFor self.new ((s, Released r) ∷ h) }
     {
         let SyncCore {
             streams,
@@ -215,7 +235,8 @@ impl SyncCore {
         requires free { blocked self.old s ≡ false }
         ensures drawn { self.new.drawn ≡ self.old.drawn }
         ensures count { length self.new.streams ≡ length self.old.streams }
-        ensures stands { (h : List SyncEvent) → StandsFor self.old h → StandsFor self.new ((s, Finished) ∷ h) }
+        ensures stands { (h : List SyncEvent) → StandsFor self.old h
+            → StandsFor self.new ((s, Finished) ∷ h) }
     {
         let SyncCore {
             streams,
@@ -235,7 +256,8 @@ impl SyncCore {
         requires known { IsKnown (length self.old.streams) s }
         ensures drawn { self.new.drawn ≡ self.old.drawn }
         ensures count { length self.new.streams ≡ length self.old.streams }
-        ensures stands { (h : List SyncEvent) → StandsFor self.old h → StandsFor self.new ((s, WasLost) ∷ h) }
+        ensures stands { (h : List SyncEvent) → StandsFor self.old h
+            → StandsFor self.new ((s, WasLost) ∷ h) }
     {
         let SyncCore {
             streams,
@@ -256,7 +278,8 @@ impl SyncCore {
         requires known { IsKnown (length self.old.streams) s }
         ensures drawn { self.new.drawn ≡ self.old.drawn }
         ensures count { length self.new.streams ≡ length self.old.streams }
-        ensures stands { (h : List SyncEvent) → StandsFor self.old h → StandsFor self.new ((s, WasClosed) ∷ h) }
+        ensures stands { (h : List SyncEvent) → StandsFor self.old h
+            → StandsFor self.new ((s, WasClosed) ∷ h) }
     {
         let SyncCore {
             streams,

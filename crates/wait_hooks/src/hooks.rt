@@ -24,7 +24,12 @@ impl<H: Hook> Model for Hooks<H> {
 
     ghost Value = { Marks };
 
-    ghost view = { λ h. record { base = H.base h.hook; marks = h.marks.items; spare = h.spare; told = H.told h.hook } };
+    ghost view = { λ h. record {
+      base = H.base h.hook;
+      marks = h.marks.items;
+      spare = h.spare;
+      told = H.told h.hook;
+    } };
 
     ghost invariant = { λ h. vec_len h.marks + h.spare ≤ vec_capacity h.marks };
 }
@@ -32,7 +37,12 @@ impl<H: Hook> Model for Hooks<H> {
 impl<H: Hook> Hooks<H> {
     /// Hooks that have called nothing and have no room yet.
     pub fn make(alloc: Global, hook: H) -> Hooks<H>
-        ensures { result ≡ record { base = H.base hook; marks = []; spare = 0; told = H.told hook } }
+        ensures { result ≡ record {
+          base = H.base hook;
+          marks = [];
+          spare = 0;
+          told = H.told hook;
+        } }
     {
         Hooks {
             hook,

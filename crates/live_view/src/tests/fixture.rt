@@ -50,7 +50,8 @@ pub(super) fn clear(width: u32, height: u32, texel: u32) -> Op
 pub(super) fn noted(writer: &mut ViewWriter, op: Op) -> bool
     requires { HasItsTexels op }
     ensures view { writer.new.view ≡ writer.old.view }
-    ensures all { writer.new.versions ++ writer.new.tried ≡ writer.old.versions ++ writer.old.tried }
+    ensures all { writer.new.versions ++ writer.new.tried
+        ≡ writer.old.versions ++ writer.old.tried }
 {
     if writer.reserve(1).is_err() {
         return false;
