@@ -1,13 +1,10 @@
 ghost use Rattle.std.specs.Prelude.{◌≡◌, ◌+◌, ◌<◌, ◌≤◌, ℕ, [], ◌∷◌, true, false, length, map, List, ◌^◌, is_ok, Ok, Err, IfOk, IfSome, MatchOption};
-ghost use Rattle.std.specs.List.{list_all};
 ghost use Rattle.gpu_cmd.specs.Lawful.{IsLawfulAreas, places_of};
-ghost use Rattle.script_words.specs.Text.{words_of};
-ghost use Rattle.script_words.specs.Numbers.{is_value, value_of};
 ghost use Rattle.gpu_plan.specs.Plans.{IsWithin, HasFewFences, is_flush};
 ghost use Rattle.script_lines.specs.Outcome.{Gives, or_kind};
 ghost use Rattle.script_lines.specs.declared.fault.Kind.TheVariants.{Order};
 ghost use Rattle.gpu_plan.specs.Adding.{acting, fresh, acted, flushed, dumped, area_of, put_into};
-ghost use Rattle.gpu_plan.specs.Drafts.{shown, begun};
+ghost use Rattle.gpu_plan.specs.Drafts.{shown, begun, Becomes, WerePut, WereRefused, TellsWhy};
 
 use crate::begun::Begun;
 use crate::draft::Draft;
@@ -84,7 +81,7 @@ impl Draft {
         requires within { (places : ℕ) → IsWithin places action }
         requires fenced { HasFewFences action }
         requires other { is_flush action ≡ false }
-        ensures { Gives (λ done. shown self.new) result (acted (action ∷ []) (shown self.old)) }
+        ensures { Becomes self.new result (acted (action ∷ []) (shown self.old)) }
     {
         let Some(plan) = &mut self.last else {
             return Err(LineError::Refused(Kind::Order));
@@ -103,7 +100,7 @@ impl Draft {
     /// Adds a flush.
     #[tactic(auto, unfolding(crate::specs::Adding::flushed, crate::specs::Adding::acting, crate::specs::Adding::added))]
     pub(crate) fn flush(&mut self, put: u32, fences: Fences) -> Result<(), LineError>
-        ensures { Gives (λ done. shown self.new) result (flushed put fences (shown self.old)) }
+        ensures { Becomes self.new result (flushed put fences (shown self.old)) }
     {
         let Some(plan) = &mut self.last else {
             return Err(LineError::Refused(Kind::Order));
@@ -124,7 +121,7 @@ impl Draft {
     /// Adds a Finish, behind which a word of a result memory is read.
     #[tactic(auto, unfolding(crate::specs::Adding::dumped, crate::specs::Adding::acting, crate::specs::Adding::added))]
     pub(crate) fn dump(&mut self, memory: u32, index: u32) -> Result<(), LineError>
-        ensures { Gives (λ done. shown self.new) result (dumped memory index (shown self.old)) }
+        ensures { Becomes self.new result (dumped memory index (shown self.old)) }
     {
         let Some(plan) = &mut self.last else {
             return Err(LineError::Refused(Kind::Order));
@@ -155,15 +152,8 @@ impl Draft {
         place: u32,
         values: Values<'_>,
     ) -> Result<bool, AllocError>
-        ensures put { IfOk result
-            (λ done. done ≡ true
-            → (list_all is_value (words_of values.entry.rest.now) ≡ true)
-            × (put_into memory place (map value_of (words_of values.entry.rest.now))
-            (shown self.old) ≡ Ok (shown self.new))) }
-        ensures refused { IfOk result
-            (λ done. done ≡ false → list_all is_value (words_of values.entry.rest.now) ≡ true
-            → is_ok (put_into memory place (map value_of (words_of values.entry.rest.now))
-            (shown self.old)) ≡ false) }
+        ensures put { IfOk result (WerePut memory place values.entry self.old self.new) }
+        ensures refused { IfOk result (WereRefused memory place values.entry self.old) }
         ensures same { IfOk result (λ done. done ≡ false → shown self.new ≡ shown self.old) }
     {
         let Some(plan) = &mut self.last else {
@@ -191,9 +181,7 @@ impl Draft {
     #[tactic(auto, unfolding(crate::specs::Adding::put_into, crate::specs::Adding::added))]
     pub(crate) fn put_fault(&self, memory: Option<u32>, place: u32, count: usize) -> Kind
         requires { count ≤ 2 ^ 63 }
-        ensures { (values : List ℕ) → length values ≡ count
-            → is_ok (put_into memory place values (shown self.now)) ≡ false
-            → put_into memory place values (shown self.now) ≡ Err result }
+        ensures { TellsWhy memory place count self.now result }
     {
         let Some(plan) = self.acting() else {
             return Kind::Order;

@@ -1,13 +1,13 @@
 ghost use Rattle.std.specs.Prelude.{◌≡◌, ◌≤◌, ◌<◌, [], true, length, IfOk, OnOk};
 ghost use Rattle.std.specs.List.{list_any};
-ghost use Rattle.script_words.specs.Text.{words_of};
+ghost use Rattle.script_words.specs.Left.{words_left};
 ghost use Rattle.gpu_plan.specs.Plans.{IsLawfulScript, actions_in, flushes_in, is_of};
 ghost use Rattle.script_lines.specs.Outcome.{Gives};
 ghost use Rattle.script_lines.specs.Said.{keyword_of};
 ghost use Rattle.script_lines.specs.Mentioned.{mentioned_behind};
 ghost use Rattle.gpu_plan.specs.Mentioning.{mentioned_as};
 ghost use Rattle.gpu_plan.specs.Adding.{no_stream, streams, may_follow, with_stream, with_memory, with_results, with_puts, with_fill, with_flush, with_finish, with_token, with_close, with_dump, with_keyword, with_line, is_declaring};
-ghost use Rattle.gpu_plan.specs.Drafts.{shown};
+ghost use Rattle.gpu_plan.specs.Drafts.{shown, Becomes};
 
 use crate::acting::fresh;
 use crate::begun::Begun;
@@ -79,8 +79,7 @@ fn with_stream(
     words: Words<'_>,
     draft: Draft,
 ) -> Result<Draft, LineError>
-    ensures { Gives shown result
-        (with_stream version (words_of words.entry.rest.now) (shown draft)) }
+    ensures { Gives shown result (with_stream version (words_left words.entry) (shown draft)) }
 {
     let (name, priority, ring) = stream_said(version, words)?;
     let actions = draft.actions;
@@ -97,7 +96,7 @@ fn with_stream(
 
 #[tactic(auto, unfolding(crate::specs::Adding::with_memory))]
 fn with_memory(words: Words<'_>, draft: Draft) -> Result<Draft, LineError>
-    ensures { Gives shown result (with_memory (words_of words.entry.rest.now) (shown draft)) }
+    ensures { Gives shown result (with_memory (words_left words.entry) (shown draft)) }
 {
     let (memory, count) = two_said(words)?;
     let Begun {
@@ -118,7 +117,7 @@ fn with_memory(words: Words<'_>, draft: Draft) -> Result<Draft, LineError>
 
 #[tactic(auto, unfolding(crate::specs::Adding::with_results))]
 fn with_results(words: Words<'_>, draft: Draft) -> Result<Draft, LineError>
-    ensures { Gives shown result (with_results (words_of words.entry.rest.now) (shown draft)) }
+    ensures { Gives shown result (with_results (words_left words.entry) (shown draft)) }
 {
     let (memory, count) = two_said(words)?;
     let Begun {
@@ -148,7 +147,7 @@ fn with_declared(
 ) -> Result<Draft, LineError>
     requires { is_declaring keyword ≡ true }
     ensures { Gives shown result
-        (with_keyword version [] keyword (words_of words.entry.rest.now) (shown draft)) }
+        (with_keyword version [] keyword (words_left words.entry) (shown draft)) }
 {
     match keyword {
         Keyword::StreamLine => with_stream(alloc, version, words, draft),
@@ -160,8 +159,7 @@ fn with_declared(
 // The line is read once. Where its values are not put, the script is refused, and the line is looked at again for the
 // first kind that is wrong with it.
 fn with_puts(words: Words<'_>, draft: &mut Draft) -> Result<(), LineError>
-    ensures { Gives (λ done. shown draft.new) result
-        (with_puts (words_of words.entry.rest.now) (shown draft.old)) }
+    ensures { Becomes draft.new result (with_puts (words_left words.entry) (shown draft.old)) }
 {
     let (place, values) = put_begun(words)?;
     if draft.put(None, place, values)? {
@@ -173,8 +171,7 @@ fn with_puts(words: Words<'_>, draft: &mut Draft) -> Result<(), LineError>
 }
 
 fn with_fill(words: Words<'_>, draft: &mut Draft) -> Result<(), LineError>
-    ensures { Gives (λ done. shown draft.new) result
-        (with_fill (words_of words.entry.rest.now) (shown draft.old)) }
+    ensures { Becomes draft.new result (with_fill (words_left words.entry) (shown draft.old)) }
 {
     let (memory, place, values) = fill_begun(words)?;
     if draft.put(Some(memory), place, values)? {
@@ -193,20 +190,19 @@ fn with_flush(
     words: Words<'_>,
     draft: &mut Draft,
 ) -> Result<(), LineError>
-    ensures said { Gives (λ done. shown draft.new) result
-        (with_flush version (mentioned_behind version mentioned.old (words_of words.entry.rest.now))
-        (words_of words.entry.rest.now) (shown draft.old)) }
+    ensures said { Becomes draft.new result
+        (with_flush version (mentioned_behind version mentioned.old (words_left words.entry))
+        (words_left words.entry) (shown draft.old)) }
     ensures mentioned { OnOk result
-        (mentioned.new ≡ mentioned_behind version mentioned.old (words_of words.entry.rest.now)) }
+        (mentioned.new ≡ mentioned_behind version mentioned.old (words_left words.entry)) }
 {
     let (put, fences) = flush_said(alloc, version, mentioned, words)?;
-    draft.flush(put, Fences::of(fences))
+    draft.flush(put, Fences::of(alloc, fences)?)
 }
 
 #[tactic(auto, unfolding(crate::specs::Adding::with_finish, crate::specs::Adding::acted))]
 fn with_finish(words: Words<'_>, draft: &mut Draft) -> Result<(), LineError>
-    ensures { Gives (λ done. shown draft.new) result
-        (with_finish (words_of words.entry.rest.now) (shown draft.old)) }
+    ensures { Becomes draft.new result (with_finish (words_left words.entry) (shown draft.old)) }
 {
     none_said(words)?;
     draft.act(Action::Finish)
@@ -214,8 +210,7 @@ fn with_finish(words: Words<'_>, draft: &mut Draft) -> Result<(), LineError>
 
 #[tactic(auto, unfolding(crate::specs::Adding::with_token, crate::specs::Adding::acted))]
 fn with_token(words: Words<'_>, draft: &mut Draft) -> Result<(), LineError>
-    ensures { Gives (λ done. shown draft.new) result
-        (with_token (words_of words.entry.rest.now) (shown draft.old)) }
+    ensures { Becomes draft.new result (with_token (words_left words.entry) (shown draft.old)) }
 {
     let token = one_said(words)?;
     draft.act(Action::Token { token })
@@ -223,8 +218,7 @@ fn with_token(words: Words<'_>, draft: &mut Draft) -> Result<(), LineError>
 
 #[tactic(auto, unfolding(crate::specs::Adding::with_close, crate::specs::Adding::acted))]
 fn with_close(words: Words<'_>, draft: &mut Draft) -> Result<(), LineError>
-    ensures { Gives (λ done. shown draft.new) result
-        (with_close (words_of words.entry.rest.now) (shown draft.old)) }
+    ensures { Becomes draft.new result (with_close (words_left words.entry) (shown draft.old)) }
 {
     none_said(words)?;
     draft.act(Action::Close)
@@ -232,8 +226,7 @@ fn with_close(words: Words<'_>, draft: &mut Draft) -> Result<(), LineError>
 
 #[tactic(auto, unfolding(crate::specs::Adding::with_dump, crate::specs::Adding::dumped))]
 fn with_dump(words: Words<'_>, draft: &mut Draft) -> Result<(), LineError>
-    ensures { Gives (λ done. shown draft.new) result
-        (with_dump (words_of words.entry.rest.now) (shown draft.old)) }
+    ensures { Becomes draft.new result (with_dump (words_left words.entry) (shown draft.old)) }
 {
     let (memory, index) = two_said(words)?;
     draft.dump(memory, index)
@@ -250,15 +243,13 @@ pub(crate) fn with_line(
     words: Words<'_>,
     draft: &mut Draft,
 ) -> Result<(), LineError>
-    ensures said { Gives (λ done. shown draft.new) result
+    ensures said { Becomes draft.new result
         (with_line version
-        (mentioned_as version mentioned.old (keyword_of name.now)
-        (words_of words.entry.rest.now)) name.now (words_of words.entry.rest.now)
-        (shown draft.old)) }
+        (mentioned_as version mentioned.old (keyword_of name.now) (words_left words.entry)) name.now
+        (words_left words.entry) (shown draft.old)) }
     ensures mentioned { OnOk result
         (mentioned.new
-        ≡ mentioned_as version mentioned.old (keyword_of name.now)
-        (words_of words.entry.rest.now)) }
+        ≡ mentioned_as version mentioned.old (keyword_of name.now) (words_left words.entry)) }
 {
     let Some(keyword) = keyword_of(name) else {
         return Err(LineError::Refused(Kind::Word));

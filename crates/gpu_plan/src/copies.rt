@@ -8,7 +8,7 @@ impl Fences {
     fn try_clone(&self, alloc: Global) -> Result<Fences, AllocError>
         ensures { IfOk result (λ fences. fences ≡ self.now) }
     {
-        Ok(Fences::of(self.as_slice().to_vec(alloc)?))
+        Fences::of(alloc, self.as_slice().to_vec(alloc)?)
     }
 }
 

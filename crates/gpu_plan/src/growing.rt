@@ -1,11 +1,11 @@
 ghost use Rattle.std.specs.Prelude.{◌≡◌, ◌+◌, ◌<◌, ◌≤◌, ◌++◌, [], ◌∷◌, false, length, take, map, is_some, OnOk, OnErr, IfOk, IfSome, IfNone, OnSome};
 ghost use Rattle.gpu_cmd.specs.Lawful.{places_of};
 ghost use Rattle.gpu_cmd.specs.Spans.{AreTiles, words_in};
-ghost use Rattle.script_words.specs.Text.{words_of};
+ghost use Rattle.script_words.specs.Left.{values_left};
 ghost use Rattle.script_words.specs.Numbers.{value_of};
 ghost use Rattle.gpu_plan.specs.Plans.{IsWithin, HasFewFences, is_closed, ring_alone};
 ghost use Rattle.gpu_plan.specs.Adding.{fresh_plan, puts};
-ghost use Rattle.gpu_plan.specs.Putting.{can_put};
+ghost use Rattle.gpu_plan.specs.Putting.{can_put, word_puts, with_word_puts};
 ghost use Rattle.gpu_plan.specs.declared.plan.Action.TheVariants.{Finish};
 
 use crate::plan::{Action, Plan};
@@ -22,15 +22,13 @@ fn push_puts(
     values: Values<'_>,
 ) -> Result<Option<u32>, AllocError>
     requires { place ≤ end }
-    ensures told { IfOk result
-        (λ at. is_some at ≡ can_put place end (words_of values.entry.rest.now)) }
+    ensures told { IfOk result (λ at. is_some at ≡ can_put place end (values_left values.entry)) }
     ensures within { IfOk result (λ at. IfSome at (λ at. at ≤ end)) }
     ensures at { IfOk result
-        (λ at. IfSome at (λ at. at ≡ place + length (words_of values.entry.rest.now))) }
+        (λ at. IfSome at (λ at. at ≡ place + length (values_left values.entry))) }
     ensures put { IfOk result
         (λ at. OnSome at
-        (actions.new.items
-        ≡ actions.old.items ++ puts place (map value_of (words_of values.entry.rest.now)))) }
+        (actions.new.items ≡ actions.old.items ++ word_puts place (values_left values.entry))) }
     ensures behind { take (length actions.old.items) actions.new.items ≡ actions.old.items }
 {
     let mut at = place;
@@ -115,16 +113,13 @@ impl Plan {
         requires few { length self.old.actions + end ≤ 1000000 + place }
         requires fits { end ≤ places_of self.old.areas }
         ensures told { IfOk result
-            (λ count. is_some count ≡ can_put place end (words_of values.entry.rest.now)) }
+            (λ count. is_some count ≡ can_put place end (values_left values.entry)) }
         ensures within { IfOk result (λ count. IfSome count (λ count. place + count ≤ end)) }
         ensures counted { IfOk result
-            (λ count. IfSome count (λ count. count ≡ length (words_of values.entry.rest.now))) }
+            (λ count. IfSome count (λ count. count ≡ length (values_left values.entry))) }
         ensures put { IfOk result
             (λ count. OnSome count
-            (self.new ≡ record self.old {
-              actions = self.old.actions ++ puts place
-                  (map value_of (words_of values.entry.rest.now));
-            })) }
+            (self.new ≡ with_word_puts place (values_left values.entry) self.old)) }
         ensures refused { IfOk result (λ count. IfNone count (self.new ≡ self.old)) }
         ensures same { OnErr result (self.new ≡ self.old) }
     {

@@ -1,4 +1,4 @@
-ghost use Rattle.std.specs.Prelude.{◌≡◌, ◌-◌, ◌<◌, ◌≤◌, [], ◌∷◌, length, slice_get, position, Some, IfSome};
+ghost use Rattle.std.specs.Prelude.{◌≡◌, ◌-◌, ◌<◌, ◌≤◌, [], ◌∷◌, length, slice_get, position, Some, IfSome, IfOk};
 ghost use Rattle.std.specs.List.{All};
 ghost use Rattle.gpu_cmd.specs.Lawful.{IsLawfulAreas};
 ghost use Rattle.std.specs.Option.{option_map};
@@ -7,40 +7,53 @@ ghost use Rattle.gpu_plan.specs.Passes.{passes_behind};
 ghost use Rattle.gpu_plan.specs.Named.{names_in, IsVersion, AreLawfulNames};
 
 use gpu_cmd::{Areas, Name, Priority};
+use std::alloc::{AllocError, Global};
 use std::marker::Model;
 
 /// What a flush waits for, seen as a list of pairs: a stream's number and a release.
 ///
-/// The number 0 stands for a stream that is not there.
+/// The number 0 stands for a stream that is not there. Where a flush waits for nothing, no memory is taken.
 #[derive(Debug, Drop)]
 pub struct Fences {
-    pub(crate) pairs: Vec<(u32, u64)>,
+    pub(crate) pairs: Option<Box<Vec<(u32, u64)>>>,
 }
 
 impl Model for Fences {
-    ghost use Rattle.std.specs.Prelude.{ℕ, List};
+    ghost use Rattle.std.specs.Prelude.{ℕ, List, []};
+    ghost use Rattle.std.specs.Option.{option_map_or};
 
     ghost Value = { List (ℕ × ℕ) };
 
-    ghost view = { λ fences. fences.pairs.items };
+    ghost view = { λ fences. option_map_or (λ pairs. pairs.value.items) fences.pairs [] };
 }
 
 impl Fences {
-    pub(crate) fn of(pairs: Vec<(u32, u64)>) -> Fences
-        ensures { result ≡ pairs.items }
+    pub(crate) fn of(alloc: Global, pairs: Vec<(u32, u64)>) -> Result<Fences, AllocError>
+        ensures { IfOk result (λ fences. fences ≡ pairs.items) }
     {
-        Fences { pairs }
+        if pairs.is_empty() {
+            return Ok(Fences { pairs: None });
+        }
+        let pairs = Box::new(alloc, pairs)?;
+        Ok(Fences { pairs: Some(pairs) })
     }
 
     /// The pairs in the order of the flush line.
     pub fn as_slice(&self) -> &[(u32, u64)]
         ensures { result.now ≡ self.now }
     {
-        &self.pairs
+        match &self.pairs {
+            Some(pairs) => pairs.as_slice(),
+            None => &[],
+        }
     }
 }
 
 /// One act of a client, in the order of its script.
+///
+/// It takes 24 bytes: one that says which it is, with three that are left free, the number of a put, a flush or a token in
+/// four, and in sixteen a put's value, or whether a flush has fences and where they lie. A script may have a million, and most
+/// are puts.
 #[derive(Debug, Drop)]
 pub enum Action {
     /// Stores a value in one of the stream's words.

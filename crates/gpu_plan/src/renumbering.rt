@@ -44,7 +44,9 @@ impl Fences {
     fn renumber(&mut self, numbers: &[u32])
         ensures { self.new ≡ map (renumbered_fence numbers.now) self.old }
     {
-        renumber_pairs(numbers, &mut self.pairs);
+        if let Some(pairs) = &mut self.pairs {
+            renumber_pairs(numbers, pairs);
+        }
     }
 }
 
