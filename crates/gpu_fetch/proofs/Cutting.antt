@@ -1,17 +1,13 @@
 -- Commands whose words stand in one list, one behind the other.
-use Rattle.std.proofs.Common.{◌≡◌, ℕ, zero, suc, ◌+◌, ◌-◌, ◌<◌, ◌≤◌, List, [], ◌∷◌, ◌++◌, length, take, drop, get_or, Result, refl, sym, ap, ◌∙◌, subst, arith, append_assoc, length-append}
+use Rattle.std.proofs.Common.{◌≡◌, ℕ, zero, suc, ◌+◌, ◌-◌, ◌<◌, ◌≤◌, List, [], ◌∷◌, ◌++◌, length, take, drop, get_or, refl, sym, ap, ◌∙◌, subst, arith, length-append}
 use Rattle.std.specs.Prelude.{slice_range}
 use Rattle.std.specs.List.{All}
 use Rattle.std.proofs.Math.Seq.{take-length}
 use Rattle.std.proofs.lemmas.List.{take-append-le, drop-append-le, drop-drop, length-drop}
 use Rattle.std.proofs.lemmas.List.Elements.{All-head, All-tail}
-use Rattle.gpu_cmd.specs.declared.command.Command.{Command}
-use Rattle.gpu_cmd.specs.declared.error.CmdError.{CmdError}
-use Rattle.gpu_cmd.specs.declared.facts.StreamFacts.{StreamFacts}
 use Rattle.gpu_fetch.specs.declared.sharing.FetchedPart.{FetchedPart}
 use Rattle.gpu_fetch.specs.Fetched.{FetchedData, IsFetched, added}
 use Rattle.gpu_fetch.specs.Parts.{words_in, parts_of}
-use Rattle.gpu_fetch.proofs.Fetching.{added_is}
 
 -- ---- one command more
 

@@ -14,7 +14,7 @@ use Rattle.gpu_cmd.specs.Copied.{fetched_places, places_decoded, ring_places, va
 use Rattle.gpu_cmd.proofs.Copies.{put_out_of_range, header_refused, entries_refused, command_copied, header_goes_on, places_at}
 use Rattle.gpu_fetch.specs.Side.{SideData, MayFetch, with_words, Fetches}
 use Rattle.gpu_fetch.specs.Fetched.{added, FetchesSome, FetchesRow, FetchesRowInPart, FetchesRows}
-use Rattle.gpu_fetch.proofs.Fetching.{fetches_one, fetches_then, appends, row_behind}
+use Rattle.gpu_fetch.proofs.Fetching.{fetches_one, fetches_then, row_behind}
 
 -- ---- words at places in a row
 

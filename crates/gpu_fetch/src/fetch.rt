@@ -95,6 +95,8 @@ pub fn fetch_onto<P: ServiceSide>(
         Err(error) => return Ok(Err(error)),
     };
     fetch_row(side, words, list, facts.get + 1, shape.ring_words - 1)?;
+    values.clear();
+    values.reserve(USUAL_ENTRIES)?;
     copy_values(values, &list[from..])?;
     match decode(values, facts) {
         Ok(found) => {
@@ -105,7 +107,8 @@ pub fn fetch_onto<P: ServiceSide>(
     }
 }
 
-/// Fetches the next command of a stream, as `fetch_onto` does, with a list of its own for its words.
+/// Fetches the next command of a stream, as `fetch_onto` does, with a list of its own for its words. The list of values that
+/// it is passed is room alone, whatever it holds: a caller that passes it again takes no memory for the next command's.
 ///
 /// # Errors
 ///
@@ -116,6 +119,7 @@ pub fn fetch_command<P: ServiceSide>(
     side: &mut P,
     words: &P::Words,
     facts: &StreamFacts,
+    values: &mut Vec<u32>,
 ) -> Result<Fetched, Memory>
     requires belongs { P.belongs side.old words.now }
     requires lawful { IsLawfulFacts facts.now }
@@ -139,7 +143,6 @@ pub fn fetch_command<P: ServiceSide>(
     ensures table { P.table side.new ≡ P.table side.old }
 {
     let mut list = Vec::new(alloc);
-    let mut values = Vec::new(alloc);
-    let verdict = fetch_onto(side, words, facts, &mut list, &mut values)?;
+    let verdict = fetch_onto(side, words, facts, &mut list, values)?;
     Ok(Fetched::of(Words::taken(list), verdict, facts))
 }

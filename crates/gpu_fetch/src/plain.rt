@@ -1,5 +1,6 @@
 mod list;
 mod pass;
+mod seen;
 mod words;
 
 pub use pass::PlainPass;

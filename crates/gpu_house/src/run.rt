@@ -29,6 +29,8 @@ pub struct Run<N: Naming, P: ServiceSide> {
     pub(crate) carried: Carried,
     pub(crate) side: P,
     pub(crate) note: Option<P::Note>,
+    // Room for the values of a command's ring entries, the same for each command that the run fetches.
+    pub(crate) values: Vec<u32>,
     pub(crate) of: PhantomData<N>,
 }
 
@@ -131,10 +133,11 @@ impl<N: Naming, P: ServiceSide> Run<N, P> {
             carried,
             side,
             note,
+            values,
             ..
         } = self;
         meet(side, note, words);
-        fetch_command(*alloc, side, words, carried.facts())
+        fetch_command(*alloc, side, words, carried.facts(), values)
     }
 
     /// Fetches commands one after the other up to the end of a batch, without the lock. The first fetch of an order meets its note.

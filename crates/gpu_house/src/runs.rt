@@ -59,6 +59,7 @@ impl<N: Naming, P: ServiceSide, H: Hook> House<N, P, H> {
                 carried,
                 side,
                 note,
+                values: Vec::new(*alloc),
                 of: PhantomData,
             }),
             None => unreachable!(),

@@ -10,7 +10,7 @@ pub fn copy_values(values: &mut Vec<u32>, words: &[(u32, u32)]) -> Result<(), Al
     values.clear();
     values.reserve(words.len())?;
     for word in words {
-        values.push(word.1)?;
+        values.push_reserved(word.1);
     }
     Ok(())
 }

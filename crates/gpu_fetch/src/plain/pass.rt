@@ -1,22 +1,21 @@
 ghost use Rattle.std.specs.Prelude.{◌≡◌, ℕ, ◌<◌, [], ◌∷◌, IfOk, IfErr, Ok, MatchResult};
-ghost use Rattle.std.specs.Arc.{arc_value};
 ghost use Rattle.gpu_cmd.specs.Lawful.{places_of};
 ghost use Rattle.gpu_plan.specs.Values.{value_at};
 ghost use Rattle.gpu_fetch.specs.Side.{MayFetch, fresh_side, with_words};
 ghost use Rattle.gpu_fetch.specs.Plain.{IsBeside, IsNoteBeside, IsHeld};
 
 use crate::plain::list::FetchList;
+use crate::plain::seen::SeenPlan;
 use crate::plain::words::{PlainNote, PlainWords};
 use crate::side::ServiceSide;
 use gpu_plan::Plan;
 use gpu_word::Memory;
 use std::marker::Model;
-use std::sync::Arc;
 
 /// The service's side of plain words.
 #[derive(Drop)]
 pub struct PlainPass {
-    plan: Arc<Plan>,
+    plan: SeenPlan,
     fetched: FetchList,
     finished: u64,
     greatest: u32,
@@ -24,13 +23,12 @@ pub struct PlainPass {
 }
 
 impl Model for PlainPass {
-    ghost use Rattle.std.specs.Arc.{arc_value};
     ghost use Rattle.gpu_fetch.specs.Side.{SideData};
 
     ghost Value = { SideData };
 
     ghost view = { λ p. record {
-      plan = arc_value p.plan;
+      plan = p.plan.plan;
       fetched = p.fetched.items;
       finished = p.finished;
       greatest = p.greatest;
@@ -40,11 +38,11 @@ impl Model for PlainPass {
 
 impl PlainPass {
     // A side that has done nothing.
-    pub(crate) fn of(plan: Arc<Plan>) -> PlainPass
-        ensures { result ≡ fresh_side (arc_value plan) }
+    pub(crate) fn of(plan: &Plan) -> PlainPass
+        ensures { result ≡ fresh_side plan.now }
     {
         PlainPass {
-            plan,
+            plan: SeenPlan::of(plan),
             fetched: FetchList::new(),
             finished: 0,
             greatest: 0,

@@ -7,31 +7,30 @@ ghost use Rattle.gpu_fetch.specs.Side.{SideData, fresh_side};
 ghost use Rattle.gpu_fetch.specs.Plain.{fresh_words, one_further, IsNext, IsPut, IsFlush, IsAwait, IsBeside, IsNoteBeside};
 
 use crate::plain::pass::PlainPass;
+use crate::plain::seen::SeenPlan;
 use gpu_plan::{Action, Plan};
 use gpu_word::Memory;
 use std::alloc::Global;
 use std::marker::Model;
-use std::sync::Arc;
 
 /// The words of a stream as one thread keeps them: the value of each place after the actions that the client has done.
 ///
 /// Seen as the plan and the number of actions done.
 #[derive(Drop)]
 pub struct PlainWords {
-    plan: Arc<Plan>,
+    plan: SeenPlan,
     done: u32,
     values: Vec<u32>,
 }
 
 impl Model for PlainWords {
-    ghost use Rattle.std.specs.Arc.{arc_value};
     ghost use Rattle.gpu_fetch.specs.Plain.{PlainData, IsStored};
 
     ghost Value = { PlainData };
 
-    ghost view = { λ w. record { plan = arc_value w.plan; done = w.done } };
+    ghost view = { λ w. record { plan = w.plan.plan; done = w.done } };
 
-    ghost invariant = { λ w. IsStored (arc_value w.plan) w.done w.values.items };
+    ghost invariant = { λ w. IsStored (w.plan.plan) w.done w.values.items };
 }
 
 /// What the client of plain words hands over with a flush.
@@ -86,14 +85,12 @@ impl PlainWords {
         ensures beside { IfOk result (λ made. IsBeside made.1 made.0) }
     {
         let values = zeros(alloc, plan.areas().places() as usize)?;
-        let plan = Arc::new(alloc, plan.try_clone(alloc)?)?;
-        let pass = PlainPass::of(Arc::try_clone(&plan)?);
         let words = PlainWords {
-            plan,
+            plan: SeenPlan::of(plan),
             done: 0,
             values,
         };
-        Ok((words, pass))
+        Ok((words, PlainPass::of(plan)))
     }
 
     // Does the next action.

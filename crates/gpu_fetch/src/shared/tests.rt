@@ -44,7 +44,7 @@ fn fetch_racing(
     requires areas { facts.now.areas ≡ side.old.plan.areas }
     ensures rows { IfErr result (λ _. FetchesRows (side_of side.old) (side_of side.new) facts.now) }
 {
-    fetch_command(alloc, side, words, facts)
+    fetch_command(alloc, side, words, facts, &mut Vec::new(alloc))
 }
 
 #[test]

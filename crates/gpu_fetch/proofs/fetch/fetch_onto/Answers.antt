@@ -37,6 +37,36 @@ returns-in_err-fetch_row-clause-some g c =
     let here = ring_part_some s m t facts entry shape header c.in-Ok.ensures.some c.in_err-fetch_row.ensures.part c.if-facts.false passed in
     MatchResult-from_err c.from_residual-in_err-fetch_row.result _ _ c.from_residual-in_err-fetch_row.ensures.0 (λ _. here)
 
+pub returns-in_err-reserve-2-clause-some : goal.returns-in_err-reserve-2-clause-some
+returns-in_err-reserve-2-clause-some g c =
+    let facts = c.args.facts.now in
+    let entry = c.in_ok-entry.entry in
+    let were = c.args.list.now.items in
+    let s = g.P.ServiceSide.side c.args.side.now in
+    let m = g.P.ServiceSide.side c.fetch.new.self in
+    let t = g.P.ServiceSide.side c.fetch_row.new.side in
+    let shape = c.in-Ok.shape in
+    let passed = sym c.in-Ok.ensures.verdict in
+    let mid = c.fetch_row.new.list.items in
+    let ring = ring_onto s m t facts entry shape were c.reserve.new.self.items c.push.new.self.items mid c.in_ok-entry.ensures.grows c.in_ok-entry.ensures.may c.reserve.ensures.items c.in_ok-push.ensures.items c.in-Ok.ensures.some c.in_ok-fetch_row.ensures.row in
+    let here = ring_some s t t facts entry shape (added were mid) ring refl c.if-facts.false passed in
+    MatchResult-from_err c.from_residual-in_err-reserve-2.result _ _ c.from_residual-in_err-reserve-2.ensures.0 (λ _. here)
+
+pub returns-in_err-reserve-2-clause-rows : goal.returns-in_err-reserve-2-clause-rows
+returns-in_err-reserve-2-clause-rows g c =
+    let facts = c.args.facts.now in
+    let entry = c.in_ok-entry.entry in
+    let were = c.args.list.now.items in
+    let s = g.P.ServiceSide.side c.args.side.now in
+    let m = g.P.ServiceSide.side c.fetch.new.self in
+    let t = g.P.ServiceSide.side c.fetch_row.new.side in
+    let shape = c.in-Ok.shape in
+    let passed = sym c.in-Ok.ensures.verdict in
+    let mid = c.fetch_row.new.list.items in
+    let ring = ring_onto s m t facts entry shape were c.reserve.new.self.items c.push.new.self.items mid c.in_ok-entry.ensures.grows c.in_ok-entry.ensures.may c.reserve.ensures.items c.in_ok-push.ensures.items c.in-Ok.ensures.some c.in_ok-fetch_row.ensures.row in
+    let here = rows_ring s t t facts entry shape (added were mid) ring refl passed in
+    MatchResult-from_err c.from_residual-in_err-reserve-2.result _ _ c.from_residual-in_err-reserve-2.ensures.0 (λ _. inr here)
+
 pub returns-in_err-copy_values-clause-some : goal.returns-in_err-copy_values-clause-some
 returns-in_err-copy_values-clause-some g c =
     let facts = c.args.facts.now in

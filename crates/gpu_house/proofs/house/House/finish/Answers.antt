@@ -15,11 +15,11 @@ use Rattle.gpu_house.specs.House.{OutData}
 use Rattle.gpu_house.specs.Changes.{StillBelongs, CameDone}
 use Rattle.gpu_house.proofs.Rows.{slot_changed}
 use Rattle.gpu_house.proofs.Stepping.{note_marked}
-use Rattle.gpu_house.proofs.Homes.{came_back, came_done, is_out, order_positive}
+use Rattle.gpu_house.proofs.Homes.{came_back, came_done, is_out, order_positive, side_seen}
 use Rattle.gpu_house.proofs.Cases.{open_here, known_here}
 use Rattle.gpu_house.proofs.Endings.{grown_quietly}
 use Rattle.gpu_house.proofs.Counting.{counted_next}
-use Rattle.gpu_house.proofs.Writings.{AllFit, all_more, at_stream, read_belongs, wrote}
+use Rattle.gpu_house.proofs.Writings.{AllFit, all_more, at_stream, read_belongs, wrote, wrote_none}
 use Rattle.gpu_house.proofs.Keeping.{kept}
 use Rattle.gpu_house.proofs.house.House.finish.Goals as goal
 
@@ -50,6 +50,18 @@ invariant_of-self g c =
       result_count = was.result_count;
       results = subst (λ (h : List Event). AllFit takes told results_of answers p h results) (sym waits.past) was.results;
     }
+
+pub returns-then-not-is_open-clause-home : goal.returns-then-not-is_open-clause-home
+returns-then-not-is_open-clause-home g c over =
+    let run = c.run.inside.carried in
+    let slots = c.self.inside.slots.items in
+    let t = c.stream-stream.result in
+    side_seen run c.run.inside.side c.run.inside.note c.args.run slots c.args.self.now.slots t c.index_mut-slot.result.now c.come.new.self c.run.view_is (ap (λ h. h.slots) c.self.view_is)
+    c.stream-stream.ensures (known_here g.N.Naming.plans slots t run.stream c.self.invariant.slots c.stream-stream.ensures c.run.invariant.of_plans.known) c.index_mut-slot.ensures.value c.come.ensures
+
+pub returns-then-not-is_open-clause-results : goal.returns-then-not-is_open-clause-results
+returns-then-not-is_open-clause-results g c =
+    wrote_none g.P.ServiceSide.results_belong c.args.words.now c.args.self.now.results c.self.inside.results.items c.args.run.run.stream (ap (λ h. h.results) c.self.view_is) c.requires.results
 
 pub follow-requires : goal.follow-requires
 follow-requires g c =
