@@ -3,6 +3,7 @@ pub mod Digits
 pub mod Text
 pub mod Picture
 pub mod Lines
+pub mod Sheet
 pub mod World
 pub mod Waits
 pub mod Facts

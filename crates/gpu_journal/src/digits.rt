@@ -1,4 +1,4 @@
-ghost use Rattle.std.specs.Prelude.{◌≡◌, ◌+◌, ◌/◌, ◌%◌, ◌<◌, ◌≤◌, ◌∷◌, ◌++◌, length, vec_len, vec_capacity};
+ghost use Rattle.std.specs.Prelude.{◌≡◌, ◌+◌, ◌*◌, ◌/◌, ◌%◌, ◌<◌, ◌≤◌, ◌∷◌, ◌++◌, length, vec_len, vec_capacity};
 ghost use Rattle.std.specs.Char.{digit_char};
 ghost use Rattle.gpu_journal.specs.Digits.{numeral, hex8, number_text};
 
@@ -54,13 +54,17 @@ pub(crate) fn put_decimal(out: &mut Vec<u8>, number: u64)
 }
 
 /// Appends a space and a number.
-#[tactic(auto, using(crate::proofs::Lengths::numeral_few))]
+#[tactic(auto, using(crate::proofs::Lengths::numeral_few, crate::proofs::Numerals::numeral_of_one))]
 pub(crate) fn put_number(out: &mut Vec<u8>, number: u64)
     requires { vec_len out.old + NUMBER ≤ vec_capacity out.old }
     ensures items { out.new.items ≡ out.old.items ++ number_text number }
     ensures few { vec_len out.new ≤ vec_len out.old + NUMBER }
     ensures room { vec_capacity out.old ≤ vec_capacity out.new }
 {
+    if number < 10 {
+        put(out, &[b' ', digit(number)]);
+        return;
+    }
     out.push_reserved(b' ');
     put_decimal(out, number);
 }
@@ -69,24 +73,22 @@ pub(crate) fn put_number(out: &mut Vec<u8>, number: u64)
 static PAIRS: [u8; 512] =
     *b"000102030405060708090a0b0c0d0e0f101112131415161718191a1b1c1d1e1f202122232425262728292a2b2c2d2e2f303132333435363738393a3b3c3d3e3f404142434445464748494a4b4c4d4e4f505152535455565758595a5b5c5d5e5f606162636465666768696a6b6c6d6e6f707172737475767778797a7b7c7d7e7f808182838485868788898a8b8c8d8e8f909192939495969798999a9b9c9d9e9fa0a1a2a3a4a5a6a7a8a9aaabacadaeafb0b1b2b3b4b5b6b7b8b9babbbcbdbebfc0c1c2c3c4c5c6c7c8c9cacbcccdcecfd0d1d2d3d4d5d6d7d8d9dadbdcdddedfe0e1e2e3e4e5e6e7e8e9eaebecedeeeff0f1f2f3f4f5f6f7f8f9fafbfcfdfeff";
 
-// The two digits of a byte, in lower case.
-fn pair(byte: u32) -> (u8, u8)
+// The two digits of a byte, in lower case, the first of them the lower byte.
+fn pair(byte: u32) -> u64
     requires { byte < 256 }
-    ensures { result ≡ (digit_char (byte / 16), digit_char (byte % 16)) }
+    ensures { result ≡ digit_char (byte / 16) + 256 * digit_char (byte % 16) }
 {
     let from = byte as usize * 2;
-    (PAIRS[from], PAIRS[from + 1])
+    u64::from(PAIRS[from]) + 0x100 * u64::from(PAIRS[from + 1])
 }
 
 /// A number as eight hexadecimal digits, which come two at a time.
 pub(crate) fn hex(number: u32) -> [u8; HEX]
     ensures { result ≡ hex8 number }
 {
-    let (a, b) = pair(number / 0x100_0000);
-    let (c, d) = pair(number / 0x1_0000 % 0x100);
-    let (e, f) = pair(number / 0x100 % 0x100);
-    let (g, h) = pair(number % 0x100);
-    [a, b, c, d, e, f, g, h]
+    let first = pair(number / 0x100_0000) + 0x1_0000 * pair(number / 0x1_0000 % 0x100);
+    let last = pair(number / 0x100 % 0x100) + 0x1_0000 * pair(number % 0x100);
+    (first + 0x1_0000_0000 * last).to_le_bytes()
 }
 
 /// A space and a number as eight hexadecimal digits.

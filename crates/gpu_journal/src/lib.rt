@@ -13,6 +13,7 @@ mod other_lines;
 mod picture_line;
 mod put;
 mod replaying;
+mod sheet;
 mod stream_line;
 mod tally;
 mod text;
@@ -28,5 +29,6 @@ pub use laws::{
 };
 pub use line::Line;
 pub use replaying::replay;
+pub use sheet::Sheet;
 pub use tally::Tally;
 pub use text::{journal_text, mark_text, picture_text, stream_text, tally_text};

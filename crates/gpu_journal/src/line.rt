@@ -8,12 +8,7 @@ ghost use Rattle.gpu_journal.specs.Lines.{journal_head, name_text, mark_text, du
 
 use crate::end::End;
 use crate::event::Event;
-use crate::event_line::put_event;
-use crate::other_lines::{put_dump, put_mark, put_name, put_view};
-use crate::picture_line::{put_head, put_row};
-use crate::put::put;
-use crate::stream_line::put_stream;
-use crate::tally::Tally;
+use crate::sheet::Sheet;
 use gpu_cmd::Name;
 use gpu_store::Images;
 use gpu_word::Memory;
@@ -22,25 +17,20 @@ use std::marker::Model;
 use stream_state::StreamState;
 use sync_core::Ending;
 
-/// The bytes that a line has room for. The longest is that of an event with 69,632 words, each of them at most 15 bytes.
-const ROOM: usize = 1_048_576;
-
 /// One line of the output with its line feed, seen as its bytes.
 ///
 /// Each call puts another line in place of the one before. All memory is taken by `make`.
 #[derive(Drop)]
 pub struct Line {
-    bytes: Vec<u8>,
+    sheet: Sheet,
 }
 
 impl Model for Line {
-    ghost use Rattle.std.specs.Prelude.{ℕ, List, ◌≤◌, vec_capacity};
+    ghost use Rattle.std.specs.Prelude.{ℕ, List};
 
     ghost Value = { List ℕ };
 
-    ghost view = { λ line. line.bytes.items };
-
-    ghost invariant = { λ line. 1048576 ≤ vec_capacity line.bytes };
+    ghost view = { λ line. line.sheet.bytes };
 }
 
 impl Line {
@@ -48,24 +38,25 @@ impl Line {
     pub fn make(alloc: Global) -> Result<Line, Memory>
         ensures { IfOk result (λ line. line ≡ []) }
     {
-        let bytes = Vec::with_capacity(alloc, ROOM)?;
-        Ok(Line { bytes })
+        Ok(Line {
+            sheet: Sheet::make(alloc, 0)?,
+        })
     }
 
     /// The first line of the output of a script of version 2.
     pub fn head(&mut self)
         ensures { self.new ≡ journal_head }
     {
-        self.bytes.clear();
-        put(&mut self.bytes, b"gpu-journal 2\n");
+        self.sheet.clear();
+        self.sheet.head();
     }
 
     /// The line of a stream's name.
     pub fn name(&mut self, stream: u32, name: Name)
         ensures { self.new ≡ name_text stream name }
     {
-        self.bytes.clear();
-        put_name(&mut self.bytes, stream, name);
+        self.sheet.clear();
+        self.sheet.name(stream, name);
     }
 
     /// The line of an event, which has at most 69,632 words, each at a place below 69,632.
@@ -74,8 +65,8 @@ impl Line {
         requires near { All (λ word. word.0 < 69632) (words_of event.now) }
         ensures { self.new ≡ event_text event.now }
     {
-        self.bytes.clear();
-        put_event(&mut self.bytes, event);
+        self.sheet.clear();
+        self.sheet.event(event);
     }
 
     /// The own line of an image: its number, its width and its height.
@@ -84,9 +75,8 @@ impl Line {
         ensures { IfSome (picture_of images.now image)
             (λ picture. self.new ≡ head_text image picture.width picture.height) }
     {
-        let (width, height) = images.size(image).unwrap();
-        self.bytes.clear();
-        put_head(&mut self.bytes, image, width, height);
+        self.sheet.clear();
+        self.sheet.image(images, image);
     }
 
     /// The line of a row of an image: its texels from left to right.
@@ -95,46 +85,46 @@ impl Line {
         ensures { IfSome (picture_of images.now image)
             (λ picture. self.new ≡ row_text (row_of picture y)) }
     {
-        self.bytes.clear();
-        put_row(&mut self.bytes, images.row(image, y));
+        self.sheet.clear();
+        self.sheet.row(images, image, y);
     }
 
     /// The line of a stream: how it ended, and what it counted.
     pub fn stream(&mut self, stream: u32, state: &StreamState, end: End)
         ensures { self.new ≡ stream_text stream (tally_of state.now) end }
     {
-        self.bytes.clear();
-        put_stream(&mut self.bytes, stream, &Tally::of(state), end);
+        self.sheet.clear();
+        self.sheet.stream(stream, state, end);
     }
 
     /// The mark line of an ending: who waited on what, how the wait ended, and the mark that is kept of it.
     pub fn mark(&mut self, ending: &Ending, value: u32)
         ensures { self.new ≡ mark_text ending.now value }
     {
-        self.bytes.clear();
-        put_mark(&mut self.bytes, ending, value);
+        self.sheet.clear();
+        self.sheet.mark(ending, value);
     }
 
     /// The line of a dump: its stream, its action place, its result place, and the value that was read.
     pub fn dump(&mut self, stream: u32, place: u32, index: u32, value: u32)
         ensures { self.new ≡ dump_text stream place index value }
     {
-        self.bytes.clear();
-        put_dump(&mut self.bytes, stream, place, index, value);
+        self.sheet.clear();
+        self.sheet.dump(stream, place, index, value);
     }
 
     /// The line of a look: its viewer, how many events it saw, and the sum of all texels after these.
     pub fn view(&mut self, viewer: u32, events: u32, sum: u32)
         ensures { self.new ≡ view_text viewer events sum }
     {
-        self.bytes.clear();
-        put_view(&mut self.bytes, viewer, events, sum);
+        self.sheet.clear();
+        self.sheet.view(viewer, events, sum);
     }
 
     /// The bytes of the line.
     pub fn bytes(&self) -> &[u8]
         ensures { result.now ≡ self.now }
     {
-        self.bytes.as_slice()
+        self.sheet.bytes()
     }
 }

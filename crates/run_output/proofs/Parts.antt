@@ -1,5 +1,5 @@
 -- The parts of the output, line by line.
-use Rattle.std.proofs.Common.{◌≡◌, ℕ, zero, suc, ◌+◌, ◌-◌, ◌<◌, ◌≤◌, List, [], ◌∷◌, map, length, Option, Some, None, sym, ap, ◌∙◌, arith}
+use Rattle.std.proofs.Common.{◌≡◌, ℕ, zero, suc, ◌+◌, ◌-◌, ◌<◌, ◌≤◌, List, [], ◌∷◌, ◌++◌, map, length, Option, Some, None, sym, ap, ◌∙◌, arith}
 use Rattle.std.specs.Prelude.{slice_get, slice_index_or, option_map, IsSomeAnd, IfSome, unwrap_or}
 use Rattle.std.specs.List.{range_with_len}
 use Rattle.std.proofs.lemmas.List.FromFn.{length-map-range_with_len, get_or-map-range_with_len}
@@ -69,13 +69,16 @@ pub row_within : (height y : ℕ) (found : Option Picture) → option_map (λ (p
 row_within height y None there lt = absurd (omega (arith, ap (λ (o : Option ℕ). unwrap_or o (height + 1)) there))
 row_within height y (Some picture) there lt = omega (arith, ap (λ (o : Option ℕ). unwrap_or o 0) there)
 
-pub row_at : (image height i : ℕ) (found : Option Picture) (line : List ℕ) → option_map (λ (picture : Picture). picture.height) found ≡ Some height → 0 < i → i ≤ height
-    → IfSome found (λ picture. line ≡ row_text (row_of picture (i - 1))) → line ≡ slice_index_or (image_lines image found) i []
-row_at image height i None line there some within made = absurd (omega (arith, ap (λ (o : Option ℕ). unwrap_or o (height + 1)) there))
-row_at image height i (Some picture) line there some within made =
-    made ∙ sym (behind_zero (λ (y : ℕ). row_text (row_of picture y)) (head_text image picture.width picture.height) picture.height i some (omega (arith, ap (λ (o : Option ℕ). unwrap_or o 0) there)))
+-- the line of a row, behind what is there
+pub row_at : (image height i : ℕ) (found : Option Picture) (old new : List ℕ) → option_map (λ (picture : Picture). picture.height) found ≡ Some height → 0 < i → i ≤ height
+    → IfSome found (λ picture. new ≡ old ++ row_text (row_of picture (i - 1))) → new ≡ old ++ slice_index_or (image_lines image found) i []
+row_at image height i None old new there some within made = absurd (omega (arith, ap (λ (o : Option ℕ). unwrap_or o (height + 1)) there))
+row_at image height i (Some picture) old new there some within made =
+    made
+    ∙ ap (λ (line : List ℕ). old ++ line) (sym (behind_zero (λ (y : ℕ). row_text (row_of picture y)) (head_text image picture.width picture.height) picture.height i some (omega (arith, ap (λ (o : Option ℕ). unwrap_or o 0) there))))
 
-pub image_at : (image height : ℕ) (found : Option Picture) (line : List ℕ) → option_map (λ (picture : Picture). picture.height) found ≡ Some height
-    → IfSome found (λ picture. line ≡ head_text image picture.width picture.height) → line ≡ slice_index_or (image_lines image found) 0 []
-image_at image height None line there made = absurd (omega (arith, ap (λ (o : Option ℕ). unwrap_or o (height + 1)) there))
-image_at image height (Some picture) line there made = made
+-- the own line of an image, behind what is there
+pub image_at : (image height : ℕ) (found : Option Picture) (old new : List ℕ) → option_map (λ (picture : Picture). picture.height) found ≡ Some height
+    → IfSome found (λ picture. new ≡ old ++ head_text image picture.width picture.height) → new ≡ old ++ slice_index_or (image_lines image found) 0 []
+image_at image height None old new there made = absurd (omega (arith, ap (λ (o : Option ℕ). unwrap_or o (height + 1)) there))
+image_at image height (Some picture) old new there made = made

@@ -1,6 +1,6 @@
 -- Pieces of a text, one after the other.
-use Rattle.std.proofs.Common.{◌≡◌, ℕ, ◌+◌, ◌<◌, ◌≤◌, List, [], ◌∷◌, ◌++◌, Option, Some, None, inl, inr, length, take, drop, get_or, sym, ap, subst, ◌∙◌, append_assoc, refl, arith}
-use Rattle.std.specs.Prelude.{slice_index_or, Result, Ok, Err, OnOk, IsErr}
+use Rattle.std.proofs.Common.{◌≡◌, ℕ, ◌+◌, ◌<◌, ◌≤◌, List, [], ◌∷◌, ◌++◌, Option, Some, None, inl, inr, length, take, drop, get_or, sym, ap, subst, ◌∙◌, append_assoc, arith}
+use Rattle.std.specs.Prelude.{slice_index_or, Result, Ok, Err, IsErr}
 use Rattle.std.specs.List.{concat}
 use Rattle.std.specs.Io.KnownBytes.{Appends}
 use Rattle.std.proofs.lemmas.List.{append-nil, take_more, take-append-drop}
@@ -78,15 +78,18 @@ module _ {K : Type 0} (w : K → Option (List ℕ)) (n : K → ℕ) where
   pub puts_nothing : {T E : Type 0} (a : K) (f : List ℕ) (done : T) → Puts {T = T} {E = E} w n a f a f (Ok done) []
   puts_nothing a f done = record { all = nothing_put (w a) f; front = tt; fault = tt; later = omega arith }
 
-  -- a text that is gathered, and not given away yet, is put
-  pub puts_gathered : {T E : Type 0} (a : K) (f text : List ℕ) (done : T) → Puts {T = T} {E = E} w n a f a (f ++ text) (Ok done) text
-  puts_gathered a f text done = record { all = record { given = []; whole = refl; appended = Appends-nothing (w a) }; front = tt; fault = tt; later = omega arith }
+  -- all that is gathered is given away, and nothing is put
+  pub puts_all : {T E : Type 0} (a b : K) (f g : List ℕ) (result : Result T E) → g ≡ [] → Adds w n a b result f → Puts w n a f b g result []
+  puts_all a b f g (Ok done) none given =
+      record { all = record { given = f; whole = ap (λ (r : List ℕ). f ++ r) none; appended = given.all }; front = tt; fault = tt; later = given.later }
+  puts_all a b f g (Err error) none given = record { all = tt; front = front_more (w a) (w b) f [] given.front; fault = given.fault; later = given.later }
 
-  -- all that is gathered is given away
-  pub puts_given : {T E : Type 0} (a b : K) (f g text : List ℕ) (result : Result T E) → OnOk result (g ≡ []) → Adds w n a b result (f ++ text) → Puts w n a f b g result text
-  puts_given a b f g text (Ok done) none given =
-      record { all = record { given = f ++ text; whole = ap (λ (r : List ℕ). (f ++ text) ++ r) none ∙ append-nil (f ++ text); appended = given.all }; front = tt; fault = tt; later = given.later }
-  puts_given a b f g text (Err error) none given = record { all = tt; front = given.front; fault = given.fault; later = given.later }
+  -- where a text stands behind what is gathered, and nothing is put behind both, the text is put
+  pub puts_more : {T E : Type 0} (a b : K) (f both g text : List ℕ) (result : Result T E) → both ≡ f ++ text → Puts w n a both b g result [] → Puts w n a f b g result text
+  puts_more a b f both g text (Ok done) is put =
+      record { all = record { given = put.all.given; whole = put.all.whole ∙ append-nil both ∙ is; appended = put.all.appended }; front = tt; fault = tt; later = put.later }
+  puts_more a b f both g text (Err error) is put =
+      record { all = tt; front = subst (AppendsFront (w a) (w b)) (append-nil both ∙ is) put.front; fault = put.fault; later = put.later }
 
   -- what is gathered is given away, and then a text is written
   pub puts_behind : {T U E : Type 0} (a b c : K) (f g text : List ℕ) (done : T) (result : Result U E) → g ≡ [] → Adds {T = T} {E = E} w n a b (Ok done) f → Adds w n b c result text → Puts w n a f c g result text

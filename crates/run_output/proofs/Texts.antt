@@ -22,7 +22,7 @@ use Rattle.gpu_journal.specs.Lines.{journal_head, name_text, mark_text}
 use Rattle.gpu_journal.specs.World.{state_of}
 use Rattle.gpu_journal.specs.Waits.{endings_in}
 use Rattle.gpu_journal.specs.Output.{streams_of, end_of, head_lines, stream_lines, mark_lines, output}
-use Rattle.run_output.specs.Runs.{RunData, behind_text, run_text}
+use Rattle.run_output.specs.Runs.{OutputData, behind_text, run_text}
 use Rattle.run_output.specs.Parts.{heads, streams, marks, image_lines, dump_read_text, dump_texts, look_text, view_texts}
 
 -- the text of each item is that of all of them
@@ -121,7 +121,7 @@ looks_at v (own ∷ more) (suc i) d lt =
 -- ---- the whole output
 
 -- where the dumps are those that the run on one thread reads, and nobody has looked, the whole output has the lines of the dumps behind it
-pub serial_text : (run : RunData) → run.dumps ≡ all_dumps run.report.plans run.report.past → run.looks ≡ [] → run_text run ≡ output run.report.plans (mark run.report.base) run.report.past ++ dump_lines run.report.plans run.report.past
+pub serial_text : (run : OutputData) → run.dumps ≡ all_dumps run.report.plans run.report.past → run.looks ≡ [] → run_text run ≡ output run.report.plans (mark run.report.base) run.report.past ++ dump_lines run.report.plans run.report.past
 serial_text run are none =
     ap (λ (d : List (List (ℕ × ℕ × ℕ))). output run.report.plans (mark run.report.base) run.report.past ++ behind_text d run.looks) are
     ∙ ap (λ (l : List (Vec Look Global)). output run.report.plans (mark run.report.base) run.report.past ++ behind_text (all_dumps run.report.plans run.report.past) l) none

@@ -12,7 +12,7 @@ use Rattle.run_output.specs.Parts.{HasRoom, dump_texts, view_texts}
 
 -- a run, with the dumps that the client of each stream has read: action place, result place and value; and with the looks of each
 -- viewer
-pub record RunData : Type 0 where
+pub record OutputData : Type 0 where
   pub report : ReportData
   pub dumps : List (List (ℕ × ℕ × ℕ))
   pub looks : List (Vec Look Global)
@@ -22,12 +22,12 @@ abbrev pub behind_text : List (List (ℕ × ℕ × ℕ)) → List (Vec Look Glob
 behind_text dumps looks = concat (dump_texts 1 dumps) ++ concat (view_texts 1 looks)
 
 -- the output of a run, and the lines behind it
-abbrev pub run_text : RunData → List ℕ
+abbrev pub run_text : OutputData → List ℕ
 run_text run = output run.report.plans (mark run.report.base) run.report.past ++ behind_text run.dumps run.looks
 
 -- the output of a run can be written: each event's line has room, the streams and the viewers are few, how the streams ended is told,
 -- and the page is blank
-pub record IsReady (run : RunData) (ends : List End) (page : PageData) : Type 0 where
+pub record IsReady (run : OutputData) (ends : List End) (page : PageData) : Type 0 where
   pub room : All HasRoom (reverse run.report.past)
   pub few : length run.dumps ≤ 16
   pub few_viewers : length run.looks ≤ 4

@@ -2,7 +2,7 @@ ghost use Rattle.std.specs.Prelude.{map};
 ghost use Rattle.run_output.specs.Parts.{dump_read_text};
 
 use crate::lines::Lines;
-use gpu_journal::Line;
+use gpu_journal::Sheet;
 
 /// A line for each dump of a stream that its client has read: action place, result place and value.
 #[derive(Drop)]
@@ -18,8 +18,8 @@ impl<'a> Lines for DumpLines<'a> {
         self.dumps.len()
     }
 
-    fn make(&self, index: usize, line: &mut Line) {
+    fn make(&self, index: usize, sheet: &mut Sheet) {
         let (place, found, value) = self.dumps[index];
-        line.dump(self.stream, place, found, value);
+        sheet.dump(self.stream, place, found, value);
     }
 }

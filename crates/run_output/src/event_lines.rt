@@ -4,7 +4,7 @@ ghost use Rattle.gpu_journal.specs.Text.{event_text};
 ghost use Rattle.run_output.specs.Parts.{HasRoom};
 
 use crate::lines::Lines;
-use gpu_journal::{Event, Line};
+use gpu_journal::{Event, Sheet};
 
 /// The journal: a line for each event, in their order.
 #[derive(Drop)]
@@ -21,7 +21,7 @@ impl<'a> Lines for EventLines<'a> {
         self.events.len()
     }
 
-    fn make(&self, index: usize, line: &mut Line) {
-        line.event(&self.events[index]);
+    fn make(&self, index: usize, sheet: &mut Sheet) {
+        sheet.event(&self.events[index]);
     }
 }

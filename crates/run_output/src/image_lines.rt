@@ -3,7 +3,7 @@ ghost use Rattle.gpu_store.specs.Images.{picture_of};
 ghost use Rattle.run_output.specs.Parts.{image_lines};
 
 use crate::lines::Lines;
-use gpu_journal::Line;
+use gpu_journal::Sheet;
 use gpu_store::Images;
 
 /// An image: its own line, and a line for each of its rows from the top.
@@ -41,11 +41,11 @@ impl<'a> Lines for ImageLines<'a> {
         self.height as usize + 1
     }
 
-    fn make(&self, index: usize, line: &mut Line) {
+    fn make(&self, index: usize, sheet: &mut Sheet) {
         if index == 0 {
-            line.image(self.images, self.image);
+            sheet.image(self.images, self.image);
         } else {
-            line.row(self.images, self.image, index as u32 - 1);
+            sheet.row(self.images, self.image, index as u32 - 1);
         }
     }
 }

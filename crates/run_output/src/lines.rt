@@ -1,6 +1,6 @@
-ghost use Rattle.std.specs.Prelude.{◌≡◌, ℕ, ◌<◌, List, [], length, slice_index_or};
+ghost use Rattle.std.specs.Prelude.{◌≡◌, ℕ, ◌<◌, ◌≤◌, List, [], ◌++◌, length, slice_index_or};
 
-use gpu_journal::Line;
+use gpu_journal::Sheet;
 
 /// Lines of the output, each of which is made when it is asked for.
 pub(crate) trait Lines {
@@ -14,9 +14,12 @@ pub(crate) trait Lines {
     fn count(&self) -> usize
         ensures { result ≡ length (lines self.now) };
 
-    /// Puts the line of this place, counted from 0, in place of the line before.
-    fn make(&self, index: usize, line: &mut Line)
+    /// Puts the line of this place, counted from 0, behind those that are there.
+    fn make(&self, index: usize, sheet: &mut Sheet)
         requires fits { fits self.now }
         requires within { index < length (lines self.now) }
-        ensures { line.new ≡ slice_index_or (lines self.now) index [] };
+        requires room { length sheet.old.bytes ≤ sheet.old.limit }
+        ensures bytes { sheet.new.bytes
+            ≡ sheet.old.bytes ++ slice_index_or (lines self.now) index [] }
+        ensures limit { sheet.new.limit ≡ sheet.old.limit };
 }

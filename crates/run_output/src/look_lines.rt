@@ -2,7 +2,7 @@ ghost use Rattle.std.specs.Prelude.{map};
 ghost use Rattle.run_output.specs.Parts.{look_text};
 
 use crate::lines::Lines;
-use gpu_journal::Line;
+use gpu_journal::Sheet;
 use live_view::Look;
 
 /// A line for each look of a viewer: its number of events, and its sum.
@@ -19,8 +19,8 @@ impl<'a> Lines for LookLines<'a> {
         self.looks.len()
     }
 
-    fn make(&self, index: usize, line: &mut Line) {
+    fn make(&self, index: usize, sheet: &mut Sheet) {
         let look = self.looks[index];
-        line.view(self.viewer, look.events, look.sum);
+        sheet.view(self.viewer, look.events, look.sum);
     }
 }

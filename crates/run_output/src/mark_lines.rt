@@ -2,7 +2,7 @@ ghost use Rattle.run_output.specs.Parts.{marks};
 
 use crate::lines::Lines;
 use gpu_house::Report;
-use gpu_journal::Line;
+use gpu_journal::Sheet;
 
 /// A line for each ending, with its mark.
 #[derive(Drop)]
@@ -17,7 +17,7 @@ impl<'a> Lines for MarkLines<'a> {
         self.report.endings().len()
     }
 
-    fn make(&self, index: usize, line: &mut Line) {
-        line.mark(&self.report.endings()[index], self.report.marks()[index]);
+    fn make(&self, index: usize, sheet: &mut Sheet) {
+        sheet.mark(&self.report.endings()[index], self.report.marks()[index]);
     }
 }

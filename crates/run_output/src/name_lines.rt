@@ -2,7 +2,7 @@ ghost use Rattle.std.specs.Prelude.{◌≡◌, ◌≤◌, length};
 ghost use Rattle.run_output.specs.Parts.{heads};
 
 use crate::lines::Lines;
-use gpu_journal::Line;
+use gpu_journal::Sheet;
 use gpu_plan::Plans;
 
 /// The head line of a script of version 2, and the line of each stream's name.
@@ -33,12 +33,12 @@ impl<'a> Lines for NameLines<'a> {
         self.count as usize + 1
     }
 
-    fn make(&self, index: usize, line: &mut Line) {
+    fn make(&self, index: usize, sheet: &mut Sheet) {
         if index == 0 {
-            line.head();
+            sheet.head();
         } else {
             let stream = index as u32;
-            line.name(stream, self.plans.name(stream));
+            sheet.name(stream, self.plans.name(stream));
         }
     }
 }

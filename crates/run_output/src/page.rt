@@ -1,4 +1,4 @@
-ghost use Rattle.std.specs.Prelude.{◌≡◌, ◌+◌, ◌<◌, ◌≤◌, [], ◌++◌, length, slice_index_or, IfOk, OnOk, vec_capacity};
+ghost use Rattle.std.specs.Prelude.{◌≡◌, ◌+◌, ◌<◌, ◌≤◌, [], length, slice_index_or, IfOk};
 ghost use Rattle.std.specs.List.{concat};
 ghost use Rattle.run_output.specs.Page.{blank_page};
 ghost use Rattle.run_output.specs.Pieces.{Adds, Puts};
@@ -6,7 +6,7 @@ ghost use Rattle.run_output.specs.Pieces.{Adds, Puts};
 use crate::lines::Lines;
 use crate::writing::write_all;
 use gpu_io::{Failed, Sink};
-use gpu_journal::Line;
+use gpu_journal::Sheet;
 use gpu_word::Memory;
 use std::alloc::Global;
 use std::marker::Model;
@@ -17,55 +17,45 @@ const PIECE_BYTES: usize = 65_536;
 /// For how many bytes of the line that fills a page there is room.
 const MOST_LINE: usize = 1_048_576;
 
-// Gives all that is gathered to the sink.
-fn give<K: Sink>(gathered: &mut Vec<u8>, sink: &mut K) -> Result<(), Failed>
-    ensures adds { Adds K.written K.faults sink.old sink.new result gathered.old.items }
-    ensures empty { OnOk result (gathered.new.items ≡ []) }
-    ensures room { vec_capacity gathered.old ≤ vec_capacity gathered.new }
+// Gives all that is gathered to the sink. Nothing of it is kept, since after a fault a front of it stands there.
+fn give<K: Sink>(sheet: &mut Sheet, sink: &mut K) -> Result<(), Failed>
+    ensures adds { Adds K.written K.faults sink.old sink.new result sheet.old.bytes }
+    ensures empty { sheet.new.bytes ≡ [] }
+    ensures limit { sheet.new.limit ≡ sheet.old.limit }
 {
-    write_all(sink, gathered)?;
-    gathered.clear();
-    Ok(())
+    let done = write_all(sink, sheet.bytes());
+    sheet.clear();
+    done
 }
 
-// Gives a line to the sink, behind all that is gathered.
+// Gives a text to the sink, behind all that is gathered.
 #[tactic(auto, using(crate::proofs::Pieces::puts_behind, crate::proofs::Pieces::failed_before))]
-fn pass<K: Sink>(gathered: &mut Vec<u8>, line: &[u8], sink: &mut K) -> Result<(), Failed>
-    ensures puts { Puts K.written K.faults sink.old gathered.old.items sink.new
-        gathered.new.items result
-        line.now }
-    ensures room { vec_capacity gathered.old ≤ vec_capacity gathered.new }
+fn pass<K: Sink>(sheet: &mut Sheet, text: &[u8], sink: &mut K) -> Result<(), Failed>
+    ensures puts { Puts K.written K.faults sink.old sheet.old.bytes sink.new
+        sheet.new.bytes result
+        text.now }
+    ensures empty { sheet.new.bytes ≡ [] }
+    ensures limit { sheet.new.limit ≡ sheet.old.limit }
 {
-    give(gathered, sink)?;
-    write_all(sink, line)
+    give(sheet, sink)?;
+    write_all(sink, text)
 }
 
-// Puts a line behind those that are gathered, and gives all of them to the sink where they have so many bytes or more;
-// below that nothing is written.
-//
-// No line of the output is too long for the room; one that was would go to the sink by itself.
-#[tactic(auto, using(crate::proofs::Pieces::puts_gathered, crate::proofs::Pieces::puts_given))]
-fn gather<K: Sink>(
-    gathered: &mut Vec<u8>,
-    line: &[u8],
-    limit: usize,
-    sink: &mut K,
-) -> Result<(), Failed>
-    requires { limit ≤ vec_capacity gathered.old }
-    ensures puts { Puts K.written K.faults sink.old gathered.old.items sink.new
-        gathered.new.items result
-        line.now }
-    ensures below { length gathered.old.items + length line.now < limit → sink.new ≡ sink.old }
-    ensures room { vec_capacity gathered.old ≤ vec_capacity gathered.new }
+// Gives all that is gathered to the sink where that has as many bytes as the limit or more; below that nothing is written.
+#[tactic(auto, using(crate::proofs::Pieces::puts_nothing, crate::proofs::Pieces::puts_all))]
+fn settle<K: Sink>(sheet: &mut Sheet, sink: &mut K) -> Result<(), Failed>
+    ensures puts { Puts K.written K.faults sink.old sheet.old.bytes sink.new
+        sheet.new.bytes result
+        [] }
+    ensures below { length sheet.old.bytes < sheet.old.limit → sink.new ≡ sink.old }
+    ensures room { length sheet.new.bytes ≤ sheet.new.limit }
+    ensures limit { sheet.new.limit ≡ sheet.old.limit }
 {
-    if line.len() > gathered.capacity() - gathered.len() {
-        return pass(gathered, line, sink);
-    }
-    gathered.extend_from_slice(line).unwrap();
-    if gathered.len() < limit {
+    let limit = sheet.limit();
+    if sheet.bytes().len() < limit {
         return Ok(());
     }
-    give(gathered, sink)
+    give(sheet, sink)
 }
 
 /// Lines that are gathered before they go to a sink, seen as the bytes that are gathered, and at how many they go.
@@ -73,20 +63,18 @@ fn gather<K: Sink>(
 /// All memory is taken by `make`: there is room for the bytes at which they go, and for one longest line behind them.
 #[derive(Drop)]
 pub(crate) struct Page {
-    line: Line,
-    gathered: Vec<u8>,
-    limit: usize,
+    sheet: Sheet,
 }
 
 impl Model for Page {
-    ghost use Rattle.std.specs.Prelude.{◌+◌, ◌≤◌, vec_capacity};
+    ghost use Rattle.std.specs.Prelude.{◌≤◌, length};
     ghost use Rattle.run_output.specs.Page.{PageData};
 
     ghost Value = { PageData };
 
-    ghost view = { λ page. record { gathered = page.gathered.items; limit = page.limit } };
+    ghost view = { λ page. record { gathered = page.sheet.bytes; limit = page.sheet.limit } };
 
-    ghost invariant = { λ page. page.limit + 1048576 ≤ vec_capacity page.gathered };
+    ghost invariant = { λ page. length page.sheet.bytes ≤ page.sheet.limit };
 }
 
 impl Page {
@@ -102,17 +90,13 @@ impl Page {
     pub(crate) fn within(alloc: Global, limit: usize) -> Result<Page, Memory>
         ensures { IfOk result (λ page. page ≡ record { gathered = []; limit = limit }) }
     {
-        let line = Line::make(alloc)?;
-        let room = limit.checked_add(MOST_LINE).ok_or(Memory)?;
-        let gathered = Vec::with_capacity(alloc, room)?;
-        Ok(Page {
-            line,
-            gathered,
-            limit,
-        })
+        let sheet = Sheet::make(alloc, limit)?;
+        Ok(Page { sheet })
     }
 
-    /// Makes one of the lines, and puts it behind those that are gathered.
+    /// Makes one of the lines behind those that are gathered, and gives all of them to the sink where they have as many
+    /// bytes as the limit or more.
+    #[tactic(auto, using(crate::proofs::Pieces::puts_more))]
     pub(crate) fn put<K: Sink, L: Lines>(
         &mut self,
         sink: &mut K,
@@ -129,11 +113,13 @@ impl Page {
             → sink.new ≡ sink.old }
         ensures limit { self.new.limit ≡ self.old.limit }
     {
-        lines.make(index, &mut self.line);
-        gather(&mut self.gathered, self.line.bytes(), self.limit, sink)
+        lines.make(index, &mut self.sheet);
+        settle(&mut self.sheet, sink)
     }
 
-    /// Puts a text behind the lines that are gathered.
+    /// Puts a text behind the lines that are gathered. One that is too long for
+    /// the room goes to the sink by itself.
+    #[tactic(auto, using(crate::proofs::Pieces::puts_more))]
     pub(crate) fn put_text<K: Sink>(&mut self, sink: &mut K, text: &[u8]) -> Result<(), Failed>
         ensures puts { Puts K.written K.faults sink.old self.old.gathered sink.new
             self.new.gathered result
@@ -142,7 +128,13 @@ impl Page {
             → sink.new ≡ sink.old }
         ensures limit { self.new.limit ≡ self.old.limit }
     {
-        gather(&mut self.gathered, text, self.limit, sink)
+        // There is room for as many bytes as the limit leaves, and for those of a line behind them.
+        let left = self.sheet.limit() - self.sheet.bytes().len();
+        if text.len().saturating_sub(MOST_LINE) > left {
+            return pass(&mut self.sheet, text, sink);
+        }
+        self.sheet.text(text);
+        settle(&mut self.sheet, sink)
     }
 
     /// Puts lines behind those that are gathered. After a fault a front of all of them stands in the sink.
@@ -166,9 +158,9 @@ impl Page {
     /// Gives all that is gathered to the sink.
     pub(crate) fn give<K: Sink>(&mut self, sink: &mut K) -> Result<(), Failed>
         ensures adds { Adds K.written K.faults sink.old sink.new result self.old.gathered }
-        ensures empty { OnOk result (self.new.gathered ≡ []) }
+        ensures empty { self.new.gathered ≡ [] }
         ensures limit { self.new.limit ≡ self.old.limit }
     {
-        give(&mut self.gathered, sink)
+        give(&mut self.sheet, sink)
     }
 }

@@ -17,6 +17,7 @@ use live_view::Look;
 use serial_laws::plans_are_lawful;
 use std::alloc::Global;
 use std::marker::Model;
+use std::mem;
 
 // How each stream of a run ended.
 fn ends_in(alloc: Global, report: &Report) -> Result<Vec<End>, Memory>
@@ -49,9 +50,9 @@ pub struct RunOutput {
 }
 
 impl Model for RunOutput {
-    ghost use Rattle.run_output.specs.Runs.{RunData, IsReady};
+    ghost use Rattle.run_output.specs.Runs.{OutputData, IsReady};
 
-    ghost Value = { RunData };
+    ghost Value = { OutputData };
 
     ghost view = { λ run. record {
       report = run.report;
@@ -98,6 +99,9 @@ impl RunOutput {
     }
 
     /// Writes the output, the lines of the dumps, and those of the looks. After a fault a front of all stands.
+    ///
+    /// What the run keeps is not given back: the output is the last that a program does with a run, and its memory goes with
+    /// the process, at once.
     pub fn write<K: Sink>(self, sink: &mut K) -> Result<(), Failed>
         ensures { Adds K.written K.faults sink.old sink.new result (run_text self) }
     {
@@ -108,6 +112,8 @@ impl RunOutput {
             ends,
             mut page,
         } = self;
-        write_output(&mut page, sink, &report, &dumps, &looks, &ends)
+        let written = write_output(&mut page, sink, &report, &dumps, &looks, &ends);
+        mem::forget(report);
+        written
     }
 }

@@ -4,7 +4,7 @@ ghost use Rattle.run_output.specs.Parts.{streams};
 
 use crate::lines::Lines;
 use gpu_house::Report;
-use gpu_journal::{End, Line};
+use gpu_journal::{End, Sheet};
 
 /// A line for each stream: how it ended, and what it counted.
 #[derive(Drop)]
@@ -38,8 +38,8 @@ impl<'a> Lines for StreamLines<'a> {
         self.count as usize
     }
 
-    fn make(&self, index: usize, line: &mut Line) {
+    fn make(&self, index: usize, sheet: &mut Sheet) {
         let stream = index as u32 + 1;
-        line.stream(stream, self.report.stream(stream), self.ends[index]);
+        sheet.stream(stream, self.report.stream(stream), self.ends[index]);
     }
 }

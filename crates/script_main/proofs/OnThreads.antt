@@ -12,7 +12,7 @@ use Rattle.gpu_journal.specs.Complete.{IsComplete}
 use Rattle.gpu_journal.specs.Output.{streams_of, output}
 use Rattle.gpu_journal.specs.Dumps.{AreDumps, AreDumpsOf, dumps_of}
 use Rattle.run_output.specs.Parts.{dump_read_text, dump_texts, view_texts}
-use Rattle.run_output.specs.Runs.{RunData, behind_text, run_text}
+use Rattle.run_output.specs.Runs.{OutputData, behind_text, run_text}
 use Rattle.gpu_threads.specs.Dumps.{AreRead, AreAllRead}
 use Rattle.gpu_threads.specs.Views.{AreAllLooks}
 use Rattle.script_main.specs.Runs.{IsViewedRun, IsOutput, run_ending}
@@ -47,7 +47,7 @@ length_all_read p h all are = length_all p h (streams_of p) all are ∙ length-r
 
 -- the text of a run whose history is legal and complete, with what its clients have read and its viewers have seen behind it, is its
 -- output by the rule of threads
-pub threads_output : (p : PlansData) (base viewers : ℕ) (run : RunData) → run.report.plans ≡ p → run.report.base ≡ base → IsLegal p run.report.past → IsComplete p run.report.past → AreAllRead p run.report.past (streams_of p) run.dumps
+pub threads_output : (p : PlansData) (base viewers : ℕ) (run : OutputData) → run.report.plans ≡ p → run.report.base ≡ base → IsLegal p run.report.past → IsComplete p run.report.past → AreAllRead p run.report.past (streams_of p) run.dumps
     → AreAllLooks p run.report.past viewers run.looks → IsOutput (IsViewedRun viewers) p base (run_ending (reverse run.report.past)) (run_text run)
 threads_output p base viewers run plans based legal complete are looks =
     let dumps = concat (dump_texts 1 run.dumps) in
@@ -69,7 +69,7 @@ threads_output p base viewers run plans based legal complete are looks =
     }
 
 -- the same of the output that is made ready of what a run on threads gives, where there is memory for it
-pub ready_output : {E : Type 0} (p : PlansData) (base viewers : ℕ) (gives : RunData) (made : Result RunData E)
+pub ready_output : {E : Type 0} (p : PlansData) (base viewers : ℕ) (gives : OutputData) (made : Result OutputData E)
     → gives.report.plans ≡ p → gives.report.base ≡ base → IsLegal p gives.report.past → IsComplete p gives.report.past → AreAllRead p gives.report.past (streams_of p) gives.dumps → AreAllLooks p gives.report.past viewers gives.looks
     → IfOk made (λ run. run.report ≡ gives.report) → IfOk made (λ run. run.dumps ≡ gives.dumps) → IfOk made (λ run. run.looks ≡ gives.looks)
     → IfOk made (λ run. IsOutput (IsViewedRun viewers) p base (run_ending (reverse run.report.past)) (run_text run))

@@ -1,7 +1,8 @@
-use Rattle.std.proofs.Common.{sym, arith}
-use Rattle.gpu_journal.proofs.Pairs.{hex8_by_bytes}
+use Rattle.std.proofs.Common.{◌∙◌, refl, arith}
+use Rattle.gpu_journal.proofs.Pairs.{hex8_by_pairs}
 use Rattle.gpu_journal.proofs.digits.hex.Goals as goal
 
 pub returns : goal.returns
 returns c =
-    rw (c.pair-a.ensures, c.pair-c.ensures, c.pair-e.ensures, c.pair-g.ensures) (sym (hex8_by_bytes c.args.number (omega arith)))
+    c.to_le_bytes.ensures
+    ∙ hex8_by_pairs c.args.number _ (omega arith) (rw (c.pair.ensures, c.pair-2.ensures, c.pair-3.ensures, c.pair-4.ensures) refl)

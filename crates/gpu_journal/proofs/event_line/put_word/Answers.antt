@@ -1,5 +1,5 @@
-use Rattle.std.proofs.Common.{rules, ◌≡◌, ◌++◌, ◌∷◌, [], List, ℕ, ap, sym, ◌∙◌, arith}
-use Rattle.gpu_journal.specs.Digits.{numeral, hex8}
+use Rattle.std.proofs.Common.{rules, arith}
+use Rattle.gpu_journal.specs.Digits.{hex8}
 use Rattle.gpu_journal.proofs.Numerals.{numeral_of_one, numeral_of_two}
 use Rattle.gpu_journal.proofs.event_line.put_word.Goals as goal
 

@@ -1,4 +1,4 @@
-use Rattle.std.proofs.Common.{arith, sym, ◌∙◌}
+use Rattle.std.proofs.Common.{List, ℕ, ◌++◌, ap, arith, sym, ◌∙◌}
 use Rattle.run_output.proofs.Parts.{length-heads, head_at}
 use Rattle.run_output.proofs.name_lines.NameLinesLines.make.Goals as goal
 
@@ -8,6 +8,6 @@ overflow_cast-stream c = omega (arith, length-heads c.args.self.now.plans.now, c
 pub name-requires-clause-last : goal.name-requires-clause-last
 name-requires-clause-last c = omega (arith, length-heads c.args.self.now.plans.now, c.requires.within)
 
-pub returns-else-index-eq0 : goal.returns-else-index-eq0
-returns-else-index-eq0 c =
-    c.name-else-index-eq0.ensures ∙ sym (head_at c.args.self.now.plans.now c.args.index c.name.result (omega (arith, c.if-index-eq0.false)) (omega (arith, length-heads c.args.self.now.plans.now, c.requires.within)) c.name.ensures.value)
+pub returns-else-index-eq0-clause-bytes : goal.returns-else-index-eq0-clause-bytes
+returns-else-index-eq0-clause-bytes c =
+    c.name-else-index-eq0.ensures.bytes ∙ ap (λ (line : List ℕ). c.args.sheet.now.bytes ++ line) (sym (head_at c.args.self.now.plans.now c.args.index c.name.result (omega (arith, c.if-index-eq0.false)) (omega (arith, length-heads c.args.self.now.plans.now, c.requires.within)) c.name.ensures.value))
