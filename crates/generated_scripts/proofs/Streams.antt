@@ -12,10 +12,10 @@ use Rattle.gpu_plan.specs.Script.{numbered}
 use Rattle.script_generator.specs.Generator.{rounds, start_text, stream_lines}
 use Rattle.generated_scripts.proofs.Words.{is_word}
 use Rattle.generated_scripts.proofs.Values.{hex, is_small}
-use Rattle.generated_scripts.proofs.Taken.{Takes, takes_line, takes_both}
+use Rattle.generated_scripts.proofs.Taken.{Takes, takes_line}
 use Rattle.generated_scripts.proofs.Lines.{at_work}
 use Rattle.generated_scripts.proofs.RoundTexts.{line, start_of, start_is}
-use Rattle.generated_scripts.proofs.Works.{Works, zero_said, half_said, works_on, widened, put_works, flush_works, finish_works}
+use Rattle.generated_scripts.proofs.Works.{Works, zero_said, half_said, works_behind, works_on, widened, put_works, flush_works, finish_works}
 use Rattle.generated_scripts.proofs.Rounds.{all_rounds}
 
 -- a script whose last stream has just begun
@@ -59,17 +59,8 @@ module _ (done : List PlanData) (stream : ℕ) (priority : Priority) (count flus
 
     begins_text : count + 7 ≤ 1000000 → flushes + 1 ≤ 100000 → Works done stream priority d (start_text word stream) (count + 7) (flushes + 1)
     begins_text few fewer =
-        let w = start_works few fewer in
-        let e = at_work done stream priority w.actions w.count w.flushes in
-        record {
-          actions = w.actions;
-          count = w.count;
-          flushes = w.flushes;
-          lasts = w.lasts;
-          few = w.few;
-          fewer = w.fewer;
-          takes = subst (λ text. Takes d text e) (sym (start_is word stream)) (takes_both d (just_begun done stream priority count flushes) e (line (codes "stream") (decimal stream ∷ word ∷ codes "64" ∷ [])) (start_of stream) begun w.takes);
-        }
+        subst (λ text. Works done stream priority d text (count + 7) (flushes + 1)) (sym (start_is word stream))
+        (works_behind done stream priority d (just_begun done stream priority count flushes) (line (codes "stream") (decimal stream ∷ word ∷ codes "64" ∷ [])) (start_of stream) (count + 7) (flushes + 1) begun (start_works few fewer))
 
     pub stream_works : (size state : ℕ) → size ≤ 2000 → count + 7 + 35 * size ≤ 1000000 → flushes + 1 + size ≤ 100000 → Works done stream priority d (stream_lines word size stream state) (count + 7 + 35 * size) (flushes + 1 + size)
     stream_works size state within few fewer =

@@ -39,19 +39,22 @@ unfolding number_of digits
 half_said = record { read = refl; word = refl }
 
 module _ (done : List PlanData) (stream : ℕ) (priority : Priority) where
+  -- a text that leads to another draft, and a work behind that one
+  pub works_behind : (d e : Draft) (s t : List ℕ) (b g : ℕ) → Takes d s e → Works done stream priority e t b g → Works done stream priority d (s ++ t) b g
+  works_behind d e s t b g leads w = record {
+    actions = w.actions;
+    count = w.count;
+    flushes = w.flushes;
+    lasts = w.lasts;
+    few = w.few;
+    fewer = w.fewer;
+    takes = takes_both d e (at_work done stream priority w.actions w.count w.flushes) s t leads w.takes;
+  }
+
   pub works_on : (d : Draft) (s t : List ℕ) (a f b g : ℕ) → Works done stream priority d s a f
       → ((actions : List Action) (count flushes : ℕ) → is_open actions → count ≤ a → flushes ≤ f → Works done stream priority (at_work done stream priority actions count flushes) t b g) → Works done stream priority d (s ++ t) b g
   works_on d s t a f b g first next =
-      let w = next first.actions first.count first.flushes first.lasts first.few first.fewer in
-      record {
-        actions = w.actions;
-        count = w.count;
-        flushes = w.flushes;
-        lasts = w.lasts;
-        few = w.few;
-        fewer = w.fewer;
-        takes = takes_both d (at_work done stream priority first.actions first.count first.flushes) (at_work done stream priority w.actions w.count w.flushes) s t first.takes w.takes;
-      }
+      works_behind d (at_work done stream priority first.actions first.count first.flushes) s t b g first.takes (next first.actions first.count first.flushes first.lasts first.few first.fewer)
 
   -- the same within wider limits
   pub widened : {d : Draft} {text : List ℕ} {a f b g : ℕ} → Works done stream priority d text a f → a ≤ b → f ≤ g → Works done stream priority d text b g

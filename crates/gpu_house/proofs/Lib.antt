@@ -20,4 +20,5 @@ pub mod Members
 pub mod Chains
 pub mod Quiet
 pub mod Committed
+pub mod Going
 mod Applied

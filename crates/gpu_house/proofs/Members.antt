@@ -138,6 +138,19 @@ gathered_none old facts lawful more areas = record {
   areas = areas;
 }
 
+-- a further command was not fetched whole
+pub gathered_part : (old between new : SideData) (first next : StreamFacts) (members : List FetchedData) → Gathered old between first next members → FetchesSome between new next → FetchesInPart old new first
+gathered_part old between new first next members were some = record {
+  members = members;
+  between = between;
+  few = were.few;
+  chained = were.chained;
+  copies = were.copies;
+  goes_on = were.goes_on;
+  whole = were.whole;
+  part = subst (FetchesSome between new) were.next_is some;
+}
+
 -- the side fetched one command more
 pub record Fetched (between new : SideData) (next : StreamFacts) (member : FetchedData) : Type 0 where
   pub facts : member.facts ≡ next
@@ -185,34 +198,12 @@ module _ (old between new : SideData) (first next : StreamFacts) (members : List
 
   -- it was fetched, and no room is found for it
   pub gathered_lost : FetchesInPart old new first
-  gathered_lost = record {
-    members = members;
-    between = between;
-    few = were.few;
-    chained = were.chained;
-    copies = were.copies;
-    goes_on = were.goes_on;
-    whole = were.whole;
-    part = record {
-      words = member.words;
-      rest = [];
-      fetches = one.fetches;
-      first = subst (λ (f : StreamFacts). fetched_places member.words f ≡ places_listed member.words ++ []) (one.facts ∙ were.next_is) (sym one.copy.places ∙ sym (append-nil (places_listed member.words)));
-    };
+  gathered_lost = gathered_part old between new first next members were record {
+    words = member.words;
+    rest = [];
+    fetches = one.fetches;
+    first = subst (λ (f : StreamFacts). fetched_places member.words f ≡ places_listed member.words ++ []) one.facts (sym one.copy.places ∙ sym (append-nil (places_listed member.words)));
   }
-
--- it was not fetched whole
-pub gathered_part : (old between new : SideData) (first next : StreamFacts) (members : List FetchedData) → Gathered old between first next members → FetchesSome between new next → FetchesInPart old new first
-gathered_part old between new first next members were some = record {
-  members = members;
-  between = between;
-  few = were.few;
-  chained = were.chained;
-  copies = were.copies;
-  goes_on = were.goes_on;
-  whole = were.whole;
-  part = subst (FetchesSome between new) were.next_is some;
-}
 
 -- ---- a command whose words stand behind those of the others
 

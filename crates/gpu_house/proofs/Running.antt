@@ -31,6 +31,27 @@ module _ {Side Note : Type 0} (side : Side → SideData) (table : Side → Table
       ∙ ap (λ (finished : ℕ). bound (plan_of p run.stream).actions finished ((side x).greatest ∷ [])) fits.finished
       ∙ ap (λ (greatest : ℕ). bound (plan_of p run.stream).actions run.finished (greatest ∷ [])) fits.greatest
 
+  -- a side that has met its flush, may have fetched more, and says the rest as before
+  pub met_further : (x y : Side) (left : Option Note) (met : ℕ) (list : List (ℕ × ℕ)) → Fits x left → side y ≡ record (side x) { met = met; fetched = list } → table y ≡ table x
+      → run.facts.fetched ≤ length list → All (MayHavePut p run) (drop run.facts.fetched list) → (run.facts.get ≡ run.facts.put → length list ≡ run.facts.fetched) → met ≡ run.place + 1 → (side y).met ≤ reach (side y) → Fits y None
+  met_further x y left met list fits told same long may whole noted reached =
+      let listed : (side y).fetched ≡ list = ap (λ (s : SideData). s.fetched) told in
+      let at_place : (side y).met ≡ run.place + 1 = ap (λ (s : SideData). s.met) told ∙ noted in
+      record {
+        of_plans = fits.of_plans;
+        book = fits.book;
+        plan = ap (λ (s : SideData). s.plan) told ∙ fits.plan;
+        shared = same ∙ fits.shared;
+        note_shared = tt;
+        finished = ap (λ (s : SideData). s.finished) told ∙ fits.finished;
+        greatest = ap (λ (s : SideData). s.greatest) told ∙ fits.greatest;
+        list = subst (λ (l : List (ℕ × ℕ)). run.facts.fetched ≤ length l) (sym listed) long;
+        may = subst (λ (l : List (ℕ × ℕ)). All (MayHavePut p run) (drop run.facts.fetched l)) (sym listed) may;
+        whole = λ end. ap length listed ∙ whole end;
+        behind = omega (arith, at_place);
+        noted = (at_place, reached);
+      }
+
   -- the note of its flush is met
   pub met_again : (x y : Side) (note : Note) → Fits x (Some note) → side y ≡ with_met (side x) (mark note) → (side y).met ≤ reach (side y) → table y ≡ table x → Fits y None
   met_again x y note fits told reached same =
@@ -38,32 +59,15 @@ module _ {Side Note : Type 0} (side : Side → SideData) (table : Side → Table
       let noted : mark note ≡ run.place + 1 = fits.noted in
       let low : max (side x).met (mark note) ≤ run.place + 1 = max-le behind (subst (λ (n : ℕ). n ≤ run.place + 1) (sym noted) (omega arith)) in
       let high = le-max_right (side x).met (mark note) in
-      let met : (side y).met ≡ max (side x).met (mark note) = ap (λ (s : SideData). s.met) told in
-      let list : (side y).fetched ≡ (side x).fetched = ap (λ (s : SideData). s.fetched) told in
-      record {
-        of_plans = fits.of_plans;
-        book = fits.book;
-        plan = ap (λ (s : SideData). s.plan) told ∙ fits.plan;
-        shared = same ∙ fits.shared;
-        note_shared = tt;
-        finished = ap (λ (s : SideData). s.finished) told ∙ fits.finished;
-        greatest = ap (λ (s : SideData). s.greatest) told ∙ fits.greatest;
-        list = subst (λ (l : List (ℕ × ℕ)). run.facts.fetched ≤ length l) (sym list) fits.list;
-        may = subst (λ (l : List (ℕ × ℕ)). All (MayHavePut p run) (drop run.facts.fetched l)) (sym list) fits.may;
-        whole = λ end. ap length list ∙ fits.whole end;
-        behind = omega (arith, met, low);
-        noted = ((omega (arith, met, low, high, noted)), reached);
-      }
+      met_further x y (Some note) (max (side x).met (mark note)) (side x).fetched fits told same fits.list fits.may fits.whole (omega (arith, low, high, noted)) reached
 
   -- words are fetched once the note is met: the client may have put each, from the flush on
   pub fetched_again : (x y : Side) (words : List (ℕ × ℕ)) → run.facts.get ≢ run.facts.put → Fits x None → Fetches (side x) (side y) words → table y ≡ table x → Fits y None
   fetched_again x y words going fits fetches same =
       let told = fetches.grows in
       let old = (side x).fetched in
-      let list : (side y).fetched ≡ old ++ words = ap (λ (s : SideData). s.fetched) told in
       let many = fits.list in
       let more = length-append old words in
-      let met : (side y).met ≡ (side x).met = ap (λ (s : SideData). s.met) told in
       let at_place = fits.noted.0 in
       let wider : (word : ℕ × ℕ) → MayFetch (side x) word → MayHavePut p run word = λ word may.
       may_hold_between (plan_of p run.stream).actions (run.place + 1) run.place (reach_of p run) (reach_of p run) word.0 word.1 (omega arith) (omega arith)
@@ -71,20 +75,9 @@ module _ {Side Note : Type 0} (side : Side → SideData) (table : Side → Table
       (subst (λ (least : ℕ). MayHold (plan_of p run.stream).actions least (reach (side x)) word.0 word.1) at_place
       (subst (λ (plan : PlanData). MayHold plan.actions (side x).met (reach (side x)) word.0 word.1) fits.plan may))) in
       let all : All (MayHavePut p run) (drop run.facts.fetched old ++ words) = All-append (MayHavePut p run) (drop run.facts.fetched old) words fits.may (All-weaker (MayFetch (side x)) (MayHavePut p run) wider words fetches.may) in
-      record {
-        of_plans = fits.of_plans;
-        book = fits.book;
-        plan = ap (λ (s : SideData). s.plan) told ∙ fits.plan;
-        shared = same ∙ fits.shared;
-        note_shared = tt;
-        finished = ap (λ (s : SideData). s.finished) told ∙ fits.finished;
-        greatest = ap (λ (s : SideData). s.greatest) told ∙ fits.greatest;
-        list = subst (λ (l : List (ℕ × ℕ)). run.facts.fetched ≤ length l) (sym list) (omega (arith, many, more));
-        may = subst (λ (l : List (ℕ × ℕ)). All (MayHavePut p run) l) (sym (ap (drop run.facts.fetched) list ∙ drop-append-le run.facts.fetched old words many)) all;
-        whole = λ end. absurd (going end);
-        behind = subst (λ (met : ℕ). met ≤ run.place + 1) (sym met) fits.behind;
-        noted = subst (λ (s : SideData). (s.met ≡ run.place + 1) × (s.met ≤ reach s)) (sym told) fits.noted;
-      }
+      met_further x y None (side x).met (old ++ words) fits told same (omega (arith, many, more))
+      (subst (All (MayHavePut p run)) (sym (drop-append-le run.facts.fetched old words many)) all) (λ end. absurd (going end)) at_place
+      (subst (λ (s : SideData). s.met ≤ reach s) (sym told) fits.noted.1)
 
   -- a fetch of a command, whole or in part
   pub command_fetched : {Error : Type 0} (x y : Side) (facts : StreamFacts) (result : Result FetchedData Error) → run.facts.get ≢ run.facts.put → Fits x None → table y ≡ table x → IfOk result (λ found. Fetches (side x) (side y) found.words) → IfErr result (λ _. FetchesSome (side x) (side y) facts) → Fits y None

@@ -32,7 +32,7 @@ use Rattle.gpu_house.specs.Batches.{AreNext}
 use Rattle.gpu_house.specs.declared.answers.Next.{Next}
 use Rattle.gpu_house.specs.declared.answers.Next.TheVariants.{More, FlushEnd}
 use Rattle.gpu_house.specs.Steps.{told_side, next_of}
-use Rattle.gpu_house.proofs.Running.{met_again}
+use Rattle.gpu_house.proofs.Running.{met_further, met_again}
 
 -- ---- a client is told
 
@@ -90,21 +90,8 @@ module _ {Side Note : Type 0} (side : Side → SideData) (table : Side → Table
   -- a side that says the same
   same_again : (run : RunData) (x y : Side) → Fits run x None → side y ≡ side x → table y ≡ table x → Fits run y None
   same_again run x y fits told same =
-      let list : (side y).fetched ≡ (side x).fetched = ap (λ (s : SideData). s.fetched) told in
-      record {
-        of_plans = fits.of_plans;
-        book = fits.book;
-        plan = ap (λ (s : SideData). s.plan) told ∙ fits.plan;
-        shared = same ∙ fits.shared;
-        note_shared = tt;
-        finished = ap (λ (s : SideData). s.finished) told ∙ fits.finished;
-        greatest = ap (λ (s : SideData). s.greatest) told ∙ fits.greatest;
-        list = subst (λ (l : List (ℕ × ℕ)). run.facts.fetched ≤ length l) (sym list) fits.list;
-        may = subst (λ (l : List (ℕ × ℕ)). All (MayHavePut p run) (drop run.facts.fetched l)) (sym list) fits.may;
-        whole = λ end. ap length list ∙ fits.whole end;
-        behind = subst (λ (s : SideData). s.met ≤ run.place + 1) (sym told) fits.behind;
-        noted = subst (λ (s : SideData). (s.met ≡ run.place + 1) × (s.met ≤ reach s)) (sym told) fits.noted;
-      }
+      met_further side table mark note_of p tables books run x y None (side x).met (side x).fetched fits told same fits.list fits.may fits.whole fits.noted.0
+      (subst (λ (s : SideData). s.met ≤ reach s) (sym told) fits.noted.1)
 
   -- the note is met, where it was not
   pub met_fits : (run : RunData) (x y : Side) (left : Option Note) → Fits run x left → side y ≡ met_by (option_map mark left) (side x) → IfSome left (λ note. (side y).met ≤ reach (side y)) → table y ≡ table x → Fits run y None

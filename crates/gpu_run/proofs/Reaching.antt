@@ -15,7 +15,7 @@ use Rattle.gpu_journal.specs.declared.event.Event.{Event}
 use Rattle.gpu_journal.specs.World.{known}
 use Rattle.gpu_journal.specs.Facts.{reach}
 use Rattle.gpu_journal.specs.Serial.{stays}
-use Rattle.serial_laws.proofs.Flushes.{flush_there, flushes_all, flushes_grow, place_below, below_place}
+use Rattle.serial_laws.proofs.Flushes.{flushes_all, flushes_grow, flush_placed}
 use Rattle.run_laws.proofs.Tokens.{reach_is}
 use Rattle.gpu_run.specs.Clients.{ClientData, client_at, done_at, flushes_to}
 use Rattle.gpu_run.specs.Rounds.{GoesFurther, StandsStill}
@@ -83,23 +83,10 @@ flush_counts xs k next = by (slice_get xs k) refl next
     by None e is = absurd is
     by (Some a) e is = let step = flushes_one_further xs k a e in let counted = one a is in omega (arith, step, counted)
 
--- its number is that of the flushes before it
-pub flush_stands : (xs : List Action) (k : ℕ) → IsNext IsFlush xs k → slice_get (flush_places xs) (flushes (take k xs)) ≡ Some k
-flush_stands xs k next =
-    let more = flush_counts xs k next in
-    let all = flushes_all xs (k + 1) in
-    let c = flush_there xs (flushes (take k xs)) (omega (arith, more, all)) in
-    let low = place_below xs (flushes (take k xs)) c.0 (k + 1) c.1 (omega (arith, more)) in
-    let not_below : c.0 < k → ⊥ = λ lt. absurd (above c.0 c.1 lt) in
-    c.1 ∙ ap Some (omega (arith, low, not_below))
-  where
-    above : (c : ℕ) → slice_get (flush_places xs) (flushes (take k xs)) ≡ Some c → c < k → ⊥
-    above c e lt = let more = below_place xs (flushes (take k xs)) c k e lt in omega arith
-
 -- so the note of the flush is that of the stream's next order
 pub note_fits : (p : PlansData) (h : List Event) (s note : ℕ) (words : PlainData) (plan : PlanData) → plan_of p s ≡ plan → stays p h s ≡ true → IsClientOf p h s words → IsNext IsFlush plan.actions words.done → note ≡ words.done + 1 → note ≡ mark_of (plan_of p s) (known p h s).ordered
 note_fits p h s note words plan is o client next e =
-    let at : slice_get (flush_places (plan_of p s).actions) (flushes (take words.done (plan_of p s).actions)) ≡ Some words.done = flush_stands (plan_of p s).actions words.done (subst (λ (q : PlanData). IsNext IsFlush q.actions words.done) (sym is) next) in
+    let at : slice_get (flush_places (plan_of p s).actions) (flushes (take words.done (plan_of p s).actions)) ≡ Some words.done = flush_placed (plan_of p s).actions words.done (flush_counts (plan_of p s).actions words.done (subst (λ (q : PlanData). IsNext IsFlush q.actions words.done) (sym is) next)) in
     let place : slice_get (flush_places (plan_of p s).actions) (known p h s).ordered ≡ Some words.done = ap (slice_get (flush_places (plan_of p s).actions)) (client.passed o) ∙ at in
     e ∙ (omega arith) ∙ sym (ap (λ (q : Option ℕ). unwrap_or (option_map suc q) (length (plan_of p s).actions)) place)
 

@@ -26,6 +26,7 @@ use Rattle.gpu_house.specs.Changes.{CameDone, StillBelongs}
 use Rattle.gpu_house.specs.Steps.{Steps}
 use Rattle.gpu_house.specs.declared.answers.Next.{Next}
 use Rattle.gpu_house.specs.declared.answers.Next.TheVariants.{More, Paused, FlushEnd, Invalid, Lost, Closed}
+use Rattle.gpu_house.proofs.Going.{goes_further}
 use Rattle.gpu_run.specs.Clients.{ClientData, client_at, done_at}
 use Rattle.gpu_run.specs.Reading.{HaveRead}
 use Rattle.gpu_run.specs.Rounds.{IsRunning, goes_on}
@@ -37,7 +38,7 @@ use Rattle.gpu_run.proofs.AllFound.{found_after}
 use Rattle.gpu_run.proofs.Turns.{Ran, run_turn, run_ordered}
 use Rattle.gpu_run.proofs.RunEvents.{event_finish}
 use Rattle.gpu_run.proofs.Homing.{home_served}
-use Rattle.gpu_run.proofs.Stepping.{HasFetched, has_fetched, goes_further, has_stepped}
+use Rattle.gpu_run.proofs.Stepping.{HasFetched, has_fetched, has_stepped}
 use Rattle.std.proofs.lemmas.Bool.{ne_eqb}
 
 -- a stream that can run is open
@@ -118,15 +119,6 @@ stepped_with p house new clients out run now words w next more lawful played run
     slots (stays_met side mark p house new run now words next met steps) (subst (IsBeside now.side) here still.beside) (λ n b. subst (λ (v : PlainData). IsNoteBeside now.side v n) here (still.notes n (subst (λ (v : PlainData). IsNoteBeside run.side v n) (sym here) b))) list
     side mark next steps in
     subst (λ (u : ℕ). HasStepped p house new clients u now more) stream (subst (HasStepped p house new clients run.run.stream now) (sym answer) stepped)
-
--- what is neither of the answers to go on is one to stop
-pub stops : (next : Next) → (next ≡ More → ⊥) → (next ≡ FlushEnd → ⊥) → goes_further next ≡ false
-stops More not_more not_end = absurd (not_more refl)
-stops Paused not_more not_end = refl
-stops FlushEnd not_more not_end = absurd (not_end refl)
-stops (Invalid error) not_more not_end = refl
-stops Lost not_more not_end = refl
-stops Closed not_more not_end = refl
 
 -- ---- the loop over turns
 

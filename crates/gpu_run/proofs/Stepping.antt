@@ -1,6 +1,6 @@
 -- The steps of a run that is out.
-use Rattle.std.proofs.Common.{◌≡◌, ◌≢◌, ℕ, ◌+◌, ◌-◌, Bool, true, false, not, ◌&&◌, Option, None, Some, Err, List, ◌∷◌, ◌++◌, length, refl, sym, ap, subst, ◌∙◌, arith, length-append, IsOk}
-use Rattle.std.proofs.lemmas.Bool.{ne_eqb, and_right}
+use Rattle.std.proofs.Common.{◌≡◌, ◌≢◌, ℕ, ◌+◌, ◌-◌, Bool, true, false, not, Option, None, Some, Err, List, ◌∷◌, ◌++◌, length, refl, sym, ap, subst, ◌∙◌, arith, length-append, IsOk}
+use Rattle.std.proofs.lemmas.Bool.{ne_eqb}
 use Rattle.std.proofs.lemmas.List.{length-set}
 use Rattle.std.proofs.lemmas.List.Elements.{All-weaker}
 use Rattle.std.specs.Prelude.{IfSome}
@@ -11,7 +11,7 @@ use Rattle.gpu_cmd.specs.Copied.{fetched_places, places_listed}
 use Rattle.gpu_plan.specs.Plans.{PlansData}
 use Rattle.gpu_fetch.specs.Side.{SideData}
 use Rattle.gpu_fetch.specs.Plain.{IsBeside, IsNoteBeside, IsHeld}
-use Rattle.sync_core.specs.Standing.{Standing, IsKnown, is_open}
+use Rattle.sync_core.specs.Standing.{IsKnown}
 use Rattle.gpu_journal.specs.declared.event.Event.{Event}
 use Rattle.gpu_journal.specs.declared.event.Event.TheVariants.{Step, Lost}
 use Rattle.gpu_journal.specs.declared.event.Why.TheVariants.{Error}
@@ -35,6 +35,7 @@ use Rattle.gpu_house.specs.Steps.{Steps}
 use Rattle.gpu_house.specs.declared.answers.Next.{Next}
 use Rattle.gpu_house.specs.declared.answers.Next.TheVariants.{More, Paused, FlushEnd, Invalid, Closed}
 use Rattle.gpu_house.specs.declared.answers.Next.TheVariants as nexts
+use Rattle.gpu_house.proofs.Going.{goes_further, not_lost, not_closed}
 use Rattle.gpu_run.specs.Clients.{ClientData, client_at, done_at}
 use Rattle.gpu_run.specs.Rounds.{goes_on}
 use Rattle.gpu_run.specs.Served.{PlainHouse, AreBeside, IsClientOf, AreAsMany, IsAtHomeWith, IsServed, IsOut}
@@ -86,15 +87,6 @@ has_fetched p house clients run new words out there more same met grows held pla
     }
 
 -- ---- its step
-
--- the run goes on after this answer
-abbrev pub goes_further : Next → Bool
-goes_further More = true
-goes_further Paused = false
-goes_further FlushEnd = true
-goes_further (Invalid error) = false
-goes_further nexts.Lost = false
-goes_further Closed = false
 
 module _ (p : PlansData) (house new : PlainHouse) (clients : List ClientData) (run now : OutData SideData ℕ) (words : List (ℕ × ℕ)) (has : HasFetched p house clients run words) where
   abbrev s : ℕ
@@ -192,12 +184,6 @@ module _ (p : PlansData) (house new : PlainHouse) (clients : List ClientData) (r
               absurd (cc);
           home = home_now (Lost s (Error error) words) refl refl past (λ t off. ap (λ (row : List Out). is_home row t) outs) (ap length outs) slots stream note side notes;
         }
-
-    not_lost : (x : Standing) → is_open x ≡ true → x.lost ≡ true → ⊥
-    not_lost x o lost = let off : is_open x ≡ false = ap (λ (b : Bool). not b && not x.closed) lost in cc
-
-    not_closed : (x : Standing) → is_open x ≡ true → x.closed ≡ true → ⊥
-    not_closed x o closed = let off : is_open x ≡ false = ap (λ (b : Bool). not x.lost && not b) closed ∙ and_right (not x.lost) false refl in cc
 
     -- whatever was answered
     pub has_stepped : (side : SideData → SideData) (mark : ℕ → ℕ) (next : Next) → Steps side mark p house new run now words next → HasStepped p house new clients s now (goes_further next)

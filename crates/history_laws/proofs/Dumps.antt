@@ -1,5 +1,5 @@
 -- The dumps of a serial history tell what their clients may have found.
-use Rattle.std.proofs.Common.{◌≡◌, ℕ, zero, suc, ◌+◌, ◌-◌, ◌≤◌, ◌<◌, eqb, Bool, true, false, not, ◌&&◌, cond, nat_le, Option, Some, List, [], ◌∷◌, ◌++◌, length, take, IsTrue, IsSome, refl, sym, ap, subst, ◌∙◌, arith}
+use Rattle.std.proofs.Common.{◌≡◌, ℕ, zero, suc, ◌+◌, ◌-◌, ◌≤◌, ◌<◌, eqb, Bool, true, false, not, ◌&&◌, cond, nat_le, Option, Some, List, [], ◌∷◌, ◌++◌, length, take, IsTrue, refl, sym, ap, subst, ◌∙◌, arith}
 use Rattle.std.specs.Prelude.{nat_lt, slice_get, is_some}
 use Rattle.std.specs.List.{All, flat_map, list_all, range_with_len}
 use Rattle.std.proofs.lemmas.Bool.Decides.{nat_tests}
@@ -11,35 +11,30 @@ use Rattle.gpu_plan.specs.Passes.{flushes, bound, passes_if_there}
 use Rattle.gpu_plan.proofs.Passing.{passes_below_bound}
 use Rattle.stream_state.specs.declared.effect.Effect.{Effect}
 use Rattle.stream_state.specs.declared.effect.Effect.TheVariants.{Nothing, Token, Release, Wait, WaitName, Pixels, Results}
-use Rattle.sync_core.specs.declared.wait.Number.{Number}
 use Rattle.sync_core.specs.Events as sync
-use Rattle.sync_core.specs.Standing.{Standing, IsKnown, first_order}
+use Rattle.sync_core.specs.Standing.{Standing, IsKnown}
 use Rattle.gpu_journal.specs.declared.event.Event.{Event}
 use Rattle.gpu_journal.specs.declared.event.Event.TheVariants.{Order, Step, Finish, Lost, Close}
 use Rattle.gpu_journal.specs.World.{Known, World, world, stream_in, asked_by, known, known_after}
-use Rattle.gpu_journal.specs.Waits.{deed, deed_asked, standing_of, left_of, drawn}
-use Rattle.gpu_journal.specs.Facts.{place_of, reach}
+use Rattle.gpu_journal.specs.Waits.{deed, deed_asked, standing_of, drawn}
+use Rattle.gpu_journal.specs.Facts.{reach}
 use Rattle.gpu_journal.specs.Legal.{Obeys, IsLegal}
 use Rattle.gpu_journal.specs.Complete.{IsComplete}
 use Rattle.gpu_journal.specs.Serial.{is_close, is_runnable, count, serial}
 use Rattle.gpu_journal.specs.Written.{result_at}
 use Rattle.gpu_journal.specs.Dumps.{MayDump, AreDumps, AreDumpsOf, dumps_of, passed_at, dump_line, dump_lines}
-use Rattle.gpu_journal.proofs.Worlds.{sync_none, known_of_left}
+use Rattle.gpu_journal.proofs.Worlds.{sync_none}
 use Rattle.serial_laws.specs.Scripts.{AreLawfulPlans}
 use Rattle.serial_laws.proofs.First.{first_none}
 use Rattle.serial_laws.proofs.Flushes.{flushes_all, close_is_last, within}
 use Rattle.serial_laws.proofs.Others.{moved_by, standing_own, standing_other, known_own, known_other, along}
-use Rattle.serial_laws.proofs.Fitting.{fits, open_of_left}
 use Rattle.serial_laws.proofs.Counts.{reach_grows, count_reach, count_begun}
 use Rattle.serial_laws.proofs.Passed.{lt_of, lawful_of}
 use Rattle.serial_laws.proofs.Obeying.{close_of}
 use Rattle.serial_laws.proofs.Least.{none_runs}
-use Rattle.serial_laws.proofs.Ends.{bound_end}
+use Rattle.serial_laws.proofs.Ends.{clash, bound_end, complete_idle}
 use Rattle.serial_laws.proofs.Bounded.{serial_is_legal, serial_is_complete}
 use Rattle.history_laws.specs.Laws.{DumpsMayBeTold, LaterMayBeTold}
-
-clash : (b : Bool) → b ≡ true → b ≡ false → ⊥
-clash b x y = cc
 
 -- ---- where a client has passed the Finish of a dump, enough is finished
 
@@ -143,24 +138,8 @@ open_made false false x y = refl
 
 module _ (p : PlansData) (h : List Event) (lawful : AreLawfulPlans p) (legal : IsLegal p h) (complete : IsComplete p h) where
   -- no number is left, so the clients are as far as they can be
-  idle : (t : ℕ) → left_of p h t ≡ []
-  idle t = by (left_of p h t) refl
-    where
-      by : (xs : List Number) → left_of p h t ≡ xs → xs ≡ []
-      by [] e = refl
-      by (x ∷ xs) e =
-          let some : IsSome (first_order (left_of p h t)) = subst (λ (l : List Number). IsSome (first_order l)) (sym e) refl in
-          let f = fits p h legal t in
-          let o = open_of_left (plan_of p t).actions (place_of h) (known p h t) (standing_of p h t) f some in
-          let d = complete t record { known = known_of_left p h t legal some; stays = o.0 } in
-          let all = f.its_left o.0 in
-          let a = d.ordered in
-          let b = d.finished in
-          let c = o.1 in
-          absurd (omega (arith, all, a, b, c))
-
   at_bound : (s : ℕ) → count p h s ≡ reach p h s
-  at_bound s = count_begun p h s (ap (λ (o : Option ℕ). not (is_some o)) (first_none (is_runnable p h) (length p.plans) (λ t a b. none_runs p h t (idle t))))
+  at_bound s = count_begun p h s (ap (λ (o : Option ℕ). not (is_some o)) (first_none (is_runnable p h) (length p.plans) (λ t a b. none_runs p h t (complete_idle p h legal complete t))))
 
   module _ (s : ℕ) (among : IsKnown (length p.plans) s) (kept : (standing_of p h s).lost ≡ false) where
     all_passed : (at : ℕ) → slice_get (plan_of p s).actions at ≡ Some actions.Finish → at < count p h s

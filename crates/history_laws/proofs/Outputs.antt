@@ -32,6 +32,7 @@ use Rattle.gpu_journal.proofs.Telling.{output_tells}
 use Rattle.serial_laws.specs.Scripts.{AreLawfulPlans}
 use Rattle.serial_laws.proofs.Passed.{lawful_of}
 use Rattle.serial_laws.proofs.Spent.{obeys_known}
+use Rattle.serial_laws.proofs.Ends.{clash}
 use Rattle.history_laws.specs.Laws.{SameOutputIsSameHistory, SameRunIsSameHistory}
 
 -- ---- the words of a legal history have 32 bits
@@ -139,9 +140,6 @@ name_cut s t a b x y e =
     let two = number_cut a.namespace b.namespace (number_text a.id ++ (10 ∷ x)) (number_text b.id ++ (10 ∷ y)) refl refl one.1 in
     let three = number_cut a.id b.id (10 ∷ x) (10 ∷ y) refl refl two.1 in
     ap behind_first three.1
-
-clash : (b : Bool) → b ≡ true → b ≡ false → ⊥
-clash b x y = cc
 
 -- the lines of names end where the text behind them begins
 names_cut : (f g : ℕ → Name) (ss ts : List ℕ) (x y : List ℕ) → is_apart x ≡ true → is_apart y ≡ true → flat_map (λ s. name_text s (f s)) ss ++ x ≡ flat_map (λ s. name_text s (g s)) ts ++ y → x ≡ y

@@ -1,5 +1,5 @@
 -- What is kept fits the plans after each event.
-use Rattle.std.proofs.Common.{◌≡◌, ◌≢◌, ◌++◌, false, ℕ, zero, suc, ◌-◌, ◌≤◌, ◌<◌, ◌⊎◌, inl, inr, Some, List, [], ◌∷◌, length, get_or, set, refl, sym, ap, subst, ◌∙◌, arith}
+use Rattle.std.proofs.Common.{◌≡◌, ◌≢◌, ◌++◌, Bool, false, ℕ, zero, suc, ◌-◌, ◌≤◌, ◌<◌, ◌⊎◌, inl, inr, Some, List, [], ◌∷◌, length, get_or, set, refl, sym, ap, subst, ◌∙◌, arith}
 use Rattle.std.specs.Prelude.{slice_get}
 use Rattle.std.specs.List.{All}
 use Rattle.std.proofs.lemmas.Bool.{cases_eq}
@@ -10,7 +10,7 @@ use Rattle.gpu_plan.specs.Plans.{PlanData, PlansData, plan_of}
 use Rattle.gpu_plan.specs.Passes.{bound}
 use Rattle.client_reach.specs.Client.{Client, IsClient}
 use Rattle.sync_core.specs.Standing.{IsKnown}
-use Rattle.sync_core.specs.Core.{left_of}
+use Rattle.sync_core.specs.Core.{Core, left_of}
 use Rattle.sync_core.proofs.Stands.{has_known}
 use Rattle.gpu_cmd.specs.Lawful.{IsLawfulAreas}
 use Rattle.stream_state.specs.State.{first_state}
@@ -85,6 +85,19 @@ fits_turned p old new s now fits known drawn count states within put is = record
   watched = subst (AreWatched p) (sym put) (watched_put p old.watches s now fits.watched (omega (arith, known.0)) is);
   within = within;
 }
+
+-- ---- what is told of a judge before a call, from what it shows
+
+pub is_watch_seen : (p : PlansData) (old shown : JudgeData) (s : ℕ) (w : WatchData) → old ≡ shown → FitsPlans p shown → IsKnown (length p.plans) s → w ≡ get_or old.watches (s - 1) w → IsWatch (plan_of p s) w
+is_watch_seen p old shown s w view fits known at = is_watch_here p old s w (subst (FitsPlans p) (sym view) fits) known at
+
+-- a call changed the orders of one watch or its standing, and no more of it
+pub fits_stood : (p : PlansData) (old shown : JudgeData) (s : ℕ) (was now : WatchData) (ordered : ℕ) (stays : Bool) (drawn : ℕ) (core : Core) → old ≡ shown → FitsPlans p shown → IsKnown (length p.plans) s → was ≡ get_or old.watches (s - 1) was
+    → now ≡ record was { ordered = ordered; stays = stays } → (old.core.drawn ≡ old.drawn → core.drawn ≡ drawn) → length core.streams ≡ length old.core.streams → FitsPlans p (record old { drawn = drawn; core = core; watches = set old.watches (s - 1) now })
+fits_stood p old shown s was now ordered stays drawn core view fits known at changed counted count =
+    let before : FitsPlans p old = subst (FitsPlans p) (sym view) fits in
+    let is = is_watch_same (plan_of p s) was now (ap (λ (w : WatchData). w.client) changed) (ap (λ (w : WatchData). w.finished) changed) (ap (λ (w : WatchData). w.token) changed) (ap (λ (w : WatchData). w.flushes) changed) (is_watch_here p old s was before known at) in
+    fits_turned p old (record old { drawn = drawn; core = core; watches = set old.watches (s - 1) now }) s now before known (counted before.drawn) count refl before.within refl is
 
 -- a stream with a number is one of the script
 pub front_known : (p : PlansData) (j : JudgeData) (s : ℕ) → FitsPlans p j → 0 < length (left_of j.core s) → IsKnown (length p.plans) s

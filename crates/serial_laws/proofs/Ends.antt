@@ -29,7 +29,7 @@ use Rattle.serial_laws.proofs.Passed.{flush_parts, le_of}
 use Rattle.serial_laws.proofs.Obeying.{open_fails, may_close, runner_runs}
 use Rattle.serial_laws.proofs.Least.{none_left, none_runs}
 
-clash : (b : Bool) → b ≡ true → b ≡ false → ⊥
+pub clash : (b : Bool) → b ≡ true → b ≡ false → ⊥
 clash b x y = cc
 
 -- ---- a client that is stopped by no await and by no Close has done all its actions
@@ -171,7 +171,7 @@ ended_complete p h legal n =
 
 -- ---- where the history is complete
 
-complete_idle : (p : PlansData) (h : List Event) → IsLegal p h → IsComplete p h → IsIdle p h
+pub complete_idle : (p : PlansData) (h : List Event) → IsLegal p h → IsComplete p h → IsIdle p h
 complete_idle p h legal done t = by (left_of p h t) refl
   where
     by : (xs : List Number) → left_of p h t ≡ xs → xs ≡ []

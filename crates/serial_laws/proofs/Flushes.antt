@@ -81,6 +81,18 @@ after_from i (x ∷ xs) (suc j) c (suc k) e h = by_flush (λ b n. slice_get (con
 pub below_place : (xs : List Action) (j c k : ℕ) → slice_get (flush_places xs) j ≡ Some c → c < k → j < flushes (take k xs)
 below_place xs j c k e h = after_from 0 xs j c k e (omega arith)
 
+-- an action that is one flush more has the number of the flushes before it
+pub flush_placed : (xs : List Action) (k : ℕ) → flushes (take (k + 1) xs) ≡ flushes (take k xs) + 1 → slice_get (flush_places xs) (flushes (take k xs)) ≡ Some k
+flush_placed xs k more =
+    let all = flushes_all xs (k + 1) in
+    let c = flush_there xs (flushes (take k xs)) (omega (arith, more, all)) in
+    let low = place_below xs (flushes (take k xs)) c.0 (k + 1) c.1 (omega (arith, more)) in
+    let not_below : c.0 < k → ⊥ = λ lt. absurd (before c.0 c.1 lt) in
+    c.1 ∙ ap Some (omega (arith, low, not_below))
+  where
+    before : (c : ℕ) → slice_get (flush_places xs) (flushes (take k xs)) ≡ Some c → c < k → ⊥
+    before c e lt = let more = below_place xs (flushes (take k xs)) c k e lt in omega arith
+
 -- of some first actions that all stay open, each does
 each_stays : (xs : List Action) (k n : ℕ) (a : Action) → k < n → slice_get xs k ≡ Some a → IsTrue (list_all stays_open (take n xs)) → stays_open a ≡ true
 each_stays [] k n a h e all = absurd (cc)

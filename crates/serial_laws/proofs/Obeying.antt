@@ -6,7 +6,7 @@ use Rattle.std.specs.Prelude.{nat_lt, slice_get, unwrap_or, is_some}
 use Rattle.std.specs.List.{All}
 use Rattle.gpu_cmd.specs.declared.command.Command.{Command}
 use Rattle.gpu_cmd.specs.declared.error.CmdError.{CmdError}
-use Rattle.gpu_cmd.specs.Copied.{fetched, places_read}
+use Rattle.gpu_cmd.specs.Copied.{fetched, fetched_places, places_listed, places_read}
 use Rattle.gpu_cmd.proofs.Memories.{memory_copied}
 use Rattle.gpu_plan.specs.declared.plan.Action.{Action}
 use Rattle.gpu_plan.specs.declared.plan.Action.TheVariants as actions
@@ -201,35 +201,41 @@ obeys_finish p h s can reached same = record {
   rule_12 = tt;
 }
 
-obeys_judged : (p : PlansData) (h : List Event) (s k : ℕ) → CanRun p h s → flush_of p h s ≤ k → k ≤ reach p h s → (facts_at p h s).get ≢ (facts_at p h s).put → (answer : Result Command CmdError) → verdict_at p h s (words_after p h s k) ≡ answer → Obeys p h (judged_event s (words_after p h s k) answer)
-obeys_judged p h s k can since until differ (Ok command) e = record {
+-- words that were fetched from their places and that may have been put, with what their verdict makes of them
+pub words_obey : (p : PlansData) (h : List Event) (s : ℕ) (words : List (ℕ × ℕ)) → CanRun p h s → flush_of p h s ≤ reach p h s → (facts_at p h s).get ≢ (facts_at p h s).put → places_listed words ≡ fetched_places words (facts_at p h s) → All (MayHaveBeenPut p h s) words
+    → (answer : Result Command CmdError) → verdict_at p h s words ≡ answer → Obeys p h (judged_event s words answer)
+words_obey p h s words can reached differ places put (Ok command) e = record {
   rule_1 = tt;
   rule_2 = tt;
   rule_3 = tt;
   rule_4 = can.some;
   rule_5 = can.free;
-  rule_6 = omega (arith, since, until);
-  rule_7 = (differ, (memory_copied (value_at (plan_of p s).actions k) (facts_at p h s)).places);
-  rule_8 = words_put p h s k since until;
+  rule_6 = reached;
+  rule_7 = (differ, places);
+  rule_8 = put;
   rule_9 = subst IsOk (sym e) refl;
   rule_10 = tt;
   rule_11 = tt;
   rule_12 = tt;
 }
-obeys_judged p h s k can since until differ (Err error) e = record {
+words_obey p h s words can reached differ places put (Err error) e = record {
   rule_1 = tt;
   rule_2 = tt;
   rule_3 = tt;
   rule_4 = can.some;
   rule_5 = can.free;
-  rule_6 = omega (arith, since, until);
-  rule_7 = (differ, (memory_copied (value_at (plan_of p s).actions k) (facts_at p h s)).places);
-  rule_8 = words_put p h s k since until;
+  rule_6 = reached;
+  rule_7 = (differ, places);
+  rule_8 = put;
   rule_9 = e;
   rule_10 = tt;
   rule_11 = tt;
   rule_12 = tt;
 }
+
+obeys_judged : (p : PlansData) (h : List Event) (s k : ℕ) → CanRun p h s → flush_of p h s ≤ k → k ≤ reach p h s → (facts_at p h s).get ≢ (facts_at p h s).put → (answer : Result Command CmdError) → verdict_at p h s (words_after p h s k) ≡ answer → Obeys p h (judged_event s (words_after p h s k) answer)
+obeys_judged p h s k can since until differ answer e =
+    words_obey p h s (words_after p h s k) can (omega (arith, since, until)) differ (memory_copied (value_at (plan_of p s).actions k) (facts_at p h s)).places (words_put p h s k since until) answer e
 
 same_of : (a b : ℕ) → eqb a b ≡ true → a ≡ b
 same_of a b e = grind (arith, nat_tests)

@@ -19,16 +19,17 @@ use Rattle.shm_words.specs.Rule.{Words, IsStoredNote, Fresh, InUse, Keeps}
 use Rattle.shm_words.specs.Seen.{IsClient, IsService, IsNote}
 use Rattle.shm_words.proofs.Seats.{not_fresh, client_is, service_is, ServiceMoves, service_moves}
 
--- a new view behind the others, which is a note of the client's latest flush
-noted : (p : PlanData) (s : Words) (run : InUse p s) (m : ℕ) → m ≤ get_or s.words 0 0 → InUse p (record { words = s.words; homes = s.homes; views = s.views ++ Note m ∷ [] })
-noted p s run m low = record {
+-- other views keep the rule where the client and the service still sit, and each other view is still one that may be there
+viewed : (p : PlanData) (s : Words) (run : InUse p s) (views : List View) → get_elem? views run.client_seat ≡ some (Client run.client) → get_elem? views run.service_seat ≡ some (Service run.service)
+    → ((j : ℕ) (u : View) → j ≢ run.client_seat → j ≢ run.service_seat → get_elem? views j ≡ some u → IsStoredNote (get_or s.words 0 0) u) → InUse p (record { words = s.words; homes = s.homes; views = views })
+viewed p s run views client_there service_there others = record {
   client_seat = run.client_seat;
   service_seat = run.service_seat;
   client = run.client;
   service = run.service;
-  client_there = at_longer s.views (Note m ∷ []) run.client_seat (Client run.client) run.client_there;
-  service_there = at_longer s.views (Note m ∷ []) run.service_seat (Service run.service) run.service_there;
-  others = λ j u no no' at. ⊎_elim (λ (was : get_elem? s.views j ≡ some u). run.others j u no no' was) (λ (new : Note m ≡ u). subst (λ (v : View). IsStoredNote (get_or s.words 0 0) v) new low) (at_snoc s.views (Note m) u j at);
+  client_there = client_there;
+  service_there = service_there;
+  others = others;
   client_plan = run.client_plan;
   service_plan = run.service_plan;
   wide = run.wide;
@@ -40,6 +41,12 @@ noted p s run m low = record {
   token_word = run.token_word;
   bounded = run.bounded;
 }
+
+-- a new view behind the others, which is a note of the client's latest flush
+noted : (p : PlanData) (s : Words) (run : InUse p s) (m : ℕ) → m ≤ get_or s.words 0 0 → InUse p (record { words = s.words; homes = s.homes; views = s.views ++ Note m ∷ [] })
+noted p s run m low =
+    viewed p s run (s.views ++ Note m ∷ []) (at_longer s.views (Note m ∷ []) run.client_seat (Client run.client) run.client_there) (at_longer s.views (Note m ∷ []) run.service_seat (Service run.service) run.service_there)
+    (λ j u no no' at. ⊎_elim (λ (was : get_elem? s.views j ≡ some u). run.others j u no no' was) (λ (new : Note m ≡ u). subst (λ (v : View). IsStoredNote (get_or s.words 0 0) v) new low) (at_snoc s.views (Note m) u j at))
 
 -- kind 4
 pub notes : (p : PlanData) (id : ℕ) (me : Sat) → IsClient me → Splits (Keeps p) id me.0 me.0 (note_part me.0)
@@ -70,28 +77,12 @@ blanks p id me is s kept at =
 spends : (p : PlanData) (s : Words) (run : InUse p s) (id m : ℕ) → get_elem? s.views id ≡ some (Note m) → InUse p (record { words = s.words; homes = s.homes; views = set s.views id Spent })
 spends p s run id m at =
     let not_client : run.client_seat ≢ id = λ e. (let same : Client run.client ≡ Note m = some-injective _ _ (sym run.client_there ∙ ap (get_elem? s.views) e ∙ at) in cc) in
-    let not_service : run.service_seat ≢ id = λ e. (let same : Service run.service ≡ Note m = some-injective _ _ (sym run.service_there ∙ ap (get_elem? s.views) e ∙ at) in cc) in record {
-      client_seat = run.client_seat;
-      service_seat = run.service_seat;
-      client = run.client;
-      service = run.service;
-      client_there = set_else s.views id run.client_seat Spent not_client ∙ run.client_there;
-      service_there = set_else s.views id run.service_seat Spent not_service ∙ run.service_there;
-      others = λ j u no no' there. ⊎_elim
-          (λ (new : (j ≡ id) × (Spent ≡ u)). subst (λ (v : View). IsStoredNote (get_or s.words 0 0) v) new.1 tt)
-          (λ (old : (j ≢ id) × (get_elem? s.views j ≡ some u)). run.others j u no no' old.1)
-          (at_set s.views id j Spent u there);
-      client_plan = run.client_plan;
-      service_plan = run.service_plan;
-      wide = run.wide;
-      values = run.values;
-      flush_mark = run.flush_mark;
-      client_mark = run.client_mark;
-      service_mark = run.service_mark;
-      finish_word = run.finish_word;
-      token_word = run.token_word;
-      bounded = run.bounded;
-    }
+    let not_service : run.service_seat ≢ id = λ e. (let same : Service run.service ≡ Note m = some-injective _ _ (sym run.service_there ∙ ap (get_elem? s.views) e ∙ at) in cc) in
+    viewed p s run (set s.views id Spent) (set_else s.views id run.client_seat Spent not_client ∙ run.client_there) (set_else s.views id run.service_seat Spent not_service ∙ run.service_there)
+    (λ j u no no' there. ⊎_elim
+    (λ (new : (j ≡ id) × (Spent ≡ u)). subst (λ (v : View). IsStoredNote (get_or s.words 0 0) v) new.1 tt)
+    (λ (old : (j ≢ id) × (get_elem? s.views j ≡ some u)). run.others j u no no' old.1)
+    (at_set s.views id j Spent u there))
 
 -- kind 5
 pub joins : (p : PlanData) (id : ℕ) (me : Sat) (other : ℕ) (note : Sat) → IsService me → IsNote note → Joins (Keeps p) id me.0 other note.0 (joined me.0 note.0) Spent

@@ -1,5 +1,5 @@
 -- Laws on which no other proof rests, each applied once: if one of them said less, its case here could not be shown.
-use Rattle.std.proofs.Common.{◌≡◌, ℕ, suc, ◌+◌, ◌*◌, ◌^◌, ◌<◌, ◌≤◌, lit<, Bool, true, false, Some, Result, Ok, IfOk, List, [], ◌∷◌, ◌++◌, length, map, take, refl, sym, ap, subst, ◌∙◌, arith}
+use Rattle.std.proofs.Common.{◌≡◌, ℕ, suc, ◌+◌, ◌*◌, ◌^◌, ◌<◌, ◌≤◌, lit<, true, false, Some, Result, Ok, IfOk, List, [], ◌∷◌, ◌++◌, length, map, take, refl, sym, ap, subst, ◌∙◌, arith}
 use Rattle.std.specs.Prelude.{AllPairs, Contains}
 use Rattle.std.specs.List.{All}
 use Rattle.std.proofs.lemmas.List.Elements.{All-head}
@@ -47,10 +47,8 @@ use Rattle.gpu_journal.specs.Output.{output}
 use Rattle.serial_laws.specs.Scripts.{AreLawfulPlans}
 use Rattle.serial_laws.specs.Going.{wants_memory}
 use Rattle.serial_laws.specs.Laws.{UnfinishedHasEvent, SerialWantsNoMemory}
+use Rattle.serial_laws.proofs.Ends.{clash}
 use Rattle.history_laws.specs.Laws.{ScriptsAreLawful, ScriptsRunLegally, ScriptsRunToTheEnd, DumpsMayBeTold, LaterMayBeTold, SameOutputIsSameHistory, SameRunIsSameHistory, SerialIsShort, MostEventsAreFew, SixAlwaysHolds}
-
-clash : (b : Bool) → b ≡ true → b ≡ false → ⊥
-clash b x y = cc
 
 -- ---- headers
 

@@ -1,7 +1,7 @@
 use Rattle.std.proofs.Common.{◌≡◌, Bool, true, false, sym, ap, ◌∙◌}
+use Rattle.gpu_house.proofs.Going.{goes_further, stops}
 use Rattle.gpu_run.specs.Turning.{HasStepped}
-use Rattle.gpu_run.proofs.Stepping.{goes_further}
-use Rattle.gpu_run.proofs.RunTurns.{words_are, fetched_with, stepped_with, stops}
+use Rattle.gpu_run.proofs.RunTurns.{words_are, fetched_with, stepped_with}
 use Rattle.gpu_run.proofs.running.turn.Given.{Over}
 use Rattle.gpu_run.proofs.running.turn.Goals as goal
 

@@ -4,18 +4,15 @@ use Rattle.sync_core.specs.Events as sync
 use Rattle.gpu_journal.proofs.Following.{plan_here}
 use Rattle.journal_verify.specs.Kept.{WatchData, JudgeData, IsWatch}
 use Rattle.journal_verify.specs.Entered.{FitsPlans, HasTurned}
-use Rattle.journal_verify.proofs.Turning.{front_known, watch_here, is_watch_here, fits_turned}
+use Rattle.journal_verify.proofs.Turning.{front_known, watch_here, is_watch_seen, fits_turned}
 use Rattle.journal_verify.proofs.judge.Judge.enter_finish.Goals as goal
 
 pub finish-requires-2-clause-watch : goal.finish-requires-2-clause-watch
 finish-requires-2-clause-watch c =
     let p = c.args.plans.now in
-    let inside = c.self.inside in
-    let old : JudgeData = record { drawn = inside.drawn; core = inside.scene.sync; images = inside.scene.images; states = inside.states.items; watches = inside.watches.items } in
-    let fits : FitsPlans p old = subst (FitsPlans p) (sym c.self.view_is) c.requires.fits in
     let known = front_known p c.args.self.now c.args.s c.requires.fits c.requires.front in
     let plan = plan_here p c.args.s c.plan.result.now (omega (arith, known.0)) c.plan.ensures in
-    subst (λ (plan : PlanData). IsWatch plan c.index_mut.result.now) plan (is_watch_here p old c.args.s c.index_mut.result.now fits known c.index_mut.ensures.value)
+    subst (λ (plan : PlanData). IsWatch plan c.index_mut.result.now) plan (is_watch_seen p _ c.args.self.now c.args.s c.index_mut.result.now c.self.view_is c.requires.fits known c.index_mut.ensures.value)
 
 pub returns-clause-turned : goal.returns-clause-turned
 returns-clause-turned c =
