@@ -22,6 +22,6 @@ loop-done-preserved c =
       plan = ap (λ w. w.plan) c.put.ensures.done ∙ was.plan;
       done = ap (λ w. w.done) c.put.ensures.done ∙ ap (λ n. n + 1) was.done;
       side = was.side;
-      beside = c.put.ensures.beside c.loop-done.side was.beside;
+      beside = c.put.ensures.beside _ was.beside;
       none = put_counts c.args.plan.now.actions c.loop-done.done (c.is_put.ensures c.if-not-is_put.false) ∙ was.none;
     }
