@@ -8,6 +8,7 @@ use Rattle.std.proofs.lemmas.Cmp.{then_total}
 use Rattle.std.proofs.lemmas.Bool.Decides.{nat_tests}
 use Rattle.sync_core.specs.declared.wait.Wait.{Wait}
 use Rattle.sync_core.specs.Keys.{wait_cmp, release_cmp, order_cmp, by_release, by_order}
+use Rattle.sync_core.proofs.Together.{five_parts}
 
 pub wait_total : IsTotalOrder wait_cmp
 wait_total =
@@ -54,20 +55,12 @@ order_same a b =
     ∙ by_order_shuffle (is_eq (nat_cmp a.target b.target)) (is_eq (nat_cmp a.order b.order)) (is_eq (nat_cmp a.stream b.stream)) (is_eq (nat_cmp a.position b.position)) (is_eq (nat_cmp a.release b.release))
     ∙ sym (five (nat_cmp a.order b.order) (nat_cmp a.stream b.stream) (nat_cmp a.position b.position) (nat_cmp a.target b.target) (nat_cmp a.release b.release))
 
-parts : (a b c d e : Bool) → (a && (b && (c && (d && e)))) ≡ true → (a ≡ true) × (b ≡ true) × (c ≡ true) × (d ≡ true) × (e ≡ true)
-parts true true true true true k = (refl, refl, refl, refl, refl)
-parts true true true true false k = absurd (cc)
-parts true true true false e k = absurd (cc)
-parts true true false d e k = absurd (cc)
-parts true false c d e k = absurd (cc)
-parts false b c d e k = absurd (cc)
-
 pub same_number : (x y : ℕ) → is_eq (nat_cmp x y) ≡ true → x ≡ y
 same_number x y e = let k : eqb x y ≡ true = sym (unsigned_tied x y) ∙ e in grind (arith, nat_tests)
 
 -- waits that are not told apart are the same
 pub same_wait : (a b : Wait) → is_at (wait_cmp a) b ≡ true → a ≡ b
 same_wait a b e =
-    let p = parts (is_eq (nat_cmp a.order b.order)) (is_eq (nat_cmp a.stream b.stream)) (is_eq (nat_cmp a.position b.position)) (is_eq (nat_cmp a.target b.target)) (is_eq (nat_cmp a.release b.release))
+    let p = five_parts (is_eq (nat_cmp a.order b.order)) (is_eq (nat_cmp a.stream b.stream)) (is_eq (nat_cmp a.position b.position)) (is_eq (nat_cmp a.target b.target)) (is_eq (nat_cmp a.release b.release))
     (sym (five (nat_cmp a.order b.order) (nat_cmp a.stream b.stream) (nat_cmp a.position b.position) (nat_cmp a.target b.target) (nat_cmp a.release b.release)) ∙ e) in
     λ i. record { order = same_number a.order b.order p.0 i; stream = same_number a.stream b.stream p.1 i; position = same_number a.position b.position p.2 i; target = same_number a.target b.target p.3 i; release = same_number a.release b.release p.4 i }

@@ -1,10 +1,11 @@
 -- Where no key that an event takes comes first, it takes no wait.
-use Rattle.std.proofs.Common.{◌≡◌, ◌≢◌, ℕ, ◌≤◌, eqb, Bool, true, false, not, ◌&&◌, ◌||◌, List, [], ◌∷◌, Option, Some, None, refl, sym, ap, ◌∙◌, arith}
+use Rattle.std.proofs.Common.{◌≡◌, ◌≢◌, ℕ, ◌≤◌, eqb, Bool, true, false, not, ◌||◌, List, [], ◌∷◌, Option, Some, None, refl, sym, ap, ◌∙◌, arith}
 use Rattle.std.specs.Prelude.{nat_lt, All, IfSome, IfNone, is_some}
 use Rattle.std.specs.List.{list_any}
 use Rattle.std.specs.BTreeMap.{is_at}
 use Rattle.std.proofs.lemmas.List.Folds.{list_any_none}
 use Rattle.std.specs.Cmp.{eq_by_cmp_equiv}
+use Rattle.std.proofs.lemmas.Bool.{and_parts, or_left, or_right, false_from_ne_true}
 use Rattle.std.proofs.lemmas.Bool.Decides.{nat_tests}
 use Rattle.std.proofs.lemmas.Map.Views.{All-from_any}
 use Rattle.sync_core.specs.declared.wait.Wait.{Wait}
@@ -15,16 +16,7 @@ use Rattle.sync_core.specs.Queues.{takes, has}
 use Rattle.sync_core.proofs.Alike.{wait_total, same_wait}
 
 pub none_goes : (which : Which) (ws : List Wait) → ((w : Wait) → has ws w ≡ true → takes which w ≡ true → ⊥) → All (λ w. takes which w ≡ false) ws
-none_goes which ws stays = All-from_any (eq_by_cmp_equiv wait_total) (λ w. takes which w ≡ false) ws (λ w here. by (takes which w) (stays w here))
-  where
-    by : (b : Bool) → (b ≡ true → ⊥) → b ≡ false
-    by true k = absurd (k refl)
-    by false k = refl
-
-both : (a b : Bool) → (a && b) ≡ true → (a ≡ true) × (b ≡ true)
-both true true e = (refl, refl)
-both true false e = absurd (cc)
-both false b e = absurd (cc)
+none_goes which ws stays = All-from_any (eq_by_cmp_equiv wait_total) (λ w. takes which w ≡ false) ws (λ w here. false_from_ne_true (takes which w) (stays w here))
 
 is_same : (a b : ℕ) → eqb a b ≡ true → a ≡ b
 is_same a b e = grind (arith, nat_tests)
@@ -33,10 +25,10 @@ is_at_most : (a b : ℕ) → not (nat_lt a b) ≡ true → b ≤ a
 is_at_most a b e = grind (arith, nat_tests)
 
 pub released : (t r : ℕ) (w : Wait) → takes (Released t r) w ≡ true → (w.target ≡ t) × (w.release ≤ r)
-released t r w e = let p = both (eqb w.target t) (not (nat_lt r w.release)) e in (is_same w.target t p.0, is_at_most r w.release p.1)
+released t r w e = let p = and_parts (eqb w.target t) (not (nat_lt r w.release)) e in (is_same w.target t p.0, is_at_most r w.release p.1)
 
 pub up_to : (t n : ℕ) (w : Wait) → takes (UpTo t n) w ≡ true → (w.target ≡ t) × (w.order ≤ n)
-up_to t n w e = let p = both (eqb w.target t) (not (nat_lt n w.order)) e in (is_same w.target t p.0, is_at_most n w.order p.1)
+up_to t n w e = let p = and_parts (eqb w.target t) (not (nat_lt n w.order)) e in (is_same w.target t p.0, is_at_most n w.order p.1)
 
 pub on : (t : ℕ) (w : Wait) → takes (On t) w ≡ true → w.target ≡ t
 on t w e = is_same w.target t e
@@ -53,14 +45,6 @@ any_has : (p : Wait → Bool) (w : Wait) (ws : List Wait) → p w ≡ true → h
 any_has p w [] pass here = absurd (cc)
 any_has p w (x ∷ ws) pass here = by (any_has p w ws pass) (is_at (wait_cmp w) x) refl here
   where
-    or_left : (a b : Bool) → a ≡ true → (a || b) ≡ true
-    or_left true b e = refl
-    or_left false b e = absurd (cc)
-
-    or_right : (a b : Bool) → b ≡ true → (a || b) ≡ true
-    or_right true b e = refl
-    or_right false b e = e
-
     by : (has ws w ≡ true → list_any p ws ≡ true) → (b : Bool) → is_at (wait_cmp w) x ≡ b → (b || has ws w) ≡ true → (p x || list_any p ws) ≡ true
     by rest true e k = or_left (p x) (list_any p ws) (ap p (sym (same_wait w x e)) ∙ pass)
     by rest false e k = or_right (p x) (list_any p ws) (rest k)

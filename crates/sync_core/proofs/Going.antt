@@ -4,6 +4,7 @@ use Rattle.std.specs.Prelude.{nat_lt, All, Option, Some, None, filter}
 use Rattle.std.specs.List.{list_any}
 use Rattle.std.proofs.lemmas.List.Folds.{Any-from_list_any, list_any_none}
 use Rattle.std.proofs.lemmas.List.Elements.{All-weaker, All-nil, All-cons, All-head, All-tail}
+use Rattle.std.proofs.lemmas.Bool.{or_parts}
 use Rattle.std.proofs.lemmas.Bool.Decides.{nat_tests}
 use Rattle.sync_core.specs.declared.wait.Number.{Number}
 use Rattle.sync_core.specs.declared.wait.Wait.{Wait}
@@ -14,8 +15,9 @@ use Rattle.sync_core.specs.Events as events
 use Rattle.sync_core.specs.Events.{Deed, SyncEvent, orders, moved, standing}
 use Rattle.sync_core.specs.Pending.{still, ends, wait_of, pending, has_wait_of, is_blocked}
 use Rattle.sync_core.specs.Queues.{takes, leaves, passed, GoesLast}
+use Rattle.sync_core.proofs.Together.{three_parts}
 use Rattle.sync_core.proofs.Numbers.{Each, below_first, left_rises, left_differ}
-use Rattle.sync_core.proofs.Keeps.{All-pending, and_parts, eqb_self, has_front}
+use Rattle.sync_core.proofs.Keeps.{All-pending, eqb_self, has_front}
 use Rattle.sync_core.proofs.Rising.{positions}
 
 module _ {X : Type 0} where
@@ -84,7 +86,7 @@ Goes e h which w = (still (standing (e ∷ h)) w ≡ leaves which w) × (ends (s
 -- what is known of a wait that is still
 parts_of : (h : List SyncEvent) (w : Wait) → still (standing h) w ≡ true
     → (contains_number w.order (standing h w.stream).left ≡ true) × (nat_lt (standing h w.target).release w.release ≡ true) × (has_below w.order (standing h w.target).left ≡ true)
-parts_of h w now = and_parts (contains_number w.order (standing h w.stream).left) (nat_lt (standing h w.target).release w.release) (has_below w.order (standing h w.target).left) now
+parts_of h w now = three_parts (contains_number w.order (standing h w.stream).left) (nat_lt (standing h w.target).release w.release) (has_below w.order (standing h w.target).left) now
 
 -- a release takes the waits on its stream up to the release count
 pub release_goes : (s r : ℕ) (h : List SyncEvent) (w : Wait) → still (standing h) w ≡ true → Goes (s, events.Released r) h (Released s (max (standing h s).release r)) w
@@ -115,11 +117,7 @@ all_free s (x ∷ xs) ws some free = none ws free
   where
     none : (ws : List Wait) → has_wait_of s x.order ws ≡ false → All (λ (w : Wait). (eqb w.stream s && eqb w.order x.order) ≡ false) ws
     none [] e = All-nil (λ (w : Wait). (eqb w.stream s && eqb w.order x.order) ≡ false)
-    none (w ∷ ws) e = let p = neither (eqb w.stream s && eqb w.order x.order) (has_wait_of s x.order ws) e in All-cons (λ (v : Wait). (eqb v.stream s && eqb v.order x.order) ≡ false) w ws p.0 (none ws p.1)
-      where
-        neither : (a b : Bool) → (a || b) ≡ false → (a ≡ false) × (b ≡ false)
-        neither true b k = absurd (cc)
-        neither false b k = (refl, k)
+    none (w ∷ ws) e = let p = or_parts (eqb w.stream s && eqb w.order x.order) (has_wait_of s x.order ws) e in All-cons (λ (v : Wait). (eqb v.stream s && eqb v.order x.order) ≡ false) w ws p.0 (none ws p.1)
 
 -- a number that is not the first is among the others
 among_rest : (m : ℕ) (xs : List Number) → contains_number m xs ≡ true → eqb m (front_of xs) ≡ false → contains_number m (drop 1 xs) ≡ true

@@ -5,12 +5,14 @@ use Rattle.std.specs.List.{position_or_len, list_any}
 use Rattle.std.proofs.lemmas.List.{append-nil}
 use Rattle.std.proofs.lemmas.List.Folds.{list_any-append}
 use Rattle.std.proofs.lemmas.List.Elements.{filter_passes, All-nil, All-head, All-tail, All-cons, All-append, All-take, All-drop, All-weaker}
+use Rattle.std.proofs.lemmas.Bool.{or_left, or_right}
 use Rattle.std.proofs.lemmas.Bool.Decides.{nat_tests}
 use Rattle.sync_core.specs.declared.wait.Number.{Number}
 use Rattle.sync_core.specs.declared.wait.Wait.{Wait}
 use Rattle.sync_core.specs.Standing.{Standing, is_known, contains_number, has_below, front_of, made_of, bumped, is_open}
 use Rattle.sync_core.specs.Events.{Ordered, Waited, SyncEvent, orders, moved, standing}
 use Rattle.sync_core.specs.Pending.{is_held, still, ends, ending_of, is_kept, added, placed, judged, wait_of, pending, endings}
+use Rattle.sync_core.proofs.Together.{three_parts, three_all, not_turned}
 
 module _ {X : Type 0} (p : X → Bool) where
   pub filter_all : (xs : List X) → All (λ x. p x ≡ true) xs → filter p xs ≡ xs
@@ -28,36 +30,15 @@ pub All-pending : (n : ℕ) (h : List SyncEvent) → All (λ w. still (standing 
 All-pending n [] = All-nil (λ w. still (standing []) w ≡ true)
 All-pending n (e ∷ h) = filter_passes (still (standing (e ∷ h))) (added n e.0 e.1 h (pending n h))
 
-pub and_parts : (a b c : Bool) → (a && (b && c)) ≡ true → (a ≡ true) × (b ≡ true) × (c ≡ true)
-and_parts true true true e = (refl, refl, refl)
-and_parts true true false e = absurd (cc)
-and_parts true false c e = absurd (cc)
-and_parts false b c e = absurd (cc)
-
-and_all : (a b c : Bool) → a ≡ true → b ≡ true → c ≡ true → (a && (b && c)) ≡ true
-and_all true true true x y z = refl
-and_all true true false x y z = z
-and_all true false c x y z = y
-and_all false b c x y z = x
-
-not_ended : (a b : Bool) → (a && b) ≡ true → (a && not b) ≡ false
-not_ended true true e = refl
-not_ended true false e = absurd (cc)
-not_ended false b e = refl
-
 pub ends_not : (f : ℕ → Standing) (w : Wait) → still f w ≡ true → ends f w ≡ false
-ends_not f w e = not_ended (contains_number w.order (f w.stream).left) (is_held f w) e
+ends_not f w e = not_turned (contains_number w.order (f w.stream).left) (is_held f w) e
 
 -- a stream after another's event, or after an order or a wait of its own
 abbrev Grows : Standing → Standing → Type 0
 Grows old new = (new.release ≡ old.release) × ((p : Number → Bool) → list_any p old.left ≡ true → ((x : Number) (k : ℕ) → p record { order = x.order; made = k } ≡ p x) → list_any p new.left ≡ true)
 
-pub or_true : (a b : Bool) → a ≡ true → (a || b) ≡ true
-or_true true b e = refl
-or_true false b e = absurd (cc)
-
 grows_ordered : (x : Number) (old : Standing) (b : Bool) → Grows old (cond b (record old { left = old.left ++ x ∷ [] }) old)
-grows_ordered x old true = (refl, λ p e same. list_any-append p old.left (x ∷ []) ∙ or_true (list_any p old.left) (list_any p (x ∷ [])) e)
+grows_ordered x old true = (refl, λ p e same. list_any-append p old.left (x ∷ []) ∙ or_left (list_any p old.left) (list_any p (x ∷ [])) e)
 grows_ordered x old false = (refl, λ p e same. e)
 
 any_bumped : (p : Number → Bool) (xs : List Number) → ((x : Number) (k : ℕ) → p record { order = x.order; made = k } ≡ p x) → list_any p (bumped xs) ≡ list_any p xs
@@ -70,8 +51,8 @@ grows_waited old false = (refl, λ p e same. e)
 
 still_grows : (f g : ℕ → Standing) → ((s : ℕ) → Grows (f s) (g s)) → (w : Wait) → still f w ≡ true → still g w ≡ true
 still_grows f g grows w e =
-    let p = and_parts (contains_number w.order (f w.stream).left) (nat_lt (f w.target).release w.release) (has_below w.order (f w.target).left) e in
-    and_all (contains_number w.order (g w.stream).left) (nat_lt (g w.target).release w.release) (has_below w.order (g w.target).left)
+    let p = three_parts (contains_number w.order (f w.stream).left) (nat_lt (f w.target).release w.release) (has_below w.order (f w.target).left) e in
+    three_all (contains_number w.order (g w.stream).left) (nat_lt (g w.target).release w.release) (has_below w.order (g w.target).left)
     ((grows w.stream).1 (λ (x : Number). eqb x.order w.order) p.0 (λ x k. refl))
     (ap (λ (r : ℕ). nat_lt r w.release) (grows w.target).0 ∙ p.1)
     ((grows w.target).1 (λ (x : Number). nat_lt x.order w.order) p.2 (λ x k. refl))
@@ -101,7 +82,7 @@ kept_parts false b c d e k = absurd (cc)
 kept_still : (n : ℕ) (f : ℕ → Standing) (s m t r k : ℕ) → is_kept n f s m t r ≡ true → contains_number m (f s).left ≡ true → still f record { stream = s; order = m; target = t; release = r; position = k } ≡ true
 kept_still n f s m t r k e has =
     let p = kept_parts (is_known n t) (eqb s t) (is_open (f t)) (nat_lt (f t).release r) (has_below m (f t).left) e in
-    and_all (contains_number m (f s).left) (nat_lt (f t).release r) (has_below m (f t).left) has p.1 p.2
+    three_all (contains_number m (f s).left) (nat_lt (f t).release r) (has_below m (f t).left) has p.1 p.2
 
 -- whether a wait is kept does not hang on its own stream
 pub kept_other : (n : ℕ) (h : List SyncEvent) (e : SyncEvent) (m t r : ℕ) → is_kept n (standing (e ∷ h)) e.0 m t r ≡ is_kept n (standing h) e.0 m t r
@@ -130,11 +111,7 @@ All-judged n f s m k (x ∷ fs) has = by (All-judged n f s m (k + 1) fs has) (is
 
 any_last : (n k : ℕ) (xs : List Number) → contains_number n (xs ++ record { order = n; made = k } ∷ []) ≡ true
 any_last n k [] = ap (λ (b : Bool). b || false) (eqb_self n)
-any_last n k (x ∷ xs) = ap (λ (b : Bool). eqb x.order n || b) (any_last n k xs) ∙ or_right (eqb x.order n)
-  where
-    or_right : (b : Bool) → (b || true) ≡ true
-    or_right true = refl
-    or_right false = refl
+any_last n k (x ∷ xs) = ap (λ (b : Bool). eqb x.order n || b) (any_last n k xs) ∙ or_right (eqb x.order n) true refl
 
 pub ordered_ends : (n s : ℕ) (fs : List (ℕ × ℕ)) (h : List SyncEvent)
     → (pending n ((s, Ordered fs) ∷ h) ≡ pending n h ++ judged n (standing h) s (orders h + 1) 0 fs) × (endings n ((s, Ordered fs) ∷ h) ≡ endings n h)
@@ -151,7 +128,7 @@ ordered_ends n s fs h =
 
 pub has_front : (xs : List Number) → 0 < length xs → contains_number (front_of xs) xs ≡ true
 has_front [] h = absurd (omega arith)
-has_front (x ∷ xs) h = or_true (eqb x.order x.order) (list_any (λ (y : Number). eqb y.order x.order) xs) (eqb_self x.order)
+has_front (x ∷ xs) h = or_left (eqb x.order x.order) (list_any (λ (y : Number). eqb y.order x.order) xs) (eqb_self x.order)
 
 pub All-placed : (P : Wait → Type 0) (w : Wait) (ws : List Wait) → P w → All P ws → All P (placed w ws)
 All-placed P w ws here all =

@@ -1,3 +1,4 @@
+pub mod Together
 pub mod Lists
 pub mod Keeps
 pub mod Stands

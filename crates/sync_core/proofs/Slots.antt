@@ -10,6 +10,7 @@ use Rattle.std.specs.Ordering.{nat_cmp, ordering_then, is_eq, is_gt, match_order
 use Rattle.std.specs.Cmp.{IsTotalOrder, nat_cmp_total, on_total, tied_then, eq_by_cmp_equiv}
 use Rattle.std.specs.BTreeMap.{is_at, insert_entry}
 use Rattle.std.specs.BTreeSet.{insert_key}
+use Rattle.std.proofs.lemmas.Bool.{or_left, or_right, false_from_ne_true}
 use Rattle.std.proofs.lemmas.Cmp.{then_total}
 use Rattle.std.proofs.lemmas.List.{get_or-map, length-map}
 use Rattle.std.proofs.lemmas.List.Elements.{All-weaker, All-nil, All-cons, All-head, All-tail}
@@ -20,6 +21,7 @@ use Rattle.sync_core.specs.declared.keys.Place.{Place}
 use Rattle.sync_core.specs.Keys.{wait_cmp, place_cmp, place_of}
 use Rattle.sync_core.specs.Queues.{has, GoesLast}
 use Rattle.sync_core.specs.Slots.{nothing, wait_in, waits_of, Leads}
+use Rattle.sync_core.proofs.Together.{three_parts}
 use Rattle.sync_core.proofs.Alike.{wait_total, same_wait, same_number}
 use Rattle.sync_core.proofs.First.{at_most, then_at_most}
 
@@ -35,16 +37,10 @@ wait_self w = (eq_by_cmp_equiv wait_total).refl w
 three : (a b c : Ordering) → is_eq (ordering_then a (ordering_then b c)) ≡ (is_eq a && (is_eq b && is_eq c))
 three a b c = sym (tied_then a (ordering_then b c)) ∙ ap (λ (x : Bool). is_eq a && x) (sym (tied_then b c))
 
-parts : (a b c : Bool) → (a && (b && c)) ≡ true → (a ≡ true) × (b ≡ true) × (c ≡ true)
-parts true true true k = (refl, refl, refl)
-parts true true false k = absurd (cc)
-parts true false c k = absurd (cc)
-parts false b c k = absurd (cc)
-
 -- places that are not told apart are the same
 pub same_place : (a b : Place) → is_at (place_cmp a) b ≡ true → a ≡ b
 same_place a b e =
-    let p = parts (is_eq (nat_cmp a.order b.order)) (is_eq (nat_cmp a.stream b.stream)) (is_eq (nat_cmp a.position b.position)) (sym (three (nat_cmp a.order b.order) (nat_cmp a.stream b.stream) (nat_cmp a.position b.position)) ∙ e) in
+    let p = three_parts (is_eq (nat_cmp a.order b.order)) (is_eq (nat_cmp a.stream b.stream)) (is_eq (nat_cmp a.position b.position)) (sym (three (nat_cmp a.order b.order) (nat_cmp a.stream b.stream) (nat_cmp a.position b.position)) ∙ e) in
     λ i. record { order = same_number a.order b.order p.0 i; stream = same_number a.stream b.stream p.1 i; position = same_number a.position b.position p.2 i }
 
 triple : (x y z r : Ordering) → is_eq (ordering_then x (ordering_then y z)) ≡ false → ordering_then x (ordering_then y (ordering_then z r)) ≡ ordering_then x (ordering_then y z)
@@ -59,10 +55,6 @@ triple Equal Equal Equal r e = absurd (cc)
 -- waits at two places stand as the places do
 by_place : (a b : Wait) → is_at (place_cmp (place_of a)) (place_of b) ≡ false → wait_cmp a b ≡ place_cmp (place_of a) (place_of b)
 by_place a b e = triple (nat_cmp a.order b.order) (nat_cmp a.stream b.stream) (nat_cmp a.position b.position) (ordering_then (nat_cmp a.target b.target) (nat_cmp a.release b.release)) e
-
-is_false : (b : Bool) → (b ≡ true → ⊥) → b ≡ false
-is_false true off = absurd (off refl)
-is_false false off = refl
 
 -- what an entry leads to hangs on its slot alone
 pub waits_same : (a b : Slab Wait) (es : List (Place × ℕ)) → All (λ (e : Place × ℕ). get b e.1 ≡ get a e.1) es → waits_of b es ≡ waits_of a es
@@ -87,7 +79,7 @@ module _ (a b : Slab Wait) (i : ℕ) (w : Wait) (vacant : get a i ≡ None) (put
 
   apart : (e : Place × ℕ) → Leads a e → ((wait_in a e.1).order ≡ w.order → ((wait_in a e.1).stream ≡ w.stream) × ((wait_in a e.1).position < w.position)) → is_at (place_cmp (place_of w)) e.0 ≡ false
   apart e leads last =
-      is_false (is_at (place_cmp (place_of w)) e.0)
+      false_from_ne_true (is_at (place_cmp (place_of w)) e.0)
       (λ same.
       let at : place_of w ≡ place_of (wait_in a e.1) = same_place (place_of w) e.0 same ∙ sym leads.1 in
       let lt = (last (ap (λ (p : Place). p.order) (sym at))).1 in
@@ -153,14 +145,6 @@ pub led : (a : Slab Wait) (p : Place) (i : ℕ) (es : List (Place × ℕ)) → A
 led a p i [] leads is = absurd (cc)
 led a p i (e ∷ es) leads is = by (led a p i es (All-tail (Leads a) e es leads)) (is_at (place_cmp p) e.0) refl is
   where
-    or_right : (b c : Bool) → c ≡ true → (b || c) ≡ true
-    or_right true c k = refl
-    or_right false c k = k
-
-    or_left : (b c : Bool) → b ≡ true → (b || c) ≡ true
-    or_left true c k = refl
-    or_left false c k = absurd (cc)
-
     by : (lookup (is_at (place_cmp p)) es ≡ Some i → (get a i ≡ Some (wait_in a i)) × (place_of (wait_in a i) ≡ p) × (has (waits_of a es) (wait_in a i) ≡ true))
         → (b : Bool) → is_at (place_cmp p) e.0 ≡ b → cond b (Some e.1) (lookup (is_at (place_cmp p)) es) ≡ Some i
         → (get a i ≡ Some (wait_in a i)) × (place_of (wait_in a i) ≡ p) × ((is_at (wait_cmp (wait_in a i)) (wait_in a e.1) || has (waits_of a es) (wait_in a i)) ≡ true)
@@ -250,7 +234,7 @@ module _ (a b : Slab Wait) (i : ℕ) (w : Wait) (gone : Updates a b i None) wher
 
 -- a wait whose place no entry has is not there
 pub not_found : (a : Slab Wait) (w : Wait) (es : List (Place × ℕ)) → All (Leads a) es → lookup (is_at (place_cmp (place_of w))) es ≡ None → has (waits_of a es) w ≡ false
-not_found a w es leads none = is_false (has (waits_of a es) w) (λ there. absurd (cc (subst (λ (o : Option ℕ). IsSome o) none (found a w es leads there))))
+not_found a w es leads none = false_from_ne_true (has (waits_of a es) w) (λ there. absurd (cc (subst (λ (o : Option ℕ). IsSome o) none (found a w es leads there))))
 
 -- which waits there are with one more
 pub has_inserted : (w q : Wait) (ws : List Wait) → has (insert_key wait_cmp ws w) q ≡ cond (is_at (wait_cmp w) q) true (has ws q)

@@ -3,6 +3,7 @@ use Rattle.std.proofs.Common.{◌≡◌, ◌≢◌, ℕ, zero, suc, ◌+◌, ◌
 use Rattle.std.specs.Prelude.{nat_lt, All, Any, map, Some}
 use Rattle.std.proofs.lemmas.List.Folds.{list_any_none}
 use Rattle.std.proofs.lemmas.List.Elements.{All-weaker, All-nil, All-cons, All-contains, All-head}
+use Rattle.std.proofs.lemmas.Bool.{not-true, not_from_false, and_right, or_left, or_right}
 use Rattle.std.proofs.lemmas.Bool.Decides.{nat_tests}
 use Rattle.sync_core.specs.declared.wait.Number.{Number}
 use Rattle.sync_core.specs.declared.wait.Wait.{Wait}
@@ -10,38 +11,10 @@ use Rattle.sync_core.specs.Standing.{is_known, IsKnown, is_open, has_below, cont
 use Rattle.sync_core.specs.Events.{Deed, Ordered, Waited, Released, Finished, WasLost, WasClosed, SyncEvent, orders, moved, standing}
 use Rattle.sync_core.specs.Pending.{IsKept, is_kept, still, added, pending}
 use Rattle.sync_core.specs.Laws.{KeptIsDecided, LeastCanRun, Rank, WaitsGoDown, NoCycle}
+use Rattle.sync_core.proofs.Together.{three_parts, five_parts, five_all}
 use Rattle.sync_core.proofs.Numbers.{left_rises, first_below}
 use Rattle.sync_core.proofs.Waits.{news, news_new, IsNew, added_all, filter_both}
 use Rattle.sync_core.proofs.Keeps.{All-pending}
-
-not_true : (b : Bool) → not b ≡ true → b ≡ false
-not_true true e = absurd (cc)
-not_true false e = refl
-
-not_false : (b : Bool) → b ≡ false → not b ≡ true
-not_false true e = absurd (cc)
-not_false false e = refl
-
-five_parts : (a b c d e : Bool) → (a && (b && (c && (d && e)))) ≡ true → (a ≡ true) × (b ≡ true) × (c ≡ true) × (d ≡ true) × (e ≡ true)
-five_parts true true true true true k = (refl, refl, refl, refl, refl)
-five_parts true true true true false k = absurd (cc)
-five_parts true true true false e k = absurd (cc)
-five_parts true true false d e k = absurd (cc)
-five_parts true false c d e k = absurd (cc)
-five_parts false b c d e k = absurd (cc)
-
-five_all : (a b c d e : Bool) → a ≡ true → b ≡ true → c ≡ true → d ≡ true → e ≡ true → (a && (b && (c && (d && e)))) ≡ true
-five_all true true true true true v w x y z = refl
-five_all true true true true false v w x y z = z
-five_all true true true false e v w x y z = y
-five_all true true false d e v w x y z = x
-five_all true false c d e v w x y z = w
-five_all false b c d e v w x y z = v
-
-third : (a b c : Bool) → (a && (b && c)) ≡ true → (b ≡ true) × (c ≡ true)
-third true true c e = (refl, e)
-third true false c e = absurd (cc)
-third false b c e = absurd (cc)
 
 known_is : (n t : ℕ) → is_known n t ≡ true → IsKnown n t
 known_is n zero e = absurd (cc)
@@ -87,14 +60,6 @@ any_order n (x ∷ xs) e = by (nat_lt x.order n) refl (any_order n xs) e
 order_any : (n : ℕ) (xs : List Number) → Any (λ m. m < n) (map (λ (x : Number). x.order) xs) → has_below n xs ≡ true
 order_any n xs a = by xs a.0 a.1 a.2 a.3 (below_test a.1 n a.4)
   where
-    or_left : (a b : Bool) → a ≡ true → (a || b) ≡ true
-    or_left true b e = refl
-    or_left false b e = absurd (cc)
-
-    or_right : (a b : Bool) → b ≡ true → (a || b) ≡ true
-    or_right true b e = refl
-    or_right false b e = e
-
     by : (xs : List Number) (k m : ℕ) → k < length (map (λ (x : Number). x.order) xs) → get_or (map (λ (x : Number). x.order) xs) k m ≡ m → nat_lt m n ≡ true → has_below n xs ≡ true
     by [] k m lt is low = absurd (omega arith)
     by (x ∷ xs) zero m lt is low = or_left (nat_lt x.order n) (has_below n xs) (ap (λ (j : ℕ). nat_lt j n) is ∙ low)
@@ -106,11 +71,11 @@ kept_is_decided n h s m t r = (to, from)
     to : is_kept n (standing h) s m t r ≡ true → IsKept n h s m t r
     to e =
         let p = five_parts (is_known n t) (not (eqb s t)) (is_open (standing h t)) (nat_lt (standing h t).release r) (has_below m (standing h t).left) e in
-        record { known = known_is n t p.0; other = differs s t (not_true (eqb s t) p.1); live = p.2; unreleased = is_below (standing h t).release r p.3; guarded = any_order m (standing h t).left p.4 }
+        record { known = known_is n t p.0; other = differs s t (not-true (eqb s t) p.1); live = p.2; unreleased = is_below (standing h t).release r p.3; guarded = any_order m (standing h t).left p.4 }
 
     from : IsKept n h s m t r → is_kept n (standing h) s m t r ≡ true
     from k = five_all (is_known n t) (not (eqb s t)) (is_open (standing h t)) (nat_lt (standing h t).release r) (has_below m (standing h t).left)
-        (is_known_of n t k.known) (not_false (eqb s t) (differ_test s t k.other)) k.live (below_test (standing h t).release r k.unreleased) (order_any m (standing h t).left k.guarded)
+        (is_known_of n t k.known) (not_from_false (eqb s t) (differ_test s t k.other)) k.live (below_test (standing h t).release r k.unreleased) (order_any m (standing h t).left k.guarded)
 
 -- what a pending wait keeps from the time when it was made: its target is known, another stream, neither lost nor closed
 pub record Live (n : ℕ) (h : List SyncEvent) (w : Wait) : Type 0 where
@@ -138,7 +103,7 @@ live_after : (n : ℕ) (e : SyncEvent) (h : List SyncEvent) (w : Wait) → Live 
 live_after n e h w was now = record {
   known = was.known;
   other = was.other;
-  live = stays_open n e h w.target w.order (third (contains_number w.order (standing (e ∷ h) w.stream).left) (nat_lt (standing (e ∷ h) w.target).release w.release) (has_below w.order (standing (e ∷ h) w.target).left) now).1 was.live;
+  live = stays_open n e h w.target w.order (three_parts (contains_number w.order (standing (e ∷ h) w.stream).left) (nat_lt (standing (e ∷ h) w.target).release w.release) (has_below w.order (standing (e ∷ h) w.target).left) now).2 was.live;
 }
 
 pub pending_live : (n : ℕ) (h : List SyncEvent) → All (Live n h) (pending n h)
@@ -151,20 +116,20 @@ pending_live n (e ∷ h) =
     of_new : (w : Wait) → IsNew n e h w → Live n h w
     of_new w new =
         let p = five_parts (is_known n w.target) (not (eqb w.stream w.target)) (is_open (standing h w.target)) (nat_lt (standing h w.target).release w.release) (has_below w.order (standing h w.target).left) new.kept in
-        record { known = p.0; other = not_true (eqb w.stream w.target) p.1; live = p.2 }
+        record { known = p.0; other = not-true (eqb w.stream w.target) p.1; live = p.2 }
 
 pub waits_go_down : WaitsGoDown
 waits_go_down n h = λ i d lt. rank _ (pending_live n h i d lt) (All-pending n h i d lt)
   where
     rank : (w : Wait) → Live n h w → still (standing h) w ≡ true → Rank n h w
     rank w live now =
-        let p = third (contains_number w.order (standing h w.stream).left) (nat_lt (standing h w.target).release w.release) (has_below w.order (standing h w.target).left) now in
+        let p = three_parts (contains_number w.order (standing h w.stream).left) (nat_lt (standing h w.target).release w.release) (has_below w.order (standing h w.target).left) now in
         record {
           known = known_is n w.target live.known;
           other = differs w.stream w.target live.other;
           live = live.live;
-          unreleased = is_below (standing h w.target).release w.release p.0;
-          named = first_below w.order (standing h w.target).left (left_rises h w.target) p.1;
+          unreleased = is_below (standing h w.target).release w.release p.1;
+          named = first_below w.order (standing h w.target).left (left_rises h w.target) p.2;
         }
 
 pub no_cycle : NoCycle
@@ -182,10 +147,6 @@ least_can_run n h s m least =
     list_any_none (λ (w : Wait). eqb w.stream s && eqb w.order m) (pending n h)
     (All-weaker (Rank n h) (λ (w : Wait). (eqb w.stream s && eqb w.order m) ≡ false) other_number (pending n h) (waits_go_down n h))
   where
-    second : (a b : Bool) → b ≡ false → (a && b) ≡ false
-    second true b e = e
-    second false b e = refl
-
     above : (xs : List Number) (k : ℕ) → first_order xs ≡ Some k → All (λ j. m ≤ j) (map (λ (x : Number). x.order) xs) → m ≤ k
     above [] k e all = absurd (cc)
     above (x ∷ xs) k e all = let is : x.order ≡ k = cc in subst (λ (j : ℕ). m ≤ j) is (All-head (λ j. m ≤ j) x.order (map (λ (y : Number). y.order) xs) all)
@@ -194,4 +155,4 @@ least_can_run n h s m least =
     other_number w rank =
         let low : m ≤ rank.named.0 = above (standing h w.target).left rank.named.0 rank.named.1 (least w.target) in
         let lower = rank.named.2 in
-        second (eqb w.stream s) (eqb w.order m) (differ_test w.order m (λ same. absurd (omega arith)))
+        and_right (eqb w.stream s) (eqb w.order m) (differ_test w.order m (λ same. absurd (omega arith)))
