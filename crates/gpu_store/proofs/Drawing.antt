@@ -55,17 +55,48 @@ elsewhere from w k new old written outside is = grind (arith, nat_tests)
 place : (start left x : ℕ) → left ≤ x → start + x - (start + left) ≡ x - left
 place start left x le = omega arith
 
--- the rows drawn so far, with the row below them
-down_here : (left w x first row new mid old shown : ℕ) → first ≤ row
+-- at a place of this row, which is not among the rows drawn so far and is among those drawn now
+drawn_here : (left w x row first last first' last' new mid old shown : ℕ) → (row < first) ⊎ (last ≤ row) → first' ≤ row → row < last'
     → new ≡ cond (nat_le left x && nat_lt x (left + w)) shown mid
-    → mid ≡ cond (nat_le left x && nat_lt x (left + w) && nat_le first row && nat_lt row row) shown old
-    → new ≡ cond (nat_le left x && nat_lt x (left + w) && nat_le first row && nat_lt row (row + 1)) shown old
-down_here left w x first row new mid old shown le a b = grind (arith, nat_tests)
+    → mid ≡ cond (nat_le left x && nat_lt x (left + w) && nat_le first row && nat_lt row last) shown old
+    → new ≡ cond (nat_le left x && nat_lt x (left + w) && nat_le first' row && nat_lt row last') shown old
+drawn_here left w x row first last first' last' new mid old shown apart le lt a b = grind (arith, nat_tests)
 
-down_elsewhere : (left w x y first row mid old shown : ℕ) → y ≢ row
-    → mid ≡ cond (nat_le left x && nat_lt x (left + w) && nat_le first y && nat_lt y row) shown old
-    → mid ≡ cond (nat_le left x && nat_lt x (left + w) && nat_le first y && nat_lt y (row + 1)) shown old
-down_elsewhere left w x y first row mid old shown ne b = grind (arith, nat_tests)
+-- another row is among the rows drawn now where it was among them before
+abbrev SameOthers : ℕ → ℕ → ℕ → ℕ → ℕ → Type 0
+SameOthers row first last first' last' = (y : ℕ) → y ≢ row → (nat_le first' y && nat_lt y last') ≡ (nat_le first y && nat_lt y last)
+
+-- and at a place of another row
+drawn_elsewhere : (left w x y first last first' last' mid old shown : ℕ) → (nat_le first' y && nat_lt y last') ≡ (nat_le first y && nat_lt y last)
+    → mid ≡ cond (nat_le left x && nat_lt x (left + w) && nat_le first y && nat_lt y last) shown old
+    → mid ≡ cond (nat_le left x && nat_lt x (left + w) && nat_le first' y && nat_lt y last') shown old
+drawn_elsewhere left w x y first last first' last' mid old shown same is = grind (arith, nat_tests)
+
+-- one more row of the rectangle
+one_more : (width : ℕ) (rect : Rect) (texel : ℕ → ℕ → ℕ) (row first last first' last' : ℕ) (v : ℕ → ℕ) (old mid new : List ℕ)
+    → rect.x + rect.w ≤ width → (row < first) ⊎ (last ≤ row) → first' ≤ row → row < last' → SameOthers row first last first' last'
+    → ((i : ℕ) → i < rect.w → v i ≡ texel i (row - rect.y))
+    → IsDrawn width rect texel first last old mid
+    → IsWritten (row * width + rect.x) rect.w v mid new
+    → IsDrawn width rect texel first' last' old new
+one_more width rect texel row first last first' last' v old mid new fits apart le below others same drawn written = record {
+  sized = written.sized ∙ drawn.sized;
+  shown = λ x y lt within.
+      elim (cases_eq y row) [
+        | inl this ↦
+            let P : ℕ → Type 0 = λ y. y * width + x < length old → get_or new (y * width + x) 0 ≡ cond (nat_le rect.x x && nat_lt x (rect.x + rect.w) && nat_le first' y && nat_lt y last') (texel (x - rect.x) (y - rect.y)) (get_or old (y * width + x) 0) in
+            subst P (sym this) (λ inside.
+            drawn_here rect.x rect.w x row first last first' last' (get_or new (row * width + x) 0) (get_or mid (row * width + x) 0) (get_or old (row * width + x) 0) (texel (x - rect.x) (row - rect.y)) apart le below
+            (here (row * width) rect.x rect.w x (row * width + x) (get_or new (row * width + x) 0) (get_or mid (row * width + x) 0) (texel (x - rect.x) (row - rect.y)) (v (row * width + x - (row * width + rect.x))) refl
+            (λ from below. ap v (place (row * width) rect.x x from) ∙ same (x - rect.x) (omega arith))
+            (written.shown (row * width + x) (omega (arith, drawn.sized))))
+            (drawn.shown x row lt inside)) within
+        | inr other ↦
+            let outside = other_row width row rect.x rect.w x y lt fits other in
+            elsewhere (row * width + rect.x) rect.w (y * width + x) (get_or new (y * width + x) 0) (get_or mid (y * width + x) 0) _ outside (written.shown (y * width + x) (omega (arith, drawn.sized)))
+            ∙ drawn_elsewhere rect.x rect.w x y first last first' last' (get_or mid (y * width + x) 0) (get_or old (y * width + x) 0) (texel (x - rect.x) (y - rect.y)) (others y other) (drawn.shown x y lt within)
+      ];
+}
 
 -- one more row below those that are drawn
 pub row_below : (width : ℕ) (rect : Rect) (texel : ℕ → ℕ → ℕ) (first row : ℕ) (v : ℕ → ℕ) (old mid new : List ℕ)
@@ -74,35 +105,8 @@ pub row_below : (width : ℕ) (rect : Rect) (texel : ℕ → ℕ → ℕ) (first
     → IsDrawn width rect texel first row old mid
     → IsWritten (row * width + rect.x) rect.w v mid new
     → IsDrawn width rect texel first (row + 1) old new
-row_below width rect texel first row v old mid new fits le same drawn written = record {
-  sized = written.sized ∙ drawn.sized;
-  shown = λ x y lt within.
-      elim (cases_eq y row) [
-        | inl this ↦
-            let P : ℕ → Type 0 = λ y. y * width + x < length old → get_or new (y * width + x) 0 ≡ cond (nat_le rect.x x && nat_lt x (rect.x + rect.w) && nat_le first y && nat_lt y (row + 1)) (texel (x - rect.x) (y - rect.y)) (get_or old (y * width + x) 0) in
-            subst P (sym this) (λ inside.
-            down_here rect.x rect.w x first row (get_or new (row * width + x) 0) (get_or mid (row * width + x) 0) (get_or old (row * width + x) 0) (texel (x - rect.x) (row - rect.y)) le
-            (here (row * width) rect.x rect.w x (row * width + x) (get_or new (row * width + x) 0) (get_or mid (row * width + x) 0) (texel (x - rect.x) (row - rect.y)) (v (row * width + x - (row * width + rect.x))) refl
-            (λ from below. ap v (place (row * width) rect.x x from) ∙ same (x - rect.x) (omega arith))
-            (written.shown (row * width + x) (omega (arith, drawn.sized))))
-            (drawn.shown x row lt inside)) within
-        | inr other ↦
-            let outside = other_row width row rect.x rect.w x y lt fits other in
-            elsewhere (row * width + rect.x) rect.w (y * width + x) (get_or new (y * width + x) 0) (get_or mid (y * width + x) 0) _ outside (written.shown (y * width + x) (omega (arith, drawn.sized)))
-            ∙ down_elsewhere rect.x rect.w x y first row (get_or mid (y * width + x) 0) (get_or old (y * width + x) 0) (texel (x - rect.x) (y - rect.y)) other (drawn.shown x y lt within)
-      ];
-}
-
-up_here : (left w x row last new mid old shown : ℕ) → row < last
-    → new ≡ cond (nat_le left x && nat_lt x (left + w)) shown mid
-    → mid ≡ cond (nat_le left x && nat_lt x (left + w) && nat_le (row + 1) row && nat_lt row last) shown old
-    → new ≡ cond (nat_le left x && nat_lt x (left + w) && nat_le row row && nat_lt row last) shown old
-up_here left w x row last new mid old shown lt a b = grind (arith, nat_tests)
-
-up_elsewhere : (left w x y row last mid old shown : ℕ) → y ≢ row
-    → mid ≡ cond (nat_le left x && nat_lt x (left + w) && nat_le (row + 1) y && nat_lt y last) shown old
-    → mid ≡ cond (nat_le left x && nat_lt x (left + w) && nat_le row y && nat_lt y last) shown old
-up_elsewhere left w x y row last mid old shown ne b = grind (arith, nat_tests)
+row_below width rect texel first row v old mid new fits le =
+    one_more width rect texel row first row first (row + 1) v old mid new fits (inr (omega arith)) le (omega arith) (λ y ne. grind (arith, nat_tests))
 
 -- one more row above those that are drawn
 pub row_above : (width : ℕ) (rect : Rect) (texel : ℕ → ℕ → ℕ) (row last : ℕ) (v : ℕ → ℕ) (old mid new : List ℕ)
@@ -111,24 +115,8 @@ pub row_above : (width : ℕ) (rect : Rect) (texel : ℕ → ℕ → ℕ) (row l
     → IsDrawn width rect texel (row + 1) last old mid
     → IsWritten (row * width + rect.x) rect.w v mid new
     → IsDrawn width rect texel row last old new
-row_above width rect texel row last v old mid new fits le same drawn written = record {
-  sized = written.sized ∙ drawn.sized;
-  shown = λ x y lt within.
-      elim (cases_eq y row) [
-        | inl this ↦
-            let P : ℕ → Type 0 = λ y. y * width + x < length old → get_or new (y * width + x) 0 ≡ cond (nat_le rect.x x && nat_lt x (rect.x + rect.w) && nat_le row y && nat_lt y last) (texel (x - rect.x) (y - rect.y)) (get_or old (y * width + x) 0) in
-            subst P (sym this) (λ inside.
-            up_here rect.x rect.w x row last (get_or new (row * width + x) 0) (get_or mid (row * width + x) 0) (get_or old (row * width + x) 0) (texel (x - rect.x) (row - rect.y)) le
-            (here (row * width) rect.x rect.w x (row * width + x) (get_or new (row * width + x) 0) (get_or mid (row * width + x) 0) (texel (x - rect.x) (row - rect.y)) (v (row * width + x - (row * width + rect.x))) refl
-            (λ from below. ap v (place (row * width) rect.x x from) ∙ same (x - rect.x) (omega arith))
-            (written.shown (row * width + x) (omega (arith, drawn.sized))))
-            (drawn.shown x row lt inside)) within
-        | inr other ↦
-            let outside = other_row width row rect.x rect.w x y lt fits other in
-            elsewhere (row * width + rect.x) rect.w (y * width + x) (get_or new (y * width + x) 0) (get_or mid (y * width + x) 0) _ outside (written.shown (y * width + x) (omega (arith, drawn.sized)))
-            ∙ up_elsewhere rect.x rect.w x y row last (get_or mid (y * width + x) 0) (get_or old (y * width + x) 0) (texel (x - rect.x) (y - rect.y)) other (drawn.shown x y lt within)
-      ];
-}
+row_above width rect texel row last v old mid new fits lt =
+    one_more width rect texel row (row + 1) last row last v old mid new fits (inl (omega arith)) (omega arith) lt (λ y ne. grind (arith, nat_tests))
 
 outside_rows : (left w x y first last mid old shown : ℕ) → (y < first) ⊎ (last ≤ y)
     → mid ≡ cond (nat_le left x && nat_lt x (left + w) && nat_le first y && nat_lt y last) shown old → mid ≡ old
