@@ -1,3 +1,4 @@
+pub mod Groups
 pub mod Mentions
 pub mod Moved
 pub mod Numbers

@@ -1,26 +1,16 @@
 -- What is said, or what is wrong with it, and what a function returns for that.
-use Rattle.std.specs.Prelude.{◌≡◌, ℕ, Bool, true, false, Option, Some, None, Result, Ok, Err}
+use Rattle.std.specs.Prelude.{◌≡◌, ℕ, Option, Some, None, Result, Ok, Err}
+pub use Rattle.gpu_word.specs.Outcome.{◌>>=◌, unless}
 use Rattle.script_lines.specs.declared.fault.Kind.{Kind}
 use Rattle.script_lines.specs.declared.fault.LineError.{LineError}
 use Rattle.script_lines.specs.declared.fault.LineError.TheVariants as errors
 use Rattle.script_lines.specs.declared.fault.ScriptFault.{ScriptFault}
 use Rattle.script_lines.specs.declared.fault.ScriptFault.TheVariants as faults
 
--- the second is asked where the first is right; the first that is wrong is the answer
-infixl 10 ◌>>=◌
-abbrev pub ◌>>=◌ : {A B F : Type 0} → Result A F → (A → Result B F) → Result B F
-(Ok x) >>= f = f x
-(Err e) >>= f = Err e
-
 -- the value, or this kind where there is none
 abbrev pub or_kind : {A : Type 0} → Kind → Option A → Result A Kind
 or_kind kind None = Err kind
 or_kind kind (Some x) = Ok x
-
--- this kind, unless the test holds
-abbrev pub unless : Bool → Kind → Result (Unit {0}) Kind
-unless true kind = Ok tt
-unless false kind = Err kind
 
 -- the kind is told with the line's number
 abbrev pub at_line : {A : Type 0} → ℕ → Result A Kind → Result A (ℕ × Kind)

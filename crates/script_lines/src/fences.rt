@@ -1,7 +1,7 @@
-ghost use Rattle.std.specs.Prelude.{◌≡◌, is_some, OnOk};
+ghost use Rattle.std.specs.Prelude.{◌≡◌, length, is_some, OnOk};
 ghost use Rattle.script_words.specs.Text.{words_of};
 ghost use Rattle.script_lines.specs.Outcome.{Gives};
-ghost use Rattle.script_lines.specs.Said.{are_pairs, pairs_of, are_triples, triples_of, are_fences, fences_of, flush_said};
+ghost use Rattle.script_lines.specs.Said.{pairs_of, triples_of, are_fences, fences_of, flush_said};
 ghost use Rattle.script_lines.specs.Mentioned.{fence_said, mentioned_by, mentioned_of, mentioned_behind};
 
 use crate::fault::{Kind, LineError};
@@ -11,22 +11,16 @@ use gpu_cmd::Name;
 use script_words::Words;
 use std::alloc::Global;
 
-// How many pairs words make up, where they do.
+// How many words are left.
 #[tactic(auto, using(script_words::proofs::Few::few_words))]
-fn count_pairs(words: Words<'_>) -> Option<usize>
-    ensures { is_some result ≡ are_pairs (words_of words.entry.rest.now) }
+fn count_words(words: Words<'_>) -> usize
+    ensures { result ≡ length (words_of words.entry.rest.now) }
 {
-    let mut words = words;
     let mut count = 0;
-    loop {
-        match words.next() {
-            None => return Some(count),
-            Some(_) => match words.next() {
-                None => return None,
-                Some(_) => count += 1,
-            },
-        }
+    for _word in words {
+        count += 1;
     }
+    count
 }
 
 // Room is made for so many.
@@ -45,27 +39,6 @@ fn pairs_of(alloc: Global, count: usize, words: Words<'_>) -> Result<Vec<(u32, u
                     let release = long_decimal_at(r)?;
                     pairs.push((target, release))?;
                 }
-            },
-        }
-    }
-}
-
-// How many triples words make up, where they do.
-#[tactic(auto, using(script_words::proofs::Few::few_words))]
-fn count_triples(words: Words<'_>) -> Option<usize>
-    ensures { is_some result ≡ are_triples (words_of words.entry.rest.now) }
-{
-    let mut words = words;
-    let mut count = 0;
-    loop {
-        match words.next() {
-            None => return Some(count),
-            Some(_) => match words.next() {
-                None => return None,
-                Some(_) => match words.next() {
-                    None => return None,
-                    Some(_) => count += 1,
-                },
             },
         }
     }
@@ -116,13 +89,16 @@ fn triples_of(
 }
 
 // How many fences words make up, where they do.
+#[tactic(auto, using(crate::proofs::Groups::pairs_counted, crate::proofs::Groups::triples_counted))]
 fn count_fences(version: u32, words: Words<'_>) -> Option<usize>
     ensures { is_some result ≡ are_fences version (words_of words.entry.rest.now) }
 {
-    if version == 2 {
-        count_triples(words)
+    let each = if version == 2 { 3 } else { 2 };
+    let count = count_words(words);
+    if count % each == 0 {
+        Some(count / each)
     } else {
-        count_pairs(words)
+        None
     }
 }
 

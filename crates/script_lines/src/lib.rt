@@ -11,7 +11,6 @@ pub use fault::{Kind, LineError, ScriptFault};
 pub use fences::flush_said;
 pub use keyword::{Keyword, keyword_of};
 pub use line::{
-    Putting, fill_begun, fill_said, none_said, one_said, put_begun, put_said, stream_said,
-    two_said, value_of,
+    Putting, fill_begun, fill_said, none_said, one_said, put_begun, put_said, stream_said, two_said,
 };
 pub use names::Names;

@@ -9,7 +9,7 @@ ghost use Rattle.script_lines.specs.declared.fault.Kind.TheVariants.{Number};
 
 use crate::fault::{Kind, LineError};
 use gpu_cmd::{Name, Priority};
-use script_words::{Values, Words, decimal_u32, decimal_u64, first_decimal, has_word, hex_u32};
+use script_words::{Values, Words, decimal_u32, decimal_u64, first_decimal, has_word};
 
 fn priority_of(word: &[u8]) -> Option<Priority>
     ensures { result ≡ priority_of word.now }
@@ -143,13 +143,6 @@ fn count_values(values: Values<'_>) -> Option<usize>
         count += 1;
     }
     Some(count)
-}
-
-/// The value that a word says.
-pub fn value_of(word: &[u8]) -> u32
-    ensures { result ≡ value_of word.now }
-{
-    hex_u32(word).unwrap_or(0)
 }
 
 /// What a put line says: a place, and words that are values, so many.
