@@ -84,7 +84,7 @@ impl Action {
 
 /// What one stream is called, has and does.
 ///
-/// The areas take some 400 bytes, so they lie apart: a plan is moved often while its script is read.
+/// The areas take some 400 bytes, so they lie apart: a plan is moved with its draft at each line that declares.
 #[derive(Debug, Drop)]
 pub struct Plan {
     pub(crate) name: Name,
