@@ -11,6 +11,7 @@ use Rattle.gpu_plan.specs.Plans.{PlansData, PlanData, plan_of}
 use Rattle.gpu_plan.specs.Values.{value_at}
 use Rattle.gpu_plan.specs.Passes.{flushes}
 use Rattle.gpu_plan.specs.Places.{flush_places}
+pub use Rattle.stream_state.specs.Steps.{either}
 use Rattle.sync_core.specs.Standing.{is_open, first_order}
 use Rattle.sync_core.specs.Pending.{is_blocked}
 use Rattle.gpu_journal.specs.declared.event.Event.{Event}
@@ -21,11 +22,6 @@ use Rattle.gpu_journal.specs.Waits.{standing_of, left_of, front, drawn, pending_
 use Rattle.gpu_journal.specs.Facts.{facts_at, verdict_at, reach}
 
 -- ---- choices among streams
-
--- the first that there is
-abbrev pub either : {A : Type 0} → Option A → Option A → Option A
-either (Some x) other = Some x
-either None other = other
 
 -- the stream, where it passes a test
 abbrev pub when : Bool → ℕ → Option ℕ
