@@ -1,8 +1,7 @@
 -- What is fetched of a command, at each point where the fetching stops.
-use Rattle.std.proofs.Common.{◌≡◌, ℕ, zero, suc, ◌+◌, ◌-◌, ◌<◌, ◌≤◌, true, false, Result, Ok, Err, inr, List, [], ◌∷◌, ◌++◌, length, drop, map, refl, sym, ap, ◌∙◌, subst, arith, append_assoc, IsOkAnd}
-use Rattle.std.specs.Prelude.{◌==◌, slice_index, slice_range}
+use Rattle.std.proofs.Common.{◌≡◌, ℕ, zero, suc, ◌+◌, ◌-◌, ◌<◌, ◌≤◌, Result, Ok, Err, inr, List, [], ◌∷◌, ◌++◌, length, drop, map, refl, sym, ap, ◌∙◌, subst, arith, append_assoc, IsOkAnd}
+use Rattle.std.specs.Prelude.{slice_index, slice_range}
 use Rattle.std.specs.List.{range_with_len}
-use Rattle.std.proofs.lemmas.Bool.Decides.{nat_tests}
 use Rattle.std.proofs.lemmas.List.{map-append, length-drop, take_all}
 use Rattle.gpu_cmd.specs.declared.error.CmdError.{CmdError}
 use Rattle.gpu_cmd.specs.declared.error.CmdError.TheVariants.{OutOfBounds}
@@ -11,34 +10,12 @@ use Rattle.gpu_cmd.specs.declared.shape.Shape.{Shape}
 use Rattle.gpu_cmd.specs.declared.decoded.Decoded.{Decoded}
 use Rattle.gpu_cmd.specs.Checks.{headed, decoded}
 use Rattle.gpu_cmd.specs.Copied.{fetched_places, places_decoded, ring_places, value_in, words_at, places_listed, IsCopy}
-use Rattle.gpu_cmd.proofs.Copies.{put_out_of_range, header_refused, entries_refused, command_copied, header_goes_on, places_at}
+use Rattle.gpu_cmd.proofs.Copies.{put_out_of_range, header_refused, entries_refused, command_copied, header_goes_on, same_place, values_at, places_at}
 use Rattle.gpu_fetch.specs.Side.{SideData, MayFetch, with_words, Fetches}
 use Rattle.gpu_fetch.specs.Fetched.{added, FetchesSome, FetchesRow, FetchesRowInPart, FetchesRows}
 use Rattle.gpu_fetch.proofs.Fetching.{fetches_one, fetches_then, row_behind}
 
 -- ---- words at places in a row
-
-first_value : (place value : ℕ) (words : List (ℕ × ℕ)) → value_in ((place, value) ∷ words) place ≡ value
-first_value place value words = let e : (place == place) ≡ true = grind (arith, nat_tests) in rw e refl
-
-later_value : (place value p : ℕ) (words : List (ℕ × ℕ)) → place < p → value_in ((place, value) ∷ words) p ≡ value_in words p
-later_value place value p words h = let e : (place == p) ≡ false = grind (arith, nat_tests) in rw e refl
-
-later_values : (place value p n : ℕ) (words : List (ℕ × ℕ)) → place < p → map (value_in ((place, value) ∷ words)) (range_with_len p n) ≡ map (value_in words) (range_with_len p n)
-later_values place value p zero words h = refl
-later_values place value p (suc n) words h =
-    let first = later_value place value p words h in
-    let rest = later_values place value (p + 1) n words (omega arith) in
-    cc
-
--- the values of the places of a row that begins a list
-row_values : (place : ℕ) (values : List ℕ) (more : List (ℕ × ℕ)) → map (value_in (words_at place values ++ more)) (range_with_len place (length values)) ≡ values
-row_values place [] more = refl
-row_values place (value ∷ values) more =
-    let first = first_value place value (words_at (place + 1) values ++ more) in
-    let skip = later_values place value (place + 1) (length values) (words_at (place + 1) values ++ more) (omega arith) in
-    let rest = row_values (place + 1) values more in
-    cc
 
 -- the values of a row
 pub values_listed : (place : ℕ) (values : List ℕ) → map (λ word. word.1) (words_at place values) ≡ values
@@ -67,7 +44,7 @@ pub some_ring : (s t : SideData) (facts : StreamFacts) (shape : Shape) (entry : 
 unfolding fetched_places
 some_ring s t facts shape entry values put head few fetches =
     let words : List (ℕ × ℕ) = words_at facts.get (entry ∷ values) in
-    let first : value_in words facts.get ≡ entry = first_value facts.get entry (words_at (facts.get + 1) values) in
+    let first : value_in words facts.get ≡ entry = same_place facts.get entry (words_at (facts.get + 1) values) in
     let seen : List ℕ = map (value_in words) (ring_places facts shape) in
     let read = header_goes_on words facts shape seen (decoded seen facts) put (ap (λ e. headed e facts) first ∙ head) refl refl in
     let behind : List ℕ = range_with_len (facts.get + length (entry ∷ values)) (shape.ring_words - length (entry ∷ values)) in
@@ -85,8 +62,8 @@ some_transfer s t facts shape entry values found more put head all decoding few 
     let ring : List (ℕ × ℕ) = words_at facts.get (entry ∷ values) in
     let transfer : List (ℕ × ℕ) = words_at found.from more in
     let words : List (ℕ × ℕ) = ring ++ transfer in
-    let first : value_in words facts.get ≡ entry = first_value facts.get entry (words_at (facts.get + 1) values ++ transfer) in
-    let seen : map (value_in words) (ring_places facts shape) ≡ entry ∷ values = ap (λ n. map (value_in words) (range_with_len facts.get n)) (sym all) ∙ row_values facts.get (entry ∷ values) transfer in
+    let first : value_in words facts.get ≡ entry = same_place facts.get entry (words_at (facts.get + 1) values ++ transfer) in
+    let seen : map (value_in words) (ring_places facts shape) ≡ entry ∷ values = ap (λ n. map (value_in words) (range_with_len facts.get n)) (sym all) ∙ values_at facts.get (entry ∷ values) transfer in
     let read = header_goes_on words facts shape (entry ∷ values) (Ok found) put (ap (λ e. headed e facts) first ∙ head) seen decoding in
     let behind : List ℕ = range_with_len (found.from + length more) (found.count - length more) in
     let front : ring_places facts shape ≡ places_listed ring = ap (range_with_len facts.get) (sym all) ∙ sym (places_at facts.get (entry ∷ values)) in
@@ -160,7 +137,7 @@ ring_refused s t facts entry shape list entries error ring are put head decoding
 pub rows_ring : (s t u : SideData) (facts : StreamFacts) (entry : ℕ) (shape : Shape) (list : List (ℕ × ℕ)) → RingFetched s t facts entry shape list → u ≡ t → headed entry facts ≡ Ok shape → FetchesRows s u facts
 rows_ring s t u facts entry shape list ring same head =
     let words : List (ℕ × ℕ) = words_at facts.get (entry ∷ ring.values) in
-    let first : value_in words facts.get ≡ entry = first_value facts.get entry (words_at (facts.get + 1) ring.values) in
+    let first : value_in words facts.get ≡ entry = same_place facts.get entry (words_at (facts.get + 1) ring.values) in
     let places : places_listed words ≡ ring_places facts shape = places_at facts.get (entry ∷ ring.values) ∙ ap (range_with_len facts.get) ring.all in
     record {
       words = words;
