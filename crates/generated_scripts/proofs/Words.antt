@@ -2,7 +2,7 @@
 use Rattle.std.proofs.Common.{◌≡◌, ℕ, ◌<◌, Bool, true, false, cond, not, ◌&&◌, List, [], ◌∷◌, ◌++◌, length, filter, refl, ap, ◌∙◌, arith, append-nil, append_assoc}
 use Rattle.std.specs.Prelude.{codes}
 use Rattle.std.specs.List.{All, AllByRecursion, list_all, flat_map, slice_split}
-use Rattle.std.proofs.lemmas.Bool.{and_parts, and_from}
+use Rattle.std.proofs.lemmas.Bool.{and_parts, and_from, not-true}
 use Rattle.std.proofs.lemmas.List.Folds.{list_all-append}
 use Rattle.std.proofs.lemmas.List.Elements.{All-from_recursion}
 use Rattle.std.proofs.lemmas.List.Splits.{slice_split_at, slice_split_none, length-slice_split}
@@ -24,15 +24,11 @@ spaced word = codes " " ++ word
 abbrev pub line_text : List ℕ → List (List ℕ) → List ℕ
 line_text word words = word ++ flat_map spaced words
 
-opposite : (b : Bool) → not b ≡ true → b ≡ false
-opposite true e = absurd cc
-opposite false e = refl
-
 no_blank : (bytes : List ℕ) → list_all is_plain bytes ≡ true → AllByRecursion (λ byte. is_blank byte ≡ false) bytes
 no_blank [] e = tt
 no_blank (byte ∷ bytes) e =
     let both = and_parts (is_plain byte) (list_all is_plain bytes) e in
-    (opposite (is_blank byte) (and_parts (not (is_blank byte)) (not (ends_line byte)) both.0).0, no_blank bytes both.1)
+    (not-true (is_blank byte) (and_parts (not (is_blank byte)) (not (ends_line byte)) both.0).0, no_blank bytes both.1)
 
 -- ---- words
 
@@ -79,7 +75,7 @@ words_stay (word ∷ words) e =
 
 no_end : (bytes : List ℕ) → list_all stays bytes ≡ true → AllByRecursion (λ byte. ends_line byte ≡ false) bytes
 no_end [] e = tt
-no_end (byte ∷ bytes) e = let both = and_parts (stays byte) (list_all stays bytes) e in (opposite (ends_line byte) both.0, no_end bytes both.1)
+no_end (byte ∷ bytes) e = let both = and_parts (stays byte) (list_all stays bytes) e in (not-true (ends_line byte) both.0, no_end bytes both.1)
 
 line_stays : (word : List ℕ) (words : List (List ℕ)) → list_all is_word (word ∷ words) ≡ true → list_all stays (line_text word words) ≡ true
 line_stays word words e =
