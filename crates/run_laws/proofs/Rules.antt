@@ -1,5 +1,5 @@
 -- What a run knows of its stream makes each of its events legal.
-use Rattle.std.proofs.Common.{◌≡◌, ◌≢◌, ℕ, ◌≤◌, Bool, false, Option, Some, None, Result, Ok, Err, List, [], refl, IsOk, IsSome}
+use Rattle.std.proofs.Common.{◌≡◌, ◌≢◌, ℕ, ◌≤◌, Bool, false, Result, Ok, Err, List, [], refl, IsOk, IsSome}
 use Rattle.std.specs.List.{All}
 use Rattle.gpu_cmd.specs.declared.command.Command.{Command}
 use Rattle.gpu_cmd.specs.declared.error.CmdError.{CmdError}
@@ -14,17 +14,14 @@ use Rattle.gpu_journal.specs.Facts.{flush_of, facts_at, verdict_at, reach}
 use Rattle.gpu_journal.specs.Legal.{MayHaveBeenPut, Obeys, IsLegal}
 use Rattle.gpu_journal.specs.Serial.{judged_event}
 use Rattle.serial_laws.specs.Scripts.{AreLawfulPlans}
+use Rattle.serial_laws.proofs.Fitting as fitting
 use Rattle.serial_laws.proofs.Obeying.{CanRun, words_obey}
 use Rattle.serial_laws.proofs.Further.{flush_reached}
 use Rattle.run_laws.specs.Going.{MayGoOn}
 
-some_is : (o : Option ℕ) (n : ℕ) → o ≡ Some n → IsSome o
-some_is None n e = absurd (cc)
-some_is (Some m) n e = refl
-
 -- the first number of an open stream whose run may go on
 pub first_some : (p : PlansData) (h : List Event) (s n : ℕ) (paused : Bool) → IsOpen p h s → MayGoOn p h s n paused → IsSome (first_order (left_of p h s))
-first_some p h s n paused open' may = some_is (first_order (left_of p h s)) n (may.first open'.stays)
+first_some p h s n paused open' may = fitting.first_some (first_order (left_of p h s)) n (may.first open'.stays)
 
 -- an open stream whose run may go on can run
 pub goes_on_runs : (p : PlansData) (h : List Event) (s n : ℕ) → IsOpen p h s → MayGoOn p h s n false → CanRun p h s

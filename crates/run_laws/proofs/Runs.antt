@@ -19,23 +19,15 @@ use Rattle.gpu_journal.specs.World.{world, asked_by}
 use Rattle.gpu_journal.specs.Waits.{deed_asked, sync_of, standing_of, left_of, drawn, pending_in, IsOpen}
 use Rattle.gpu_journal.specs.Serial.{is_runnable}
 use Rattle.gpu_journal.proofs.Worlds.{sync_then}
-use Rattle.serial_laws.proofs.Others.{self, moved_by, standing_own}
+use Rattle.serial_laws.proofs.Others.{self, standing_own}
+use Rattle.serial_laws.proofs.Spent.{asked_open}
 use Rattle.run_laws.specs.Going.{MayGoOn, keeps}
 use Rattle.run_laws.proofs.Pending.{blocked_is}
 use Rattle.run_laws.proofs.Going.{step_goes_on}
 
 -- a step neither loses nor closes its stream
 pub step_open : (p : PlansData) (h : List Event) (s : ℕ) (words : List (ℕ × ℕ)) → is_open (standing_of p (Step s words ∷ h) s) ≡ is_open (standing_of p h s)
-step_open p h s words = ap is_open (standing_own p (Step s words) h) ∙ by (asked_by p s words (world p h))
-  where
-    by : (effect : Effect) → is_open (moved_by (deed_asked p effect) (drawn p h + 1) (standing_of p h s)) ≡ is_open (standing_of p h s)
-    by Nothing = refl
-    by (Token token) = refl
-    by (Pixels op) = refl
-    by (Results write) = refl
-    by (Release r) = refl
-    by (Wait t r) = refl
-    by (WaitName name r) = refl
+step_open p h s words = ap is_open (standing_own p (Step s words) h) ∙ asked_open p (asked_by p s words (world p h)) (drawn p h + 1) (standing_of p h s)
 
 -- a wait is among those that it is placed among
 placed_there : (w : waits.Wait) (ws : List waits.Wait) (t m : ℕ) → (eqb w.stream t && eqb w.order m) ≡ true → has_wait_of t m (placed w ws) ≡ true
