@@ -34,6 +34,7 @@ use Rattle.gpu_journal.specs.Serial.{is_close}
 use Rattle.gpu_journal.proofs.Telling.{error_of, error_back}
 use Rattle.gpu_journal.proofs.Worlds.{known_of_left}
 use Rattle.serial_laws.specs.Scripts.{AreLawfulPlans}
+use Rattle.serial_laws.proofs.Fitting.{first_some}
 use Rattle.serial_laws.proofs.Obeying.{close_of}
 use Rattle.serial_laws.proofs.Further.{flush_reached}
 use Rattle.journal_verify.specs.declared.outcome.Outcome.{Outcome}
@@ -227,10 +228,6 @@ lost_judged p h s error words (Refused other) found = by (eqb (code_of other) (c
             absurd (cc)
 
 -- ---- finishes
-
-first_some : (o : Option ℕ) (n : ℕ) → o ≡ Some n → IsSome o
-first_some None n e = absurd (cc)
-first_some (Some m) n e = refl
 
 finish_judged : (p : PlansData) (h : List Event) (j : JudgeData) (s n : ℕ) → AreLawfulPlans p → IsLegal p h → Follows p h j → IsJudged p h (Finish s n) (finish_fault p j s n)
 finish_judged p h j s n lawful legal f = by (is_number (first_order (core.left_of j.core s)) n) (core.blocked j.core s) (eqb (kept_facts p j s).get (kept_facts p j s).put) refl refl refl

@@ -4,6 +4,7 @@ use Rattle.std.specs.List.{range_with_len}
 use Rattle.std.proofs.lemmas.Bool.{ltb-true, ltb-false, and_parts}
 use Rattle.std.proofs.lemmas.Bool.Decides.{nat_tests}
 use Rattle.std.proofs.lemmas.List.{take-append-drop, length-map, length-take, nil_from_length, take_at, drop_at}
+use Rattle.std.proofs.lemmas.List.FromFn.{length-range_with_len}
 use Rattle.gpu_cmd.specs.declared.command.Command.{Command}
 use Rattle.gpu_cmd.specs.declared.error.CmdError.{CmdError}
 use Rattle.gpu_cmd.specs.declared.error.CmdError.TheVariants.{OutOfBounds}
@@ -51,10 +52,6 @@ places_row from (suc n) (word ∷ words) e =
 length-places : (words : List (ℕ × ℕ)) → length (places_listed words) ≡ length words
 length-places words = length-map words (λ word. word.0)
 
-length-row : (from n : ℕ) → length (range_with_len from n) ≡ n
-length-row from zero = refl
-length-row from (suc n) = ap suc (length-row (from + 1) n)
-
 places_both : (n : ℕ) (words : List (ℕ × ℕ)) → places_listed words ≡ places_listed (take n words) ++ places_listed (drop n words)
 places_both zero words = refl
 places_both (suc n) [] = refl
@@ -63,12 +60,12 @@ places_both (suc n) (word ∷ words) = ap (λ (places : List ℕ). word.0 ∷ pl
 -- where the places begin with a row, so do the words
 row_of_places : (from n : ℕ) (words : List (ℕ × ℕ)) (more : List ℕ) → places_listed words ≡ range_with_len from n ++ more → (n ≤ length words) × (is_row from (take n words) ≡ true) × (places_listed (drop n words) ≡ more)
 row_of_places from n words more e =
-    let count : length words ≡ n + length more = sym (length-places words) ∙ ap length e ∙ length-append (range_with_len from n) more ∙ ap (λ m. m + length more) (length-row from n) in
+    let count : length words ≡ n + length more = sym (length-places words) ∙ ap length e ∙ length-append (range_with_len from n) more ∙ ap (λ m. m + length more) (length-range_with_len from n) in
     let enough : n ≤ length words = omega arith in
     let front : length (places_listed (take n words)) ≡ n = length-places (take n words) ∙ omega (arith, length-take n words) in
     let both = sym (places_both n words) ∙ e in
-    let first : places_listed (take n words) ≡ range_with_len from n = sym (take_at (places_listed (take n words)) (places_listed (drop n words)) n front) ∙ ap (take n) both ∙ take_at (range_with_len from n) more n (length-row from n) in
-    let rest : places_listed (drop n words) ≡ more = sym (drop_at (places_listed (take n words)) (places_listed (drop n words)) n front) ∙ ap (drop n) both ∙ drop_at (range_with_len from n) more n (length-row from n) in
+    let first : places_listed (take n words) ≡ range_with_len from n = sym (take_at (places_listed (take n words)) (places_listed (drop n words)) n front) ∙ ap (take n) both ∙ take_at (range_with_len from n) more n (length-range_with_len from n) in
+    let rest : places_listed (drop n words) ≡ more = sym (drop_at (places_listed (take n words)) (places_listed (drop n words)) n front) ∙ ap (drop n) both ∙ drop_at (range_with_len from n) more n (length-range_with_len from n) in
     (enough, (places_row from n (take n words) first).0, rest)
 
 -- the values of the row

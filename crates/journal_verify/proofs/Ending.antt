@@ -3,7 +3,7 @@ use Rattle.std.proofs.Common.{◌≡◌, ℕ, zero, suc, Bool, true, false, not,
 use Rattle.std.specs.Prelude.{◌||◌, slice_get}
 use Rattle.std.specs.Option.{option_map_or}
 use Rattle.std.specs.List.{All}
-use Rattle.std.proofs.lemmas.Bool.{and_parts, and_from}
+use Rattle.std.proofs.lemmas.Bool.{and_parts, and_from, not-true}
 use Rattle.std.proofs.lemmas.Bool.Decides.{nat_tests}
 use Rattle.std.proofs.lemmas.List.{length-replicate}
 use Rattle.std.proofs.lemmas.List.Elements.{All-replicate}
@@ -68,10 +68,6 @@ first_counted p j drawn first = record {
 
 -- ---- a complete history
 
-closed_not : (b : Bool) → not b ≡ true → b ≡ false
-closed_not true e = absurd (cc)
-closed_not false e = refl
-
 done_parts : (p : PlansData) (h : List Event) (j : JudgeData) (s : ℕ) (w : WatchData) → Follows p h j → watch_of j s ≡ Some w → is_done (plan_of p s) w ≡ true → IsDone p h s
 done_parts p h j s w f at e =
     let both = and_parts (eqb w.ordered (length w.flushes) && eqb w.finished (length w.flushes)) (not (is_closed (plan_of p s).actions)) e in
@@ -80,7 +76,7 @@ done_parts p h j s w f at e =
     let ordered : w.ordered ≡ length w.flushes = let t = counts.0 in grind (arith, nat_tests) in
     let finished : w.finished ≡ length w.flushes = let t = counts.1 in grind (arith, nat_tests) in
     record {
-      stays_open = closed_not (is_closed (plan_of p s).actions) both.1;
+      stays_open = not-true (is_closed (plan_of p s).actions) both.1;
       ordered = sym (told p h j s w f at).ordered ∙ ordered ∙ all;
       finished = sym (told p h j s w f at).finished ∙ finished ∙ all;
     }

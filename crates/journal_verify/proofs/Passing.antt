@@ -1,5 +1,6 @@
 -- What follows from what is looked at of an event.
 use Rattle.std.proofs.Common.{◌≡◌, ◌≢◌, ℕ, ◌<◌, Bool, true, false, not, eqb, Option, Some, None, Result, Ok, Err, List, [], ◌∷◌, length, refl, sym, ap, subst, ◌∙◌, arith}
+use Rattle.std.proofs.lemmas.Bool.{not-true}
 use Rattle.std.specs.Prelude.{is_some}
 use Rattle.std.specs.Option.{option_map_or}
 use Rattle.std.proofs.lemmas.Bool.Decides.{nat_tests}
@@ -40,10 +41,6 @@ pub number_left : (xs : List Number) (n : ℕ) → is_number (first_order xs) n 
 number_left [] n e = absurd (cc)
 number_left (x ∷ xs) n e = omega arith
 
-not_true : (b : Bool) → not b ≡ true → b ≡ false
-not_true true e = absurd (cc)
-not_true false e = refl
-
 -- ---- orders, losses for want of memory, and closes
 
 pub watch_there : (test : WatchData → Bool) (o : Option WatchData) → option_map_or test o false ≡ true → (w : WatchData) × (o ≡ Some w) × (test w ≡ true)
@@ -65,7 +62,7 @@ pub finish_front : (p : PlansData) (j : JudgeData) (s n : ℕ) → finish_fault 
 finish_front p j s n e =
     let one = fault_none (is_number (first_order (left_of j.core s)) n) 4 _ e in
     let two = fault_none (not (blocked j.core s)) 5 _ one.1 in
-    (number_left (left_of j.core s) n one.0, not_true (blocked j.core s) two.0)
+    (number_left (left_of j.core s) n one.0, not-true (blocked j.core s) two.0)
 
 -- ---- words that are fetched
 
