@@ -1,6 +1,6 @@
 -- No event follows exactly where a history is complete, and an unfinished history can go on.
 use Rattle.std.proofs.Common.{◌≡◌, ℕ, zero, suc, ◌≤◌, ◌<◌, inl, inr, Bool, true, false, not, ◌&&◌, ◌||◌, nat_le, cond, Option, Some, None, List, [], ◌∷◌, length, take, refl, sym, ap, subst, ◌∙◌, arith, IsSome}
-use Rattle.std.proofs.lemmas.Bool.Decides.{nat_tests}
+use Rattle.std.proofs.lemmas.Bool.{or_left, le-leb, le-ltb, not-false}
 use Rattle.std.specs.Prelude.{nat_lt, slice_get, is_some, option_map}
 use Rattle.std.specs.List.{list_all, list_any}
 use Rattle.gpu_plan.specs.declared.plan.Action.{Action}
@@ -21,7 +21,7 @@ use Rattle.gpu_journal.specs.Serial.{either, first, is_runnable, begins_round, c
 use Rattle.gpu_journal.proofs.Worlds.{known_of_left}
 use Rattle.serial_laws.specs.Going.{IsIdle, CanGoOn}
 use Rattle.serial_laws.specs.Laws.{EndsWhereComplete, UnfinishedGoesOn}
-use Rattle.serial_laws.proofs.First.{first_none, first_passes, first_fails, best_fails, and_true}
+use Rattle.serial_laws.proofs.First.{first_none, first_passes, first_fails, best_fails, and_true, and_made}
 use Rattle.serial_laws.proofs.Flushes.{flushes_all, flushes_end, flush_there, place_below, within}
 use Rattle.serial_laws.proofs.Fitting.{fits, open_of_left}
 use Rattle.serial_laws.proofs.Counts.{count_begun}
@@ -33,13 +33,6 @@ pub clash : (b : Bool) → b ≡ true → b ≡ false → ⊥
 clash b x y = cc
 
 -- ---- a client that is stopped by no await and by no Close has done all its actions
-
-or_left : (a b : Bool) → a ≡ true → (a || b) ≡ true
-or_left true b e = refl
-or_left false b e = absurd (cc)
-
-le_test : (a b : ℕ) → a ≤ b → nat_le a b ≡ true
-le_test a b h = grind (arith, nat_tests)
 
 pub bound_end : (xs : List Action) (f : ℕ) (tokens : List ℕ) → flushes (take (bound xs f tokens) xs) ≤ f → is_close (slice_get xs (bound xs f tokens)) ≡ false → bound xs f tokens ≡ length xs
 bound_end xs f tokens few open' = by (slice_get xs (bound xs f tokens)) refl
@@ -53,8 +46,8 @@ bound_end xs f tokens few open' = by (slice_get xs (bound xs f tokens)) refl
     at : (a : Action) → slice_get xs (bound xs f tokens) ≡ Some a → ⊥
     at (actions.Put place value) e = let s = stops (Some (actions.Put place value)) e in cc
     at (actions.Flush put fences) e = let s = stops (Some (actions.Flush put fences)) e in cc
-    at actions.Finish e = let s = stops (Some actions.Finish) e in clash (nat_le before f) (le_test before f few) s
-    at (actions.Token token) e = let s = stops (Some (actions.Token token)) e in clash (nat_le before f || list_any (nat_le token) tokens) (or_left (nat_le before f) (list_any (nat_le token) tokens) (le_test before f few)) s
+    at actions.Finish e = let s = stops (Some actions.Finish) e in clash (nat_le before f) (le-leb before f few) s
+    at (actions.Token token) e = let s = stops (Some (actions.Token token)) e in clash (nat_le before f || list_any (nat_le token) tokens) (or_left (nat_le before f) (list_any (nat_le token) tokens) (le-leb before f few)) s
     at actions.Close e = let c : is_close (slice_get xs (bound xs f tokens)) ≡ true = ap is_close e in clash (is_close (slice_get xs (bound xs f tokens))) c open'
 
     past : (ys : List Action) (k : ℕ) → slice_get ys k ≡ None → length ys ≤ k
@@ -69,7 +62,7 @@ bound_end xs f tokens few open' = by (slice_get xs (bound xs f tokens)) refl
 -- a Close is among the actions where one of them is a Close
 all_stay : (xs : List Action) → ((k : ℕ) → is_close (slice_get xs k) ≡ false) → list_all stays_open xs ≡ true
 all_stay [] f = refl
-all_stay (x ∷ xs) f = both (stays_open x) (list_all stays_open xs) (stays x (f 0)) (all_stay xs (λ k. f (suc k)))
+all_stay (x ∷ xs) f = and_made (stays_open x) (list_all stays_open xs) (stays x (f 0)) (all_stay xs (λ k. f (suc k)))
   where
     stays : (a : Action) → is_close (Some a) ≡ false → stays_open a ≡ true
     stays (actions.Put place value) e = refl
@@ -77,10 +70,6 @@ all_stay (x ∷ xs) f = both (stays_open x) (list_all stays_open xs) (stays x (f
     stays actions.Finish e = refl
     stays (actions.Token token) e = refl
     stays actions.Close e = absurd (cc)
-
-    both : (a b : Bool) → a ≡ true → b ≡ true → (a && b) ≡ true
-    both true b x y = y
-    both false b x y = absurd (cc)
 
 none_closes : (xs : List Action) (k : ℕ) → list_all stays_open xs ≡ true → is_close (slice_get xs k) ≡ false
 none_closes [] k e = refl
@@ -198,24 +187,17 @@ complete_ended p h legal done = follows_none p h (first_none (has_flush p h) (le
     shut true b f = f refl
     shut false b f = refl
 
-    not_less : (a b : ℕ) → b ≤ a → nat_lt a b ≡ false
-    not_less a b e = grind (arith, nat_tests)
-
-    not_back : (b : Bool) → not b ≡ false → b ≡ true
-    not_back true e = refl
-    not_back false e = absurd (cc)
-
     no_flush : (t : ℕ) → 0 < t → t ≤ length p.plans → has_flush p h t ≡ false
     no_flush t a b = shut (stays p h t) (nat_lt (known p h t).ordered (flushes (take (count p h t) (plan_of p t).actions))) (λ o.
         let d = done t record { known = (a, b); stays = o } in
         let all = flushes_all (plan_of p t).actions (count p h t) in
         let e = d.ordered in
-        not_less (known p h t).ordered (flushes (take (count p h t) (plan_of p t).actions)) (omega (arith, all, e)))
+        le-ltb (known p h t).ordered (flushes (take (count p h t) (plan_of p t).actions)) (omega (arith, all, e)))
 
     no_close : (t : ℕ) → 0 < t → t ≤ length p.plans → is_at_close p h t ≡ false
     no_close t a b = shut (stays p h t) (is_close (slice_get (plan_of p t).actions (count p h t))) (λ o.
         let d = done t record { known = (a, b); stays = o } in
-        none_closes (plan_of p t).actions (count p h t) (not_back (list_all stays_open (plan_of p t).actions) d.stays_open))
+        none_closes (plan_of p t).actions (count p h t) (not-false (list_all stays_open (plan_of p t).actions) d.stays_open))
 
     none_runner : (o : Option ℕ) → runner p h ≡ o → runner p h ≡ None
     none_runner None e = e

@@ -1,6 +1,7 @@
 -- What a legal history says of each stream: which of its flushes are ordered, which are finished, and where those stand
 -- that are ordered and not finished.
 use Rattle.std.proofs.Common.{◌≡◌, ℕ, suc, ◌+◌, ◌≤◌, ◌<◌, eqb, Bool, true, false, cond, Option, Some, None, List, [], ◌∷◌, ◌++◌, length, drop, refl, sym, ap, subst, ◌∙◌, arith, IsSome, length-append}
+use Rattle.std.proofs.lemmas.Bool.{true_from_ne_false}
 use Rattle.std.proofs.lemmas.Bool.Decides.{nat_tests}
 use Rattle.std.proofs.lemmas.List.Elements.{All-head, All-tail}
 use Rattle.std.specs.Prelude.{slice_get, max, not, ◌&&◌}
@@ -106,13 +107,9 @@ fits_known actions place k l x o d f = record {
   placed = subst (λ n. ArePlaced place (flush_places actions) n x.left) (sym d) f.placed;
 }
 
-open_or_not : (b : Bool) → (b ≡ false → ⊥) → b ≡ true
-open_or_not true f = refl
-open_or_not false f = absurd (f refl)
-
 -- a stream with an unprocessed number is open
 pub open_of_left : (actions : List Action) (place : ℕ → ℕ) (k : Known) (x : Standing) → Fits actions place k x → IsSome (first_order x.left) → (is_open x ≡ true) × (0 < length x.left)
-open_of_left actions place k x f some = (open_or_not (is_open x) (λ q. let none = f.gone_left q in empty x.left none some), some_length x.left some)
+open_of_left actions place k x f some = (true_from_ne_false (is_open x) (λ q. let none = f.gone_left q in empty x.left none some), some_length x.left some)
   where
     empty : (xs : List Number) → xs ≡ [] → IsSome (first_order xs) → ⊥
     empty [] e h = cc

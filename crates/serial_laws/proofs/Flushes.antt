@@ -7,6 +7,7 @@ use Rattle.gpu_plan.specs.declared.plan.Action.TheVariants.{Put, Flush, Finish, 
 use Rattle.gpu_plan.specs.Passes.{flush_count, flushes}
 use Rattle.gpu_plan.specs.Plans.{is_flush, stays_open}
 use Rattle.gpu_plan.specs.Places.{flush_places_from, flush_places}
+use Rattle.stream_state.proofs.Finding.{second_of}
 
 pub flushes_all : (xs : List Action) (k : ℕ) → flushes (take k xs) ≤ flushes xs
 flushes_all [] zero = omega arith
@@ -103,10 +104,6 @@ each_stays (x ∷ xs) zero (suc n) a h e all = let is : x ≡ a = cc in ap stays
     first_of true b h = refl
     first_of false b h = absurd (cc)
 each_stays (x ∷ xs) (suc k) (suc n) a h e all = each_stays xs k n a (omega arith) e (second_of (stays_open x) (list_all stays_open (take n xs)) all)
-  where
-    second_of : (a b : Bool) → IsTrue (a && b) → IsTrue b
-    second_of true b h = h
-    second_of false b h = absurd (cc)
 
 pub within : (xs : List Action) (k : ℕ) (a : Action) → slice_get xs k ≡ Some a → k < length xs
 within [] k a e = absurd (cc)

@@ -1,6 +1,6 @@
 -- The events of the rule for one thread are legal.
 use Rattle.std.proofs.Common.{◌+◌, ◌≡◌, ◌≢◌, ℕ, ◌≤◌, ◌<◌, eqb, Bool, true, false, not, ◌&&◌, cond, Option, Some, None, Result, Ok, Err, List, [], ◌∷◌, length, take, refl, sym, ap, subst, ◌∙◌, arith, IsOk, IsSome}
-use Rattle.std.proofs.lemmas.Bool.Decides.{nat_tests}
+use Rattle.std.proofs.lemmas.Bool.{eqb-true, eqb-false}
 use Rattle.std.proofs.lemmas.List.Elements.{All-map}
 use Rattle.std.specs.Prelude.{nat_lt, slice_get, unwrap_or, is_some}
 use Rattle.std.specs.List.{All}
@@ -237,28 +237,22 @@ obeys_judged : (p : PlansData) (h : List Event) (s k : ℕ) → CanRun p h s →
 obeys_judged p h s k can since until differ answer e =
     words_obey p h s (words_after p h s k) can (omega (arith, since, until)) differ (memory_copied (value_at (plan_of p s).actions k) (facts_at p h s)).places (words_put p h s k since until) answer e
 
-same_of : (a b : ℕ) → eqb a b ≡ true → a ≡ b
-same_of a b e = grind (arith, nat_tests)
-
-differ_of : (a b : ℕ) → eqb a b ≡ false → a ≢ b
-differ_of a b e q = let t : eqb a b ≡ true = grind (arith, nat_tests) in absurd (cc)
-
 obeys_run : (p : PlansData) (h : List Event) (s : ℕ) → IsLegal p h → IsPlayed p h → CanRun p h s → Obeys p h (run_event p h s)
 obeys_run p h s legal played can =
     let below = flush_below p h s legal played can in
     let most = count_reach p h s in
-    run_is p h s (Obeys p h) (λ e. obeys_finish p h s can (omega (arith, below, most)) (same_of (facts_at p h s).get (facts_at p h s).put e))
-    (λ e answer q. obeys_judged p h s (count p h s) can (omega (arith, below)) most (differ_of (facts_at p h s).get (facts_at p h s).put e) answer q)
+    run_is p h s (Obeys p h) (λ e. obeys_finish p h s can (omega (arith, below, most)) (eqb-true (facts_at p h s).get (facts_at p h s).put e))
+    (λ e answer q. obeys_judged p h s (count p h s) can (omega (arith, below)) most (eqb-false (facts_at p h s).get (facts_at p h s).put e) answer q)
 
 -- a stream that can run, and whose client can have come to its flush, has a legal event
 pub runs_on : (p : PlansData) (h : List Event) (s : ℕ) → CanRun p h s → flush_of p h s ≤ reach p h s → (e : Event) × Obeys p h e
 runs_on p h s can reached = by (eqb (facts_at p h s).get (facts_at p h s).put) refl
   where
     by : (b : Bool) → eqb (facts_at p h s).get (facts_at p h s).put ≡ b → (e : Event) × Obeys p h e
-    by true e = (Finish s (front p h s), obeys_finish p h s can reached (same_of (facts_at p h s).get (facts_at p h s).put e))
+    by true e = (Finish s (front p h s), obeys_finish p h s can reached (eqb-true (facts_at p h s).get (facts_at p h s).put e))
     by false e =
         let words = words_after p h s (reach p h s) in
-        (judged_event s words (verdict_at p h s words), obeys_judged p h s (reach p h s) can reached (omega arith) (differ_of (facts_at p h s).get (facts_at p h s).put e) (verdict_at p h s words) refl)
+        (judged_event s words (verdict_at p h s words), obeys_judged p h s (reach p h s) can reached (omega arith) (eqb-false (facts_at p h s).get (facts_at p h s).put e) (verdict_at p h s words) refl)
 
 obeys_kind : (p : PlansData) (h : List Event) (e : Event) → AreLawfulPlans p → IsLegal p h → IsPlayed p h → Kind p h e → Obeys p h e
 obeys_kind p h e lawful legal played (orders_it s f q) = subst (Obeys p h) (sym q) (obeys_order p h s f)
