@@ -2,7 +2,7 @@
 use Rattle.std.proofs.Common.{◌≡◌, ◌≢◌, ℕ, zero, suc, ◌+◌, ◌-◌, ◌%◌, ◌/◌, ◌<◌, ◌≤◌, Bool, true, false, not, ltb, Option, Some, None, MatchOption, Bor, List, [], ◌∷◌, ◌++◌, map, length, length-append, refl, sym, ap, subst, ◌∙◌, append_assoc, arith}
 use Rattle.std.specs.Prelude.{codes, option_map, slice_get}
 use Rattle.std.specs.List.{list_all, concat, range_with_len}
-use Rattle.std.proofs.lemmas.Bool.{and_parts, ne_eqb}
+use Rattle.std.proofs.lemmas.Bool.{and_parts, ne_eqb, not-true}
 use Rattle.std.proofs.lemmas.Bool.Decides.{nat_tests}
 use Rattle.std.proofs.lemmas.List.{append-nil}
 use Rattle.std.proofs.lemmas.List.Elements.{All-nil, All-cons, All-append}
@@ -27,11 +27,7 @@ no_feed_letters : (text : List ℕ) → list_all (λ byte. not (ends_line byte))
 no_feed_letters [] e = All-nil IsOther
 no_feed_letters (byte ∷ text) e =
     let both = and_parts (not (ends_line byte)) (list_all (λ byte. not (ends_line byte)) text) e in
-    All-cons IsOther byte text (other (ends_line byte) both.0) (no_feed_letters text both.1)
-  where
-    other : (b : Bool) → not b ≡ true → b ≡ false
-    other true e = absurd (cc)
-    other false e = refl
+    All-cons IsOther byte text (not-true (ends_line byte) both.0) (no_feed_letters text both.1)
 
 digit_other : (digit : ℕ) → ends_line (48 + digit) ≡ false
 digit_other digit = grind (arith, nat_tests)
