@@ -1,6 +1,6 @@
 -- A batch while it is committed: what its loop keeps, and what it leaves.
 use Rattle.std.proofs.Common.{◌≡◌, ◌≢◌, ℕ, zero, suc, ◌+◌, ◌-◌, ◌<◌, Bool, true, false, Option, List, [], ◌∷◌, ◌++◌, length, drop, refl, sym, ap, subst, ◌∙◌, arith, append_assoc, length-append, length-drop, option_map, ◌≤◌}
-use Rattle.std.specs.Prelude.{◌||◌, not, ◌&&◌, IfSome, IsOk, option_to_list, slice_set}
+use Rattle.std.specs.Prelude.{◌||◌, IfSome, IsOk, option_to_list, slice_set}
 use Rattle.std.specs.List.{All}
 use Rattle.std.proofs.Math.Seq.{drop-append_seam}
 use Rattle.std.proofs.lemmas.List.{append-nil, map-append}
@@ -10,7 +10,7 @@ use Rattle.gpu_store.specs.declared.op.Op.{Op}
 use Rattle.gpu_plan.specs.Plans.{PlansData}
 use Rattle.gpu_fetch.specs.Side.{SideData}
 use Rattle.gpu_fetch.specs.Fetched.{FetchedData, IsFetched}
-use Rattle.sync_core.specs.Standing.{Standing, is_open}
+use Rattle.sync_core.specs.Standing.{is_open}
 use Rattle.gpu_journal.specs.declared.event.Event.{Event}
 use Rattle.gpu_journal.specs.declared.event.Event.TheVariants.{Step}
 use Rattle.gpu_journal.specs.World.{replay}
@@ -29,6 +29,7 @@ use Rattle.gpu_house.specs.Drawing.{drawn_at, drawn_if}
 use Rattle.gpu_house.specs.Batches.{facts_after, member_words, batch_words, AreChained, AreNext, EndsExactly}
 use Rattle.gpu_house.specs.Committing.{stepped, drawn_by_steps, IsMovedOver, TellsDrawn, IsOverBy, Stage, AreDone, IsStill, HaveGone, GoneInPart, Commits, is_executed}
 use Rattle.gpu_house.proofs.Members.{member_words_more}
+use Rattle.gpu_house.proofs.Going.{not_lost, not_closed}
 use Rattle.gpu_house.proofs.Parts.{drop-drop}
 use Rattle.gpu_house.proofs.Quiet.{Passes, passes, quiet, GoOn, go_on, go_on_behind}
 use Rattle.gpu_house.proofs.Chains.{stepped_more, valid_more, keeps_more, told_more, drawn_more, facts_is, moved_one, moved_more, tells_none, tells_then}
@@ -37,22 +38,6 @@ set_twice : {X : Type 0} (xs : List X) (i : ℕ) (x y : X) → slice_set (slice_
 set_twice [] i x y = refl
 set_twice (z ∷ xs) zero x y = refl
 set_twice (z ∷ xs) (suc i) x y = ap (λ (l : List _). z ∷ l) (set_twice xs i x y)
-
--- a stream that is lost or closed is not open
-lost_shut : (x : Standing) → x.lost ≡ true → is_open x ≡ true → ⊥
-lost_shut x lost open' = by x.lost x.closed lost open'
-  where
-    by : (a b : Bool) → a ≡ true → (not a && not b) ≡ true → ⊥
-    by true b lost open' = cc
-    by false b lost open' = cc
-
-closed_shut : (x : Standing) → x.closed ≡ true → is_open x ≡ true → ⊥
-closed_shut x closed open' = by x.lost x.closed closed open'
-  where
-    by : (a b : Bool) → b ≡ true → (not a && not b) ≡ true → ⊥
-    by true b closed open' = cc
-    by false true closed open' = cc
-    by false false closed open' = cc
 
 none_more : (b : Bool) → (b || false) ≡ b
 none_more true = refl
@@ -328,8 +313,8 @@ module _ {Side Note Results Words : Type 0} (side : Side → SideData) (mark : N
             refused = steps;
             drawn = drawn ∙ append-nil now.drawn;
           }
-          by Lost is stops steps end drawn = absurd (lost_shut (standing_of p now.house.core.past now.out.run.stream) steps.is_over st.still_open)
-          by Closed is stops steps end drawn = absurd (closed_shut (standing_of p now.house.core.past now.out.run.stream) steps.is_over.1 st.still_open)
+          by Lost is stops steps end drawn = absurd (not_lost (standing_of p now.house.core.past now.out.run.stream) st.still_open steps.is_over)
+          by Closed is stops steps end drawn = absurd (not_closed (standing_of p now.house.core.past now.out.run.stream) st.still_open steps.is_over.1)
 
       pub ready : next ≢ More → is_executed next ≡ true → length (side new.out.side).fetched ≡ new.out.run.facts.fetched
       ready stops executed = by next stops executed took.steps took.end

@@ -18,15 +18,16 @@ use Rattle.gpu_journal.proofs.Folding.{written_then}
 abbrev counts : Written → ℕ
 counts x = cond (is_finish x) 1 0
 
-finishes_append : (xs ys : List Written) → finishes_in (xs ++ ys) ≡ finishes_in xs + finishes_in ys
+pub finishes_append : (xs ys : List Written) → finishes_in (xs ++ ys) ≡ finishes_in xs + finishes_in ys
 finishes_append xs ys = sum_by-append counts xs ys
 
 -- a value that is written is no finish
-no_finish : (pairs : List (ℕ × ℕ)) → finishes_in (writes_of pairs) ≡ 0
+pub no_finish : (pairs : List (ℕ × ℕ)) → finishes_in (writes_of pairs) ≡ 0
 no_finish [] = refl
 no_finish (pair ∷ pairs) = let parts = sum_by-cons counts (Write pair.0 pair.1) (writes_of pairs) in let rest = no_finish pairs in omega (arith, parts, rest)
 
-nothing_written : (p : PlansData) (s : ℕ) → written p [] s ≡ []
+-- before any event nothing is written
+pub nothing_written : (p : PlansData) (s : ℕ) → written p [] s ≡ []
 unfolding written
 nothing_written p s = refl
 

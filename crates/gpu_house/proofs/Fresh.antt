@@ -24,6 +24,7 @@ use Rattle.gpu_house.specs.Slots.{SlotData, marks_between, SlotFits}
 use Rattle.gpu_house.specs.Marks.{AreMarked}
 use Rattle.gpu_house.specs.Making.{fresh_slot, fresh_slots, AreFreshSides, IsFreshFor, AreFreshResults}
 use Rattle.gpu_house.specs.House.{HouseInvariant}
+use Rattle.gpu_house.proofs.Counting.{nothing_written}
 use Rattle.gpu_house.proofs.Homes as homes
 use Rattle.gpu_house.proofs.Writings as writings
 
@@ -32,10 +33,6 @@ none_finished p s = sym (ap (λ (w : World). (w.streams s).finished) (world_none
 
 none_ordered : (p : PlansData) (s : ℕ) → 0 ≡ (known p [] s).ordered
 none_ordered p s = sym (ap (λ (w : World). (w.streams s).ordered) (world_none p))
-
-none_written : (p : PlansData) (s : ℕ) → written p [] s ≡ []
-unfolding written
-none_written p s = refl
 
 no_marks : (plan : PlanData) → [] ≡ marks_between plan 0 0
 no_marks plan = refl
@@ -131,7 +128,7 @@ module _ {Results : Type 0} (takes : Results → ℕ → Bool) (told : Results �
     where
       by : ((list : List Written) → told (get_or results k other) ≡ Some list → list ≡ []) → (o : Option (List Written)) → told (get_or results k other) ≡ o → IfSome o (λ list. list ≡ written p [] (suc k))
       by none None e = tt
-      by none (Some list) e = none list e ∙ sym (none_written p (suc k))
+      by none (Some list) e = none list e ∙ sym (nothing_written p (suc k))
 
 module _ {Side Note Results : Type 0} (side : Side → SideData) (table : Side → TableId) (mark : Note → ℕ) (note_of : Note → TableId → Type 0) (takes : Results → ℕ → Bool) (told : Results → Option (List Written)) (results_of : Results → TableId → Type 0) where
   pub fresh_house : (p : PlansData) (base : ℕ) (words books result_words : List TableId) (marks : Marks) (core : CoreData) (sides : List Side) (slots : List (SlotData Side Note)) (results : List Results)

@@ -37,7 +37,7 @@ is_none None e = refl
 is_none (Some x) e = absurd (cc)
 
 -- what holds of all holds of the first
-first_of : {X : Type 0} (P : X → Type 0) (xs : List X) → All P xs → IfSome (slice_get xs 0) P
+pub first_of : {X : Type 0} (P : X → Type 0) (xs : List X) → All P xs → IfSome (slice_get xs 0) P
 first_of P [] all = tt
 first_of P (x ∷ xs) all = All-head P x xs all
 

@@ -20,7 +20,7 @@ use Rattle.gpu_house.proofs.Places.{set_has, if_there, read_has, slice_get-set_o
 -- ---- what is written
 
 -- an event of another stream writes nothing
-written_other : (p : PlansData) (e : Event) (h : List Event) (s : ℕ) → eqb (stream_in e) s ≡ false → written p (e ∷ h) s ≡ written p h s
+pub written_other : (p : PlansData) (e : Event) (h : List Event) (s : ℕ) → eqb (stream_in e) s ≡ false → written p (e ∷ h) s ≡ written p h s
 written_other p e h s off = written_then p e h s ∙ ap (λ (b : Bool). cond b (written p h s ++ written_by p h s e) (written p h s)) off
 
 -- one of the stream itself writes what it writes
@@ -30,7 +30,7 @@ written_own p e h =
     written_then p e h s ∙ ap (λ (b : Bool). cond b (written p h s ++ written_by p h s e) (written p h s)) (self s)
 
 -- an event that writes nothing at all
-written_none : (p : PlansData) (e : Event) (h : List Event) (s : ℕ) → written_by p h s e ≡ [] → written p (e ∷ h) s ≡ written p h s
+pub written_none : (p : PlansData) (e : Event) (h : List Event) (s : ℕ) → written_by p h s e ≡ [] → written p (e ∷ h) s ≡ written p h s
 written_none p e h s none = written_then p e h s ∙ by (eqb (stream_in e) s)
   where
     by : (b : Bool) → cond b (written p h s ++ written_by p h s e) (written p h s) ≡ written p h s
