@@ -14,11 +14,12 @@ use Rattle.gpu_journal.specs.Written.{written, result_at}
 use Rattle.gpu_journal.specs.Serial.{count, order_event, run_event}
 use Rattle.gpu_journal.proofs.Folding.{state_keeps_results}
 use Rattle.serial_laws.proofs.First.{nat_cases}
+use Rattle.gpu_house.proofs.Writings.{written_other, written_none}
 use Rattle.gpu_run.specs.Clients.{ClientData, fresh_client, no_client, client_at, done_at}
 use Rattle.gpu_run.specs.Dumps.{dump_read, dumps_read}
 use Rattle.gpu_run.specs.Reading.{dump_now, read_with, read_left, HasRead, HaveRead}
 use Rattle.gpu_run.specs.Rounds.{GoesFurther, IsRising}
-use Rattle.gpu_run.proofs.Finding.{other_writes, nothing_written, read_on, read_further, read_all, nothing_read}
+use Rattle.gpu_run.proofs.Finding.{read_on, read_further, read_all, nothing_read}
 use Rattle.gpu_run.proofs.Rows.{client_there, client_same, client_other}
 use Rattle.gpu_run.proofs.Turns.{IsRun, run_is_run}
 
@@ -29,11 +30,11 @@ found_on p e h g clients is quiet old = subst (λ (x : List Event). HaveRead p x
 
 -- an order
 pub found_ordered : (p : PlansData) (h g : List Event) (s : ℕ) (clients : List ClientData) → g ≡ order_event p h s ∷ h → HaveRead p h clients → HaveRead p g clients
-found_ordered p h g s clients is = found_on p (order_event p h s) h g clients is (λ t. inl (nothing_written p (order_event p h s) h t refl))
+found_ordered p h g s clients is = found_on p (order_event p h s) h g clients is (λ t. inl (written_none p (order_event p h s) h t refl))
 
 -- a close
 pub found_closed : (p : PlansData) (h g : List Event) (s : ℕ) (clients : List ClientData) → g ≡ Close s ∷ h → HaveRead p h clients → HaveRead p g clients
-found_closed p h g s clients is = found_on p (Close s) h g clients is (λ t. inl (nothing_written p (Close s) h t refl))
+found_closed p h g s clients is = found_on p (Close s) h g clients is (λ t. inl (written_none p (Close s) h t refl))
 
 is_in : (e : Event) (s : ℕ) → IsRun e s → stream_in e ≡ s
 is_in (Order t n c) s r = absurd r
@@ -48,7 +49,7 @@ found_after p h g clients s is there = found_on p (run_event p h s) h g clients 
   where
     by : (t : ℕ) → (t ≡ s) ⊎ (t ≢ s) → (written p (run_event p h s ∷ h) t ≡ written p h t) ⊎ (count p h t ≤ done_at clients t)
     by t (inl same) = inr (subst (λ (u : ℕ). count p h u ≤ done_at clients u) (sym same) (omega (arith, there)))
-    by t (inr off) = inl (other_writes p (run_event p h s) h t (ne_eqb (stream_in (run_event p h s)) t (λ q. off (sym q ∙ is_in (run_event p h s) s (run_is_run p h s)))))
+    by t (inr off) = inl (written_other p (run_event p h s) h t (ne_eqb (stream_in (run_event p h s)) t (λ q. off (sym q ∙ is_in (run_event p h s) s (run_is_run p h s)))))
 
 -- ---- one action more
 

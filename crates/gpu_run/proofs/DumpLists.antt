@@ -1,10 +1,9 @@
 -- The lists of dumps that the code reads.
-use Rattle.std.proofs.Common.{◌≡◌, ◌≢◌, ℕ, zero, suc, ◌+◌, ◌≤◌, ◌<◌, eqb, Bool, true, cond, Option, None, Some, Result, Ok, Err, List, [], ◌∷◌, ◌++◌, length, map, drop, get_or, sym, ap, ◌∙◌, arith}
+use Rattle.std.proofs.Common.{◌≡◌, ◌≢◌, ℕ, zero, suc, ◌+◌, ◌≤◌, ◌<◌, Bool, cond, Option, None, Some, Result, Ok, Err, List, [], ◌∷◌, ◌++◌, length, map, drop, get_or, sym, ap, ◌∙◌, arith}
 use Rattle.std.specs.Prelude.{slice_get}
 use Rattle.std.specs.List.{range_with_len}
 use Rattle.std.specs.Result.{OnOk}
-use Rattle.std.proofs.lemmas.Bool.{ne_eqb}
-use Rattle.std.proofs.lemmas.Bool.Decides.{nat_tests}
+use Rattle.std.proofs.lemmas.Bool.{ne_eqb, eq-eqb}
 use Rattle.std.proofs.lemmas.List.{map-append, append-nil, append_assoc, length-append, drop_more}
 use Rattle.std.proofs.lemmas.Option.{slice_get_past, slice_get-get_or}
 use Rattle.std.proofs.Math.Seq.{get_or-append_seam}
@@ -32,10 +31,7 @@ read_other dumps read action result dump next off =
 pub read_now : (dumps : List (ℕ × ℕ)) (read new : List (ℕ × ℕ × ℕ)) (action value : ℕ) (result : ℕ → ℕ) (dump : ℕ × ℕ) → slice_get dumps (length read) ≡ Some dump → dump.0 ≡ action → value ≡ result dump.1 → new ≡ read ++ (dump.0, dump.1, value) ∷ [] → new ≡ read ++ read_with (slice_get dumps (length read)) action result
 read_now dumps read new action value result dump next here is pushed =
     let found : new ≡ read ++ dump_now result dump ∷ [] = pushed ∙ ap (λ (v : ℕ). read ++ (dump.0, dump.1, v) ∷ []) is in
-    found ∙ sym (ap (λ (o : Option (ℕ × ℕ)). read ++ read_with o action result) next ∙ ap (λ (b : Bool). read ++ cond b (dump_now result dump ∷ []) []) (eqb_same dump.0 action here))
-  where
-    eqb_same : (a b : ℕ) → a ≡ b → eqb a b ≡ true
-    eqb_same a b e = grind (arith, nat_tests)
+    found ∙ sym (ap (λ (o : Option (ℕ × ℕ)). read ++ read_with o action result) next ∙ ap (λ (b : Bool). read ++ cond b (dump_now result dump ∷ []) []) (eq-eqb dump.0 action here))
 
 -- what holds of a list that was pushed to, where it was
 pub on_ok : {T E : Type 0} (r : Result T E) (P Q : Type 0) → (P → Q) → OnOk r P → OnOk r Q

@@ -1,6 +1,6 @@
 -- The close of a stream whose client stands at its Close.
 use Rattle.std.proofs.Common.{◌≡◌, ℕ, ◌-◌, ◌≤◌, zero, suc, Bool, true, false, not, ◌&&◌, ◌↔◌, Some, List, [], ◌∷◌, length, get_or, refl, sym, ap, subst, ◌∙◌, arith}
-use Rattle.std.proofs.lemmas.Bool.{ne_eqb, and_left, and_right}
+use Rattle.std.proofs.lemmas.Bool.{ne_eqb, and_left, and_right, not-true}
 use Rattle.std.specs.Prelude.{slice_get}
 use Rattle.std.specs.List.{list_all}
 use Rattle.gpu_plan.specs.declared.plan.Action.{Action}
@@ -41,11 +41,7 @@ closed_there (x ∷ xs) zero e = ap not (and_left (stays_open x) (list_all stays
     ends actions.Finish q = absurd (cc)
     ends (actions.Token token) q = absurd (cc)
     ends actions.Close q = refl
-closed_there (x ∷ xs) (suc k) e = ap not (and_right (stays_open x) (list_all stays_open xs) (back (list_all stays_open xs) (closed_there xs k e)))
-  where
-    back : (b : Bool) → not b ≡ true → b ≡ false
-    back true q = absurd (cc)
-    back false q = refl
+closed_there (x ∷ xs) (suc k) e = ap not (and_right (stays_open x) (list_all stays_open xs) (not-true (list_all stays_open xs) (closed_there xs k e)))
 
 -- a stream that is open and may close is closed
 closed_so : (r : Closing) (x : Standing) (May : Type 0) → ((r ≡ closing.Lost) ↔ (x.lost ≡ true)) → ((r ≡ closing.Early) ↔ ((is_open x ≡ true) × (May → ⊥))) → is_open x ≡ true → May → r ≡ closing.Closed

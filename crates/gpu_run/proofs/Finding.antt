@@ -9,8 +9,7 @@ use Rattle.std.proofs.lemmas.List.Elements.{All-nil, All-weaker, All-push}
 use Rattle.gpu_word.specs.Results.{Written, last_written}
 use Rattle.gpu_plan.specs.Plans.{PlansData, plan_of, RiseFrom}
 use Rattle.gpu_journal.specs.declared.event.Event.{Event}
-use Rattle.gpu_journal.specs.World.{stream_in}
-use Rattle.gpu_journal.specs.Written.{written_by, written, result_at}
+use Rattle.gpu_journal.specs.Written.{written, result_at}
 use Rattle.gpu_journal.specs.Dumps.{passed_at}
 use Rattle.gpu_journal.specs.Serial.{count}
 use Rattle.serial_laws.proofs.Counts.{count_grows}
@@ -18,22 +17,6 @@ use Rattle.gpu_run.specs.Dumps.{dump_read}
 use Rattle.gpu_run.specs.Reading.{dump_now, read_with, read_left, HasRead}
 
 -- ---- one event more
-
-written_more : (p : PlansData) (e : Event) (h : List Event) (s : ℕ) → written p (e ∷ h) s ≡ cond (eqb (stream_in e) s) (written p h s ++ written_by p h s e) (written p h s)
-unfolding written
-written_more p e h s = refl
-
--- an event of another stream writes nothing to the results of stream s
-pub other_writes : (p : PlansData) (e : Event) (h : List Event) (s : ℕ) → eqb (stream_in e) s ≡ false → written p (e ∷ h) s ≡ written p h s
-other_writes p e h s off = written_more p e h s ∙ ap (λ (b : Bool). cond b (written p h s ++ written_by p h s e) (written p h s)) off
-
--- nor does one that is neither a step nor a finish
-pub nothing_written : (p : PlansData) (e : Event) (h : List Event) (s : ℕ) → written_by p h s e ≡ [] → written p (e ∷ h) s ≡ written p h s
-nothing_written p e h s none = written_more p e h s ∙ by (eqb (stream_in e) s)
-  where
-    by : (b : Bool) → cond b (written p h s ++ written_by p h s e) (written p h s) ≡ written p h s
-    by true = ap (λ (l : List Written). written p h s ++ l) none ∙ append-nil (written p h s)
-    by false = refl
 
 -- where the client had passed an action, it passed it then
 passed_before : (p : PlansData) (e : Event) (h : List Event) (s action : ℕ) → action < count p h s → passed_at p (e ∷ h) s action ≡ passed_at p h s action

@@ -1,21 +1,20 @@
 -- What an event leaves as it was, and what it makes of the phases of a round.
 use Rattle.std.proofs.Common.{◌≡◌, ◌≢◌, ℕ, ◌+◌, ◌-◌, ◌≤◌, ◌<◌, ◌⊎◌, inl, inr, eqb, Bool, true, false, not, ◌&&◌, cond, List, ◌∷◌, length, take, refl, sym, ap, subst, ◌∙◌, arith}
-use Rattle.std.proofs.lemmas.Bool.{ne_eqb, and_left, and_right}
+use Rattle.std.proofs.lemmas.Bool.{ne_eqb, and_left, and_right, lt-ltb}
 use Rattle.std.proofs.lemmas.Bool.Decides.{nat_tests}
 use Rattle.std.specs.Prelude.{nat_lt, slice_get}
 use Rattle.gpu_plan.specs.Plans.{PlansData, plan_of}
 use Rattle.gpu_plan.specs.Passes.{flushes, bound}
-use Rattle.stream_state.specs.declared.effect.Effect.{Effect}
-use Rattle.stream_state.specs.declared.effect.Effect.TheVariants.{Nothing, Token, Release, Wait, WaitName, Pixels, Results}
 use Rattle.sync_core.specs.Standing.{Standing, is_open}
 use Rattle.gpu_journal.specs.declared.event.Event.{Event}
 use Rattle.gpu_journal.specs.declared.event.Event.TheVariants.{Order, Step, Finish, Lost, Close}
 use Rattle.gpu_journal.specs.World.{Known, world, stream_in, asked_by, known}
-use Rattle.gpu_journal.specs.Waits.{deed, deed_asked, standing_of, drawn}
+use Rattle.gpu_journal.specs.Waits.{deed, standing_of, drawn}
 use Rattle.gpu_journal.specs.Facts.{reach}
 use Rattle.gpu_journal.specs.Serial.{begins_round, count, stays, has_flush, is_close, is_at_close, order_event}
 use Rattle.serial_laws.proofs.First.{nat_cases, and_made}
 use Rattle.serial_laws.proofs.Others.{moved_by, standing_own, standing_other, known_own, known_other, along}
+use Rattle.serial_laws.proofs.Spent.{asked_open}
 use Rattle.run_laws.proofs.Going.{close_ends}
 use Rattle.run_laws.proofs.Reaches.{reach_order, reach_close}
 use Rattle.gpu_run.specs.Clients.{flushes_to}
@@ -25,18 +24,9 @@ use Rattle.gpu_run.proofs.Follows.{follows_order, follows_close}
 -- ---- a stream that is open was open
 
 module _ (p : PlansData) (h : List Event) where
-  asked_open : (effect : Effect) (n : ℕ) (x : Standing) → is_open (moved_by (deed_asked p effect) n x) ≡ true → is_open x ≡ true
-  asked_open Nothing n x o = o
-  asked_open (Token token) n x o = o
-  asked_open (Release r) n x o = o
-  asked_open (Wait t r) n x o = o
-  asked_open (WaitName name r) n x o = o
-  asked_open (Pixels op) n x o = o
-  asked_open (Results writes) n x o = o
-
   event_open : (e : Event) (n : ℕ) (x : Standing) → is_open (moved_by (deed p e (world p h)) n x) ≡ true → is_open x ≡ true
   event_open (Order s m c) n x o = o
-  event_open (Step s words) n x o = asked_open (asked_by p s words (world p h)) n x o
+  event_open (Step s words) n x o = sym (asked_open p (asked_by p s words (world p h)) n x) ∙ o
   event_open (Finish s m) n x o = o
   event_open (Lost s why words) n x o = absurd (cc)
   event_open (Close s) n x o = absurd (let off = and_right (not x.lost) false refl in cc)
@@ -102,9 +92,6 @@ close_again p e h t f k =
     (was_open p h e t)
     (ap (λ (n : ℕ). is_close (slice_get (plan_of p t).actions n)) k)
 
-is_lt : (m n : ℕ) → m < n → nat_lt m n ≡ true
-is_lt m n h = grind (arith, nat_tests)
-
 not_lt : (m n : ℕ) → m ≡ n → nat_lt m n ≡ false
 not_lt m n h = grind (arith, nat_tests)
 
@@ -116,7 +103,7 @@ rising_order p h done s r a pos high open' some_flush = record {
   played = (
     follows_order p h s pos high (λ t x y. a.no_flush t x (omega arith))
         (and_made (stays p h s) (nat_lt (known p h s).ordered (flushes (take (count p h s) (plan_of p s).actions))) open'
-        (ap (λ (k : ℕ). nat_lt (known p h s).ordered (flushes (take k (plan_of p s).actions))) (r.fresh s) ∙ is_lt (known p h s).ordered (flushes_to (plan_of p s) (reach p h s)) some_flush)),
+        (ap (λ (k : ℕ). nat_lt (known p h s).ordered (flushes (take k (plan_of p s).actions))) (r.fresh s) ∙ lt-ltb (known p h s).ordered (flushes_to (plan_of p s) (reach p h s)) some_flush)),
     r.played,
   );
   fresh = λ t. count_fresh p (order_event p h s) h t (r.fresh t) (reach_ordered p h s t);

@@ -1,5 +1,5 @@
 -- One action of a client, by the rule.
-use Rattle.std.proofs.Common.{◌≡◌, ℕ, suc, ◌+◌, ◌-◌, ◌≤◌, ◌<◌, Bool, true, false, Option, None, Some, List, [], ◌∷◌, length, get_or, set, take, refl, sym, ap, subst, ◌∙◌, arith}
+use Rattle.std.proofs.Common.{◌≡◌, ℕ, suc, ◌+◌, ◌-◌, ◌≤◌, ◌<◌, true, false, Option, None, Some, List, [], ◌∷◌, length, get_or, set, take, refl, sym, ap, subst, ◌∙◌, arith}
 use Rattle.std.proofs.lemmas.List.{set-get_or}
 use Rattle.std.specs.Prelude.{slice_get, unwrap_or, option_map}
 use Rattle.std.specs.Option.{IsSomeAnd}
@@ -16,6 +16,7 @@ use Rattle.gpu_journal.specs.World.{known}
 use Rattle.gpu_journal.specs.Facts.{reach}
 use Rattle.gpu_journal.specs.Serial.{stays}
 use Rattle.serial_laws.proofs.Flushes.{flushes_all, flushes_grow, flush_placed}
+use Rattle.serial_laws.proofs.Ends.{clash}
 use Rattle.run_laws.proofs.Tokens.{reach_is}
 use Rattle.gpu_run.specs.Clients.{ClientData, client_at, done_at, flushes_to}
 use Rattle.gpu_run.specs.Rounds.{GoesFurther, StandsStill}
@@ -45,9 +46,6 @@ stops_there p h s f t done plan is is_f is_t le stops =
     let far = reach_by p h s f t plan is is_f is_t in
     let not_below : done < reach p h s → ⊥ = λ lt. clash (passes plan.actions done f (t ∷ [])) (passes_below_bound plan.actions done f (t ∷ []) (omega (arith, far, lt))) stops in
     omega (arith, le, not_below)
-  where
-    clash : (b : Bool) → b ≡ true → b ≡ false → ⊥
-    clash b x y = cc
 
 -- the client stands still, with each of its flushes ordered
 pub stands_still : (p : PlansData) (h : List Event) (s : ℕ) (clients : List ClientData) → stays p h s ≡ true → IsClientOf p h s (client_at clients s).words → done_at clients s ≡ reach p h s → StandsStill p h (done_at clients) s

@@ -23,27 +23,20 @@ use Rattle.gpu_run.proofs.Phases.{was_open, count_fresh, reach_ordered}
 
 -- ---- one stream
 
--- an event of another stream leaves a client
-pub client_again : (p : PlansData) (e : Event) (h : List Event) (t : ℕ) (words : PlainData) → eqb (stream_in e) t ≡ false → IsClientOf p h t words → IsClientOf p (e ∷ h) t words
-client_again p e h t words off old =
+-- an event that orders nothing of a stream leaves its client
+pub client_on : (p : PlansData) (e : Event) (h : List Event) (t : ℕ) (words : PlainData) → (known p (e ∷ h) t).ordered ≡ (known p h t).ordered → IsClientOf p h t words → IsClientOf p (e ∷ h) t words
+client_on p e h t words same old =
     let grows = count_grows p e h t in
     let within = old.within in
     record {
       plan = old.plan;
       within = omega (arith, grows, within);
-      passed = λ o. ap (λ (k : Known). k.ordered) (known_other p e h t off) ∙ old.passed (was_open p h e t o);
+      passed = λ o. same ∙ old.passed (was_open p h e t o);
     }
 
--- an event of its own stream that orders nothing does so too
-pub client_on : (p : PlansData) (e : Event) (h : List Event) (s : ℕ) (words : PlainData) → (known p (e ∷ h) s).ordered ≡ (known p h s).ordered → IsClientOf p h s words → IsClientOf p (e ∷ h) s words
-client_on p e h s words same old =
-    let grows = count_grows p e h s in
-    let within = old.within in
-    record {
-      plan = old.plan;
-      within = omega (arith, grows, within);
-      passed = λ o. same ∙ old.passed (was_open p h e s o);
-    }
+-- and so does an event of another stream
+pub client_again : (p : PlansData) (e : Event) (h : List Event) (t : ℕ) (words : PlainData) → eqb (stream_in e) t ≡ false → IsClientOf p h t words → IsClientOf p (e ∷ h) t words
+client_again p e h t words off = client_on p e h t words (ap (λ (k : Known). k.ordered) (known_other p e h t off))
 
 -- an action that is no flush
 pub client_passed : (p : PlansData) (h : List Event) (s : ℕ) (old new : PlainData) → count p h s ≡ reach p h s → old.done < reach p h s → new ≡ one_further old → flushes_to (plan_of p s) (old.done + 1) ≡ flushes_to (plan_of p s) old.done → IsClientOf p h s old → IsClientOf p h s new

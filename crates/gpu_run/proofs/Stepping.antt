@@ -1,6 +1,6 @@
 -- The steps of a run that is out.
 use Rattle.std.proofs.Common.{◌≡◌, ◌≢◌, ℕ, ◌+◌, ◌-◌, Bool, true, false, not, Option, None, Some, Err, List, ◌∷◌, ◌++◌, length, refl, sym, ap, subst, ◌∙◌, arith, length-append, IsOk}
-use Rattle.std.proofs.lemmas.Bool.{ne_eqb}
+use Rattle.std.proofs.lemmas.Bool.{ne_eqb, not-true}
 use Rattle.std.proofs.lemmas.List.{length-set}
 use Rattle.std.proofs.lemmas.List.Elements.{All-weaker}
 use Rattle.std.specs.Prelude.{IfSome}
@@ -161,14 +161,10 @@ module _ (p : PlansData) (house new : PlainHouse) (clients : List ClientData) (r
           event = past ∙ ap (λ (e : Event). e ∷ h) (sym (event_step p h s words has.its_words has.more valid));
           goes = subst (λ (g : List Event). not kept ≡ goes_on p g s) (sym past) going;
           same = moved.stream;
-          on = λ m. out_now (Step s words) refl refl past homes as_outs slots moved.stream note side notes its_run (moved.paused ∙ back kept m) fetches;
+          on = λ m. out_now (Step s words) refl refl past homes as_outs slots moved.stream note side notes its_run (moved.paused ∙ not-true kept m) fetches;
           list = λ _. fetches;
           home = home_now (Step s words) refl refl past homes as_outs slots moved.stream note side notes;
         }
-      where
-        back : (b : Bool) → not b ≡ true → b ≡ false
-        back true e = absurd (cc)
-        back false e = refl
 
     -- a command that was invalid
     stepped_lost : (error : CmdError) → verdict_at p h s words ≡ Err error → new.core.past ≡ Lost s (Error error) words ∷ h → now.run ≡ run.run → new.core.outs ≡ house.core.outs → HasStepped p house new clients s now false
