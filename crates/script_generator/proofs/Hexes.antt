@@ -46,3 +46,8 @@ fewer_digits left at next is small =
 pub place_before : (left at : ℕ) → 16 ≤ left → left < 16 ^ (at + 1) → 1 ≤ at
 place_before left zero large small = absurd (omega arith)
 place_before left (suc at) large small = omega arith
+
+-- a value below 16 has one digit
+pub one_digit : (value : ℕ) → value < 16 → digit_glyph false value ∷ [] ≡ digits 16 false value
+unfolding digits
+one_digit value small = ap (λ d. digit_glyph false d ∷ []) {x = value} {y = value % 16} (omega arith) ∙ sym (last 63 value [] small)

@@ -1,9 +1,10 @@
 -- Rounds written one after the other.
-use Rattle.std.proofs.Common.{◌≡◌, ℕ, zero, suc, ◌+◌, ◌*◌, List, [], ◌∷◌, ◌++◌, refl, sym, ap, ◌∙◌, arith, append_assoc}
+use Rattle.std.proofs.Common.{◌≡◌, ℕ, zero, suc, ◌+◌, ◌-◌, ◌*◌, ◌%◌, List, [], ◌∷◌, ◌++◌, refl, sym, ap, ◌∙◌, arith, append_assoc}
 use Rattle.std.specs.Prelude.{codes}
+use Rattle.std.specs.List.{flat_map}
 use Rattle.std.proofs.lemmas.List.{append-nil}
 use Rattle.script_generator.specs.Draws.{drawn, after_draws}
-use Rattle.script_generator.specs.Generator.{block, round_lines, round_text, rounds, start_text, stream_lines, streams, generated}
+use Rattle.script_generator.specs.Generator.{number_text, value_text, base_of, block, round_text, rounds, start_text, stream_lines, streams, generated}
 
 pub rounds_one : (left more stream round state : ℕ) → left ≡ more + 1 → rounds left stream round state ≡ round_text stream round state ++ rounds more stream (round + 1) (after_draws 7 state)
 unfolding rounds
@@ -28,9 +29,25 @@ rounds_none out all left stream round state none so_far =
     let same : out ++ rounds left stream round state ≡ out ++ [] = ap (λ n. out ++ rounds n stream round state) none in
     sym same ∙ so_far
 
-pub round_said : (out new : List ℕ) (stream round state : ℕ) (words : List ℕ) (uploaded : ℕ) → words ≡ block stream round state → uploaded ≡ after_draws 7 state → new ≡ out ++ round_lines round words uploaded → new ≡ out ++ round_text stream round state
+pieces : (out p q r s t u v w : List ℕ) → (((((((out ++ p) ++ q) ++ r) ++ s) ++ t) ++ u) ++ v) ++ w ≡ out ++ (p ++ q ++ r ++ s ++ t ++ u ++ v ++ w)
+pieces out p q r s t u v w = simp append_assoc
+
+-- the pieces of a round are its text
+pub round_joined : (out a b c d e f g new : List ℕ) (stream round state uploaded : ℕ)
+    → a ≡ out ++ codes "put"
+    → b ≡ a ++ number_text (32 * (round % 2))
+    → c ≡ b ++ flat_map value_text (block stream round state)
+    → d ≡ c ++ codes "\nfill 0 0"
+    → e ≡ d ++ value_text uploaded
+    → f ≡ e ++ codes "\nflush"
+    → g ≡ f ++ number_text (32 * (1 - round % 2))
+    → new ≡ g ++ codes "\nfinish\n"
+    → uploaded ≡ after_draws 7 state
+    → new ≡ out ++ round_text stream round state
 unfolding round_text
-round_said out new stream round state words uploaded is behind written = written ∙ rw (is, behind) refl
+round_joined out a b c d e f g new stream round state uploaded first second third fourth fifth sixth seventh last behind =
+    let other : number_text (32 * (1 - round % 2)) ≡ number_text (32 - base_of round) = ap number_text {x = 32 * (1 - round % 2)} {y = 32 - base_of round} (omega arith) in
+    rw (last, seventh, sixth, fifth, fourth, third, second, first, other, behind) (pieces out (codes "put") (number_text (base_of round)) (flat_map value_text (block stream round state)) (codes "\nfill 0 0") (value_text (after_draws 7 state)) (codes "\nflush") (number_text (32 - base_of round)) (codes "\nfinish\n"))
 
 low : 108 ∷ 111 ∷ 119 ∷ [] ≡ codes "low"
 low = refl

@@ -16,15 +16,36 @@ value_text value = codes " " ++ digits 16 false value
 abbrev pub base_of : ℕ → ℕ
 base_of round = 32 * (round % 2)
 
--- the block of a round of a stream, where the state before it is this: WaitToken, ClearRect, CopyRect, UploadRect and
--- InsertFence. The draws are in order the other stream, a place, a texel, and a place to upload to.
+-- a WaitToken for the token of a round of another stream
+abbrev pub wait_words : ℕ → ℕ → List ℕ
+wait_words other round = 0x20200004 ∷ other ∷ round ∷ 0 ∷ []
+
+-- a ClearRect of one texel of a stream's image
+abbrev pub clear_words : ℕ → ℕ → ℕ → ℕ → List ℕ
+clear_words stream x y texel = 0x20800007 ∷ stream ∷ x ∷ y ∷ 1 ∷ 1 ∷ texel ∷ []
+
+-- a CopyRect of sixteen texels of another stream's image
+abbrev pub copy_words : ℕ → ℕ → List ℕ
+copy_words other stream = 0x20a00009 ∷ other ∷ 0 ∷ 0 ∷ stream ∷ 8 ∷ 8 ∷ 4 ∷ 4 ∷ []
+
+-- an UploadRect of one texel
+abbrev pub upload_words : ℕ → ℕ → ℕ → List ℕ
+upload_words stream x y = 0x20c00009 ∷ stream ∷ x ∷ y ∷ 1 ∷ 1 ∷ 1 ∷ 0 ∷ 0 ∷ []
+
+-- an InsertFence with the token of a round
+abbrev pub fence_words : ℕ → List ℕ
+fence_words round = 0x20000003 ∷ round ∷ 0 ∷ []
+
+-- the block of a round of a stream, where the state before it is this. The draws are in order the other stream, a place, a
+-- texel, and a place to upload to.
 abbrev pub block : ℕ → ℕ → ℕ → List ℕ
 block stream round state =
-    0x20200004 ∷ (1 + below 4 (after_draws 1 state)) ∷ round ∷ 0
-    ∷ 0x20800007 ∷ stream ∷ below 16 (after_draws 2 state) ∷ below 16 (after_draws 3 state) ∷ 1 ∷ 1 ∷ after_draws 4 state
-    ∷ 0x20a00009 ∷ (1 + below 4 (after_draws 1 state)) ∷ 0 ∷ 0 ∷ stream ∷ 8 ∷ 8 ∷ 4 ∷ 4
-    ∷ 0x20c00009 ∷ stream ∷ below 16 (after_draws 5 state) ∷ below 16 (after_draws 6 state) ∷ 1 ∷ 1 ∷ 1 ∷ 0 ∷ 0
-    ∷ 0x20000003 ∷ round ∷ 0 ∷ []
+    let other = 1 + below 4 (after_draws 1 state) in
+    wait_words other round
+    ++ clear_words stream (below 16 (after_draws 2 state)) (below 16 (after_draws 3 state)) (after_draws 4 state)
+    ++ copy_words other stream
+    ++ upload_words stream (below 16 (after_draws 5 state)) (below 16 (after_draws 6 state))
+    ++ fence_words round
 
 -- the lines of a round: its block, the word that is uploaded, a flush of the block, and an await
 abbrev pub round_lines : ℕ → List ℕ → ℕ → List ℕ

@@ -1,10 +1,13 @@
-ghost use Rattle.std.specs.Prelude.{◌≡◌, ◌<◌, ◌≤◌, ◌++◌, drop, false, OnOk, decimal};
+ghost use Rattle.std.specs.Prelude.{◌≡◌, ◌+◌, ◌<◌, ◌≤◌, ◌++◌, drop, false, vec_len, vec_capacity, OnOk};
 ghost use Rattle.std.specs.Fmt.{digits, digit_glyph};
 ghost use Rattle.std.specs.List.{flat_map};
 ghost use Rattle.script_generator.specs.Generator.{number_text, value_text};
 
 use itoa::Buffer;
 use std::alloc::AllocError;
+
+/// The most bytes of a value: a space and eight digits.
+const VALUE: usize = 9;
 
 /// Appends a space and a number in decimal digits.
 pub(crate) fn push_number(out: &mut Vec<u8>, number: u32) -> Result<(), AllocError>
@@ -44,21 +47,39 @@ fn hex_text(value: u32) -> ([u8; 8], usize)
     (text, at)
 }
 
-// Appends a value in hexadecimal digits, without leading zeros.
-fn push_hex(out: &mut Vec<u8>, value: u32) -> Result<(), AllocError>
-    ensures { OnOk result (out.new.items ≡ out.old.items ++ digits 16 false value) }
+// Appends a value of two digits or more.
+#[inline(never)]
+fn put_long(out: &mut Vec<u8>, value: u32)
+    requires { vec_len out.old + 8 ≤ vec_capacity out.old }
+    ensures { out.new.items ≡ out.old.items ++ digits 16 false value }
 {
     let (text, at) = hex_text(value);
     let (_, written) = text.split_at(at);
-    out.extend_from_slice(written)
+    out.extend_from_slice(written).unwrap();
+}
+
+// Appends a value in hexadecimal digits, without leading zeros. Most values of a script have one.
+#[inline(always)]
+fn put_hex(out: &mut Vec<u8>, value: u32)
+    requires { vec_len out.old + 8 ≤ vec_capacity out.old }
+    ensures { out.new.items ≡ out.old.items ++ digits 16 false value }
+{
+    if value < 16 {
+        out.push_reserved(hex_digit(value));
+    } else {
+        put_long(out, value);
+    }
 }
 
 /// Appends a space and a value in hexadecimal digits.
+#[inline(always)]
 pub(crate) fn push_value(out: &mut Vec<u8>, value: u32) -> Result<(), AllocError>
     ensures { OnOk result (out.new.items ≡ out.old.items ++ value_text value) }
 {
-    out.push(b' ')?;
-    push_hex(out, value)
+    out.reserve(VALUE)?;
+    out.push_reserved(b' ');
+    put_hex(out, value);
+    Ok(())
 }
 
 /// Appends each value behind a space.

@@ -1,16 +1,86 @@
 ghost use Rattle.std.specs.Prelude.{◌≡◌, ◌+◌, ◌*◌, ◌<◌, ◌≤◌, ◌++◌, IfOk, OnOk};
+ghost use Rattle.std.specs.List.{flat_map};
 ghost use Rattle.script_generator.specs.Draws.{after_draws};
-ghost use Rattle.script_generator.specs.Generator.{block, round_lines, rounds, start_text, stream_lines, generated};
+ghost use Rattle.script_generator.specs.Generator.{number_text, value_text, wait_words, clear_words, copy_words, upload_words, fence_words, block, round_text, rounds, start_text, stream_lines, generated};
 
 use crate::digits::{push_number, push_value, push_values};
 use crate::draws::{below, drawn};
 use gpu_word::Memory;
 use std::alloc::{AllocError, Global};
 
-// The block of a round, the word that it uploads, which is also the state behind it.
-fn block(stream: u32, round: u32, state: u32) -> ([u32; 32], u32)
-    ensures block { result.0 ≡ block stream round state }
-    ensures state { result.1 ≡ after_draws 7 state }
+// Appends the words of a WaitToken.
+#[inline(always)]
+fn push_wait(out: &mut Vec<u8>, other: u32, round: u32) -> Result<(), AllocError>
+    ensures { OnOk result (out.new.items
+        ≡ out.old.items ++ flat_map value_text (wait_words other round)) }
+{
+    out.extend_from_slice(b" 20200004")?;
+    push_value(out, other)?;
+    push_value(out, round)?;
+    out.extend_from_slice(b" 0")?;
+    Ok(())
+}
+
+// Appends the words of a ClearRect of one texel.
+#[inline(always)]
+fn push_clear(out: &mut Vec<u8>, stream: u32, x: u32, y: u32, texel: u32) -> Result<(), AllocError>
+    ensures { OnOk result (out.new.items
+        ≡ out.old.items ++ flat_map value_text (clear_words stream x y texel)) }
+{
+    out.extend_from_slice(b" 20800007")?;
+    push_value(out, stream)?;
+    push_value(out, x)?;
+    push_value(out, y)?;
+    out.extend_from_slice(b" 1 1")?;
+    push_value(out, texel)?;
+    Ok(())
+}
+
+// Appends the words of a CopyRect of sixteen texels.
+#[inline(always)]
+fn push_copy(out: &mut Vec<u8>, other: u32, stream: u32) -> Result<(), AllocError>
+    ensures { OnOk result (out.new.items
+        ≡ out.old.items ++ flat_map value_text (copy_words other stream)) }
+{
+    out.extend_from_slice(b" 20a00009")?;
+    push_value(out, other)?;
+    out.extend_from_slice(b" 0 0")?;
+    push_value(out, stream)?;
+    out.extend_from_slice(b" 8 8 4 4")?;
+    Ok(())
+}
+
+// Appends the words of an UploadRect of one texel.
+#[inline(always)]
+fn push_upload(out: &mut Vec<u8>, stream: u32, x: u32, y: u32) -> Result<(), AllocError>
+    ensures { OnOk result (out.new.items
+        ≡ out.old.items ++ flat_map value_text (upload_words stream x y)) }
+{
+    out.extend_from_slice(b" 20c00009")?;
+    push_value(out, stream)?;
+    push_value(out, x)?;
+    push_value(out, y)?;
+    out.extend_from_slice(b" 1 1 1 0 0")?;
+    Ok(())
+}
+
+// Appends the words of an InsertFence.
+#[inline(always)]
+fn push_fence(out: &mut Vec<u8>, round: u32) -> Result<(), AllocError>
+    ensures { OnOk result (out.new.items
+        ≡ out.old.items ++ flat_map value_text (fence_words round)) }
+{
+    out.extend_from_slice(b" 20000003")?;
+    push_value(out, round)?;
+    out.extend_from_slice(b" 0")?;
+    Ok(())
+}
+
+// Appends the block of a round, and answers the state behind its draws.
+fn push_block(out: &mut Vec<u8>, stream: u32, round: u32, state: u32) -> Result<u32, AllocError>
+    ensures text { OnOk result (out.new.items
+        ≡ out.old.items ++ flat_map value_text (block stream round state)) }
+    ensures state { IfOk result (λ next. next ≡ after_draws 6 state) }
 {
     let d1 = drawn(state);
     let d2 = drawn(d1);
@@ -19,56 +89,44 @@ fn block(stream: u32, round: u32, state: u32) -> ([u32; 32], u32)
     let d5 = drawn(d4);
     let d6 = drawn(d5);
     let other = 1 + below(4, d1);
-    let words = [
-        0x2020_0004,
-        other,
-        round,
-        0,
-        0x2080_0007,
-        stream,
-        below(16, d2),
-        below(16, d3),
-        1,
-        1,
-        d4,
-        0x20a0_0009,
-        other,
-        0,
-        0,
-        stream,
-        8,
-        8,
-        4,
-        4,
-        0x20c0_0009,
-        stream,
-        below(16, d5),
-        below(16, d6),
-        1,
-        1,
-        1,
-        0,
-        0,
-        0x2000_0003,
-        round,
-        0,
-    ];
-    (words, drawn(d6))
+    push_wait(out, other, round)?;
+    push_clear(out, stream, below(16, d2), below(16, d3), d4)?;
+    push_copy(out, other, stream)?;
+    push_upload(out, stream, below(16, d5), below(16, d6))?;
+    push_fence(out, round)?;
+    Ok(d6)
 }
 
-// Appends the lines of a round with this block, which uploads this word.
-fn push_round(out: &mut Vec<u8>, round: u32, words: &[u32], uploaded: u32) -> Result<(), AllocError>
-    ensures { OnOk result (out.new.items ≡ out.old.items ++ round_lines round words.now uploaded) }
+// Appends the number of a half of the ring: 0 or 32.
+#[inline(always)]
+fn push_half(out: &mut Vec<u8>, half: u32) -> Result<(), AllocError>
+    requires { half ≤ 1 }
+    ensures { OnOk result (out.new.items ≡ out.old.items ++ number_text (32 * half)) }
 {
-    let base = 32 * (round % 2);
+    if half == 0 {
+        out.extend_from_slice(b" 0")?;
+    } else {
+        out.extend_from_slice(b" 32")?;
+    }
+    Ok(())
+}
+
+// Appends the lines of a round, and answers the state behind its draws. The block is put into one half of the ring, and the
+// flush ends at the other.
+fn push_round(out: &mut Vec<u8>, stream: u32, round: u32, state: u32) -> Result<u32, AllocError>
+    ensures text { OnOk result (out.new.items ≡ out.old.items ++ round_text stream round state) }
+    ensures state { IfOk result (λ next. next ≡ after_draws 7 state) }
+{
+    let half = round % 2;
     out.extend_from_slice(b"put")?;
-    push_number(out, base)?;
-    push_values(out, words)?;
+    push_half(out, half)?;
+    let uploaded = drawn(push_block(out, stream, round, state)?);
     out.extend_from_slice(b"\nfill 0 0")?;
     push_value(out, uploaded)?;
     out.extend_from_slice(b"\nflush")?;
-    push_number(out, 32 - base)?;
-    out.extend_from_slice(b"\nfinish\n")
+    push_half(out, 1 - half)?;
+    out.extend_from_slice(b"\nfinish\n")?;
+    Ok(uploaded)
 }
 
 // Appends the lines of so many rounds, and answers the state behind them.
@@ -80,9 +138,7 @@ fn push_rounds(out: &mut Vec<u8>, size: u32, stream: u32, state: u32) -> Result<
     let mut next = state;
     let mut round = 1;
     while round <= size {
-        let (words, behind) = block(stream, round, next);
-        push_round(out, round, &words, behind)?;
-        next = behind;
+        next = push_round(out, stream, round, next)?;
         round += 1;
     }
     Ok(next)

@@ -1,7 +1,7 @@
 use Rattle.std.proofs.Common.{◌∙◌, ◌+◌, ◌-◌, ◌≤◌, ◌*◌, ap, sym, arith}
 use Rattle.std.proofs.lemmas.List.{append-nil}
 use Rattle.script_generator.specs.Draws.{after_draws}
-use Rattle.script_generator.proofs.Rounds.{rounds_go, rounds_none, round_said, draws_one}
+use Rattle.script_generator.proofs.Rounds.{rounds_go, rounds_none, draws_one}
 use Rattle.script_generator.proofs.script.push_rounds.Goals as goal
 
 pub loop-round-preserved : goal.loop-round-preserved
@@ -12,8 +12,8 @@ loop-round-preserved c =
     record {
       first = omega arith;
       last = omega arith;
-      text = rounds_go c.loop-round.out.items c.push_round.new.out.items _ left more c.args.stream c.loop-round.round c.loop-round.next c.block-behind.result.1 (omega arith) (round_said c.loop-round.out.items c.push_round.new.out.items c.args.stream c.loop-round.round c.loop-round.next c.block-behind.result.0 c.block-behind.result.1 c.block-behind.ensures.block c.block-behind.ensures.state c.in_ok-push_round.ensures) c.block-behind.ensures.state c.loop-round.invariant.text;
-      draws = ap (after_draws (7 * more)) c.block-behind.ensures.state ∙ sym (draws_one left more c.loop-round.next (omega arith)) ∙ c.loop-round.invariant.draws;
+      text = rounds_go c.loop-round.out.items c.push_round.new.out.items _ left more c.args.stream c.loop-round.round c.loop-round.next _ (omega arith) c.in_ok-next.ensures.text c.in_ok-next.ensures.state c.loop-round.invariant.text;
+      draws = ap (after_draws (7 * more)) c.in_ok-next.ensures.state ∙ sym (draws_one left more c.loop-round.next (omega arith)) ∙ c.loop-round.invariant.draws;
     }
 
 pub returns-clause-text : goal.returns-clause-text
