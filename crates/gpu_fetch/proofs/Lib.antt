@@ -1,4 +1,5 @@
 pub mod Beside
+pub mod Putting
 pub mod Storing
 pub mod Fetching
 pub mod Cutting

@@ -1,5 +1,5 @@
 -- Words that one thread keeps for itself, as contracts see them.
-use Rattle.std.specs.Prelude.{◌≡◌, ℕ, ◌+◌, ◌≤◌, List, length, slice_index, slice_get}
+use Rattle.std.specs.Prelude.{◌≡◌, ℕ, ◌+◌, ◌≤◌, ◌<◌, List, length, slice_index, slice_get}
 use Rattle.std.specs.Option.{IsSomeAnd}
 use Rattle.gpu_cmd.specs.Lawful.{places_of}
 use Rattle.gpu_plan.specs.declared.plan.Action.{Action}
@@ -31,6 +31,10 @@ IsPut (Flush put fences) = ⊥
 IsPut Finish = ⊥
 IsPut (Token token) = ⊥
 IsPut Close = ⊥
+
+-- the actions from one place up to another are puts
+abbrev pub ArePuts : List Action → ℕ → ℕ → Type 0
+ArePuts actions from to = (k : ℕ) → from ≤ k → k < to → IsNext IsPut actions k
 
 abbrev pub IsFlush : Action → Type 0
 IsFlush (Put place value) = ⊥

@@ -13,7 +13,8 @@ use Rattle.gpu_plan.specs.Plans.{PlansData, PlanData, no_plan, plan_of, IsDump, 
 use Rattle.gpu_plan.specs.Passes.{flush_count, flushes, passes, passes_if_there, bound, greatest}
 use Rattle.gpu_plan.proofs.Passing.{flushes_one_further, bound_one_further}
 use Rattle.gpu_fetch.specs.Side.{SideData}
-use Rattle.gpu_fetch.specs.Plain.{PlainData, IsNext, IsPut, IsBeside, IsNoteBeside}
+use Rattle.gpu_fetch.specs.Plain.{PlainData, ArePuts, IsNext, IsPut, IsBeside, IsNoteBeside}
+use Rattle.gpu_fetch.proofs.Putting.{bound_puts, apart}
 use Rattle.sync_core.specs.Standing.{IsKnown}
 use Rattle.gpu_journal.specs.declared.event.Event.{Event}
 use Rattle.gpu_journal.specs.World.{known}
@@ -23,7 +24,7 @@ use Rattle.serial_laws.specs.Scripts.{AreLawfulPlans}
 use Rattle.serial_laws.proofs.First.{nat_cases}
 use Rattle.run_laws.proofs.Tokens.{reach_is}
 use Rattle.gpu_house.specs.Slots.{slot_at}
-use Rattle.gpu_run.specs.Clients.{ClientData, client_at, done_at, flushes_to, ArePuts, IsCounted}
+use Rattle.gpu_run.specs.Clients.{ClientData, client_at, done_at, flushes_to, IsCounted}
 use Rattle.gpu_run.specs.Reading.{HasRead, HaveRead}
 use Rattle.gpu_run.specs.Served.{PlainHouse, IsClientOf, IsServedAt, IsServed}
 use Rattle.gpu_run.specs.Stands.{Acting, Stands}
@@ -33,18 +34,6 @@ use Rattle.gpu_run.proofs.Serving.{beside_puts, stays_so, other_home, served_all
 use Rattle.gpu_run.proofs.Phases.{acted_passed}
 
 -- ---- one put
-
-some_put : (o : Option Action) → IsSomeAnd o IsPut → (before f : ℕ) (tokens : List ℕ) → passes_if_there before f tokens o ≡ true
-some_put None is before f tokens = absurd is
-some_put (Some (Put place value)) is before f tokens = refl
-some_put (Some (Flush put fences)) is before f tokens = refl
-some_put (Some Finish) is before f tokens = absurd is
-some_put (Some (Token token)) is before f tokens = absurd is
-some_put (Some Close) is before f tokens = absurd is
-
--- it passes, whatever is finished
-put_passes : (actions : List Action) (k f : ℕ) (tokens : List ℕ) → IsNext IsPut actions k → passes actions k f tokens ≡ true
-put_passes actions k f tokens is = some_put (slice_get actions k) is (flushes (take k actions)) f tokens
 
 put_counts : (a : Action) → IsPut a → flush_count a ≡ 0
 put_counts (Put place value) is = refl
@@ -63,36 +52,11 @@ put_quiet actions k is = by (slice_get actions k) refl is
 
 -- ---- puts that follow one another
 
--- none where nothing is between
-pub no_puts : (actions : List Action) (from : ℕ) → ArePuts actions from from
-no_puts actions from k low high = absurd (omega (arith, low, high))
-
--- and one more
-pub puts_more : (actions : List Action) (from to next : ℕ) → ArePuts actions from to → IsNext IsPut actions to → next ≡ to + 1 → ArePuts actions from next
-puts_more actions from to next puts one is k low high = by (nat_cases k to)
-  where
-    by : (k ≡ to) ⊎ (k ≢ to) → IsNext IsPut actions k
-    by (inl same) = subst (IsNext IsPut actions) (sym same) one
-    by (inr off) = puts k low (omega (arith, high, is, off))
-
-fewer_puts : (actions : List Action) (from n : ℕ) → ArePuts actions from (from + suc n) → ArePuts actions from (from + n)
-fewer_puts actions from n puts k low high = puts k low (omega (arith, high))
-
-bound_puts : (actions : List Action) (from n f : ℕ) (tokens : List ℕ) → from ≤ bound actions f tokens → ArePuts actions from (from + n) → from + n ≤ bound actions f tokens
-bound_puts actions from zero f tokens low puts = omega (arith, low)
-bound_puts actions from (suc n) f tokens low puts =
-    let here = bound_puts actions from n f tokens low (fewer_puts actions from n puts) in
-    let one = bound_one_further actions (from + n) f tokens here (put_passes actions (from + n) f tokens (puts (from + n) (omega arith) (omega arith))) in
-    omega (arith, one)
-
 quiet_puts : (actions : List Action) (from n : ℕ) → ArePuts actions from (from + n) → flushes (take (from + n) actions) ≡ flushes (take from actions)
 quiet_puts actions from zero puts = ap (λ (k : ℕ). flushes (take k actions)) (omega arith)
 quiet_puts actions from (suc n) puts =
     let more : from + suc n ≡ (from + n) + 1 = omega arith in
-    ap (λ (k : ℕ). flushes (take k actions)) more ∙ put_quiet actions (from + n) (puts (from + n) (omega arith) (omega arith)) ∙ quiet_puts actions from n (fewer_puts actions from n puts)
-
-apart : (from to : ℕ) → from ≤ to → to ≡ from + (to - from)
-apart from to le = omega (arith, le)
+    ap (λ (k : ℕ). flushes (take k actions)) more ∙ put_quiet actions (from + n) (puts (from + n) (omega arith) (omega arith)) ∙ quiet_puts actions from n (λ k low high. puts k low (omega (arith, high)))
 
 -- no flush is among them
 pub puts_quiet : (actions : List Action) (from to : ℕ) → from ≤ to → ArePuts actions from to → flushes (take to actions) ≡ flushes (take from actions)
@@ -107,14 +71,6 @@ puts_reach p h s from to le puts low =
     let is = reach_is p h s in
     let there = bound_puts (plan_of p s).actions from (to - from) (known p h s).finished (greatest (known p h s).tokens ∷ []) (omega (arith, is, low)) (subst (ArePuts (plan_of p s).actions from) far puts) in
     omega (arith, is, there, far)
-
--- ---- the loop of the code
-
--- the next action, as the code finds it
-pub put_found : (xs actions : List Action) (position done place value : ℕ) (a : Action) → actions ≡ xs → position ≡ done → position < length actions → a ≡ get_or actions position a → a ≡ Put place value → IsNext IsPut xs done
-put_found xs actions position done place value a same at lt read is =
-    let there : slice_get xs done ≡ Some a = ap (slice_get xs) (sym at) ∙ ap (λ (l : List Action). slice_get l position) (sym same) ∙ slice_get-get_or actions position a lt ∙ ap Some (sym read) in
-    next_is IsPut xs done a there (subst IsPut (sym is) tt)
 
 -- a client counts on over puts
 pub counted_puts : (old new : PlainData) (plan : PlanData) (position was flushed : ℕ) → plan ≡ old.plan → new.plan ≡ old.plan → position ≡ new.done → flushed ≡ was → was ≡ flushes_to old.plan old.done → old.done ≤ new.done → ArePuts plan.actions old.done new.done → IsCounted new position flushed

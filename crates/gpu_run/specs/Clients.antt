@@ -1,9 +1,8 @@
 -- The clients of the run on one thread.
-use Rattle.std.specs.Prelude.{◌≡◌, ℕ, zero, suc, ◌≤◌, ◌<◌, List, [], take, slice_index_or}
-use Rattle.gpu_plan.specs.declared.plan.Action.{Action}
+use Rattle.std.specs.Prelude.{◌≡◌, ℕ, zero, suc, List, [], take, slice_index_or}
 use Rattle.gpu_plan.specs.Plans.{PlanData, no_plan}
 use Rattle.gpu_plan.specs.Passes.{flushes}
-use Rattle.gpu_fetch.specs.Plain.{PlainData, fresh_words, IsNext, IsPut}
+use Rattle.gpu_fetch.specs.Plain.{PlainData, fresh_words}
 
 -- of one stream: its words, and the dumps that it has read
 pub record ClientData : Type 0 where
@@ -30,10 +29,6 @@ done_at clients s = (client_at clients s).words.done
 -- how many flushes stand among the first actions
 abbrev pub flushes_to : PlanData → ℕ → ℕ
 flushes_to plan k = flushes (take k plan.actions)
-
--- the actions from one place up to another are puts
-abbrev pub ArePuts : List Action → ℕ → ℕ → Type 0
-ArePuts actions from to = (k : ℕ) → from ≤ k → k < to → IsNext IsPut actions k
 
 -- what a client keeps of its words: how many actions it has done, and how many of them are flushes
 pub record IsCounted (words : PlainData) (position flushed : ℕ) : Type 0 where

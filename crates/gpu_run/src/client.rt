@@ -2,9 +2,9 @@
 ghost use Rattle.std.specs.Prelude.{◌≡◌, ℕ, ◌+◌, ◌≤◌, [], ◌∷◌, ◌++◌, length, slice_get, true, IfOk, IfSome, IfNone, OnOk};
 ghost use Rattle.gpu_plan.specs.Passes.{passes};
 ghost use Rattle.gpu_fetch.specs.Side.{SideData, fresh_side};
-ghost use Rattle.gpu_fetch.specs.Plain.{IsBeside, IsNoteBeside, IsNext, IsPut, IsFlush, one_further};
+ghost use Rattle.gpu_fetch.specs.Plain.{ArePuts, IsBeside, IsNoteBeside, IsNext, IsPut, IsFlush, one_further};
 ghost use Rattle.stream_state.specs.State.{result_of};
-ghost use Rattle.gpu_run.specs.Clients.{ArePuts, fresh_client, flushes_to};
+ghost use Rattle.gpu_run.specs.Clients.{fresh_client, flushes_to};
 ghost use Rattle.gpu_run.specs.Reading.{read_with};
 
 use crate::dumps::Dumps;
@@ -117,13 +117,7 @@ impl Client {
         ensures notes { (side : SideData) (mark : ℕ)
             → IsNoteBeside side self.old.words mark → IsNoteBeside side self.new.words mark }
     {
-        let actions = plan.actions();
-        let mut position = self.position as usize;
-        while let Some(Action::Put { .. }) = actions.get(position) {
-            self.words.put(plan);
-            position += 1;
-        }
-        self.position = position as u32;
+        self.position = self.words.put_all(plan);
     }
 
     /// Does the next action, which passes. A flush gives its note.

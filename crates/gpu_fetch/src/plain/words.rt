@@ -1,10 +1,10 @@
-ghost use Rattle.std.specs.Prelude.{◌≡◌, ℕ, ◌+◌, ◌<◌, ◌≤◌, [], ◌∷◌, length, slice_index, vec_len, IfOk, IsTrue};
+ghost use Rattle.std.specs.Prelude.{◌≡◌, ◌↔◌, ℕ, ◌+◌, ◌<◌, ◌≤◌, [], ◌∷◌, length, slice_index, vec_len, IfOk, IsTrue};
 ghost use Rattle.gpu_cmd.specs.Lawful.{places_of};
 ghost use Rattle.gpu_plan.specs.Plans.{IsWithin};
 ghost use Rattle.gpu_plan.specs.Passes.{passes};
 ghost use Rattle.gpu_plan.specs.Values.{after, value_at};
 ghost use Rattle.gpu_fetch.specs.Side.{SideData, fresh_side};
-ghost use Rattle.gpu_fetch.specs.Plain.{fresh_words, one_further, IsNext, IsPut, IsFlush, IsAwait, IsBeside, IsNoteBeside};
+ghost use Rattle.gpu_fetch.specs.Plain.{fresh_words, one_further, ArePuts, IsNext, IsPut, IsFlush, IsAwait, IsBeside, IsNoteBeside};
 
 use crate::plain::pass::PlainPass;
 use crate::plain::seen::SeenPlan;
@@ -65,6 +65,13 @@ fn zeros(alloc: Global, count: usize) -> Result<Vec<u32>, Memory>
     Ok(vec![in alloc; 0u32; count]?)
 }
 
+// Whether the action at a position is a put.
+fn is_put(actions: &[Action], position: usize) -> bool
+    ensures { IsTrue result ↔ IsNext IsPut actions.now position }
+{
+    matches!(actions.get(position), Some(Action::Put { .. }))
+}
+
 // Stores the value of a put.
 fn store(values: &mut Vec<u32>, action: &Action)
     requires { IsWithin (length values.old.items) action.now }
@@ -114,6 +121,29 @@ impl PlainWords {
             → IsNoteBeside side self.new mark }
     {
         self.advance(plan);
+    }
+
+    /// Stores the values of all puts that come next, one after the other, and answers how many actions are done then.
+    pub fn put_all(&mut self, plan: &Plan) -> u32
+        requires { plan.now ≡ self.old.plan }
+
+        ensures plan { self.new.plan ≡ self.old.plan }
+        ensures done { result ≡ self.new.done }
+        ensures further { self.old.done ≤ self.new.done }
+        ensures puts { ArePuts plan.now.actions self.old.done self.new.done }
+        ensures last { IsNext IsPut plan.now.actions self.new.done → ⊥ }
+        ensures beside { (side : SideData) → IsBeside side self.old → IsBeside side self.new }
+        ensures notes { (side : SideData) (mark : ℕ) → IsNoteBeside side self.old mark
+            → IsNoteBeside side self.new mark }
+    {
+        let actions = plan.actions();
+        let mut done = self.done as usize;
+        while is_put(actions, done) {
+            store(&mut self.values, &actions[done]);
+            done += 1;
+        }
+        self.done = done as u32;
+        self.done
     }
 
     /// Passes the next action, an await that passes where so many flushes are finished and this is the greatest token.
