@@ -205,6 +205,7 @@ impl Images {
     /// Does an operation, or answers why not.
     ///
     /// Only Create takes memory, and where it is wanted nothing changes.
+    #[inline(always)]
     pub fn apply(&mut self, op: &Op) -> Result<Answer, Memory>
         requires { HasItsTexels op.now }
         ensures answer { IfOk result (λ answer. answer ≡ (apply self.old op.now).answer) }

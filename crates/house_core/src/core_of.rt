@@ -12,7 +12,7 @@ ghost use Rattle.house_core.specs.Invariant.{IsCore};
 
 use crate::closing::ends_with_close;
 use crate::desk::Desk;
-use crate::making::{desks, ranks};
+use crate::making::{desks, ranks, usual_events};
 use gpu_books::{Book, Half};
 use gpu_journal::Journal;
 use gpu_plan::Plans;
@@ -85,7 +85,7 @@ impl Core {
         let ranks = ranks(alloc, &plans)?;
         let scheduler = Scheduler::make(alloc, ranks.as_slice())?;
         let mut journal = Journal::make(alloc);
-        journal.reserve(count as usize)?;
+        journal.reserve(usual_events(&plans).max(count as usize))?;
         let desks = desks(alloc, &plans, books)?;
         let images = Images::make(alloc);
         Ok(Core {

@@ -24,6 +24,16 @@ fn rank(priority: Priority) -> u32
     }
 }
 
+/// For how many events room is made before the first: a quarter of the actions. As a rule a script has fewer events, since
+/// each word of a command is put by an action of its own; a journal with more events grows.
+pub(crate) fn usual_events(plans: &Plans) -> usize {
+    let mut actions: usize = 0;
+    for done in 0..plans.count() {
+        actions = actions.saturating_add(plans.plan(done + 1).actions().len());
+    }
+    actions / 4
+}
+
 /// The rank of each stream, from stream 1 on.
 pub(crate) fn ranks(alloc: Global, plans: &Plans) -> Result<Vec<u32>, Memory>
     ensures { IfOk result (λ ranks. ranks.items

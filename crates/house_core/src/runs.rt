@@ -17,6 +17,7 @@ use gpu_journal::{Event, put_at};
 
 impl Core {
     /// A run of the stream that the scheduler chooses among those at home, or `None` where none of them can run.
+    #[inline(always)]
     pub fn take(&mut self) -> Option<Carried>
         ensures choice { option_map (λ (run : RunData). run.stream) result
             ≡ choice_at_home self.old.plans self.old.past (is_home self.old.outs) }

@@ -86,6 +86,7 @@ impl Core {
     /// # Errors
     ///
     /// `Memory`: nothing has changed.
+    #[inline(always)]
     pub fn step(&mut self, run: &mut Carried, fetched: Fetched) -> Result<Stepped, Memory>
         requires plan { IsOfPlans self.old.plans run.old }
         requires book { run.old.book ≡ book_at self.old.books run.old.stream }

@@ -21,6 +21,7 @@ use run_output::{PictureOutput, RunOutput};
 use script_generator::generate;
 use serial_laws::{plans_are_lawful, serial_history_is_legal_and_complete};
 use std::alloc::Global;
+use std::mem;
 use verify_input::{Finding, examine};
 use wait_hooks::Hook;
 
@@ -81,14 +82,17 @@ fn trial_line<H: Hook>(alloc: Global, size: u32, seed: u32, hook: H) -> Result<V
     serial_history_is_legal_and_complete();
     dumps_may_be_told();
     let (report, _) = run_one(alloc, plans, hook)?;
-    trial_text(
+    let text = trial_text(
         alloc,
         size,
         seed,
         report.journal(),
         report.images(),
         report.endings(),
-    )
+    );
+    // The program ends with this line, so the report's many lists of words are not given back one by one.
+    mem::forget(report);
+    text
 }
 
 // The line of a right journal of so many events.

@@ -125,6 +125,7 @@ impl Queues {
     }
 
     /// Takes these waits out, in rising order, into room that was taken before.
+    #[inline(always)]
     pub fn take(&mut self, which: Which, taken: &mut Vec<Wait>)
         requires { length self.old ≤ vec_capacity taken.old }
         ensures pending { self.new ≡ filter (leaves which) self.old }

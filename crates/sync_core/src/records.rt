@@ -54,6 +54,7 @@ impl Records {
     }
 
     /// The first wait of an order number.
+    #[inline(always)]
     pub fn first_of(&self, order: u32) -> Option<Wait>
         ensures order { IfSome result (λ w. w.order ≡ order) }
         ensures member { IfSome result (λ w. has self.now w ≡ true) }
