@@ -8,7 +8,7 @@ use Rattle.gpu_plan.specs.declared.plan.Action.TheVariants.{Put, Flush, Finish, 
 use Rattle.gpu_plan.specs.Plans.{PlanData, is_flush}
 use Rattle.gpu_plan.specs.Passes.{flush_count, flushes}
 use Rattle.gpu_plan.specs.Places.{flush_places_from, mark_of}
-use Rattle.gpu_plan.proofs.Passing.{flushes_one_further}
+use Rattle.gpu_plan.proofs.Passing.{flushes_one_further, flushes_all, by_flush}
 use Rattle.shm_words.specs.declared.client.Acted.{Acted}
 use Rattle.shm_words.specs.Seen.{ClientData, NoteData, next_action, flushes_before}
 use Rattle.shm_words.specs.Acts.{Acts, IsAtFlush, answer_for, counts}
@@ -19,14 +19,6 @@ use Rattle.flush_queue.specs.Seen.{EndData, one_more, note_of, AreLatest}
 use Rattle.flush_queue.specs.Clients.{HasPostedAll}
 
 -- ---- flushes among actions
-
--- what a test of a flush makes of its count
-by_flush : (P : Bool → ℕ → Type 0) (x : Action) → P true 1 → P false 0 → P (is_flush x) (flush_count x)
-by_flush P (Put place value) flush other = other
-by_flush P (Flush put fences) flush other = flush
-by_flush P Finish flush other = other
-by_flush P (Token token) flush other = other
-by_flush P Close flush other = other
 
 -- a flush stands where its number says
 flush_stands : (i : ℕ) (xs : List Action) (k : ℕ) (a : Action) → slice_get xs k ≡ Some a → is_flush a ≡ true → slice_get (flush_places_from i xs) (flushes (take k xs)) ≡ Some (i + k)
@@ -42,12 +34,6 @@ flush_stands i (x ∷ xs) (suc k) a e is =
     let rest : slice_get places (flushes (take k xs)) ≡ Some (i + suc k) = flush_stands (i + 1) xs k a e is ∙ ap Some further in
     by_flush (λ b n. slice_get (cond b (i ∷ places) places) (n + flushes (take k xs)) ≡ Some (i + suc k)) x
     (ap (slice_get (i ∷ places)) one_more ∙ rest) (ap (slice_get places) none_more ∙ rest)
-
-flushes_among : (xs : List Action) (k : ℕ) → flushes (take k xs) ≤ flushes xs
-flushes_among [] zero = omega arith
-flushes_among [] (suc k) = omega arith
-flushes_among (x ∷ xs) zero = omega arith
-flushes_among (x ∷ xs) (suc k) = let rest = flushes_among xs k in omega (arith, rest)
 
 -- ---- a full queue
 
@@ -104,7 +90,7 @@ module _ (client : ClientData) (poster : EndData) (all : HasPostedAll client pos
     pub next_flush : poster.count < flushes poster.plan.actions
     next_flush =
         let more = one_further in
-        let few = flushes_among client.plan.actions (client.done + 1) in
+        let few = flushes_all client.plan.actions (client.done + 1) in
         let count = all.count in
         let same = ap (λ (plan : PlanData). flushes plan.actions) all.plan in
         omega (arith, more, few, count, same)

@@ -6,6 +6,7 @@ use Rattle.std.specs.Prelude.{slice_get}
 use Rattle.std.specs.List.{list_any}
 use Rattle.gpu_plan.specs.declared.plan.Action.{Action}
 use Rattle.gpu_plan.specs.declared.plan.Action.TheVariants.{Put, Flush, Finish, Token, Close}
+use Rattle.gpu_plan.specs.Plans.{is_flush}
 use Rattle.gpu_plan.specs.Passes.{flush_count, flushes, passes_behind, passes_if_there, passes, bound_behind, bound, greatest}
 use Rattle.gpu_plan.specs.Laws.{ReachNoFurther}
 
@@ -31,6 +32,20 @@ flushes_within [] zero = omega arith
 flushes_within [] (suc k) = omega arith
 flushes_within (x ∷ xs) zero = omega arith
 flushes_within (x ∷ xs) (suc k) = let r = flushes_within xs k in let one = flush_count_most x in omega arith
+
+pub flushes_all : (actions : List Action) (k : ℕ) → flushes (take k actions) ≤ flushes actions
+flushes_all [] zero = omega arith
+flushes_all [] (suc k) = omega arith
+flushes_all (x ∷ xs) zero = omega arith
+flushes_all (x ∷ xs) (suc k) = let r = flushes_all xs k in omega arith
+
+-- what a test of a flush makes of its count
+pub by_flush : (P : Bool → ℕ → Type 0) (x : Action) → P true 1 → P false 0 → P (is_flush x) (flush_count x)
+by_flush P (Put place value) flush other = other
+by_flush P (Flush put fences) flush other = flush
+by_flush P Finish flush other = other
+by_flush P (Token token) flush other = other
+by_flush P Close flush other = other
 
 -- a position passes behind the first action as it does in the rest
 passes_next : (f g : ℕ) (tokens : List ℕ) (x : Action) (xs : List Action) (k : ℕ) → passes_if_there (f + flushes (take (suc k) (x ∷ xs))) g tokens (slice_get xs k) ≡ passes_if_there (f + flush_count x + flushes (take k xs)) g tokens (slice_get xs k)

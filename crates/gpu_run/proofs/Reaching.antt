@@ -8,14 +8,14 @@ use Rattle.gpu_plan.specs.declared.plan.Action.TheVariants as actions
 use Rattle.gpu_plan.specs.Plans.{PlansData, PlanData, plan_of}
 use Rattle.gpu_plan.specs.Passes.{flushes, passes, bound, greatest, flush_count}
 use Rattle.gpu_plan.specs.Places.{flush_places, mark_of}
-use Rattle.gpu_plan.proofs.Passing.{bound_one_further, passes_below_bound, flushes_one_further}
+use Rattle.gpu_plan.proofs.Passing.{bound_one_further, passes_below_bound, flushes_one_further, flushes_all}
 use Rattle.gpu_fetch.specs.Plain.{PlainData, one_further, IsFlush, IsNext}
 use Rattle.sync_core.specs.Standing.{IsKnown}
 use Rattle.gpu_journal.specs.declared.event.Event.{Event}
 use Rattle.gpu_journal.specs.World.{known}
 use Rattle.gpu_journal.specs.Facts.{reach}
 use Rattle.gpu_journal.specs.Serial.{stays}
-use Rattle.serial_laws.proofs.Flushes.{flushes_all, flushes_grow, flush_placed}
+use Rattle.serial_laws.proofs.Flushes.{flushes_grow, flush_placed}
 use Rattle.serial_laws.proofs.Ends.{clash}
 use Rattle.run_laws.proofs.Tokens.{reach_is}
 use Rattle.gpu_run.specs.Clients.{ClientData, client_at, done_at, flushes_to}

@@ -7,10 +7,10 @@ use Rattle.gpu_plan.specs.declared.plan.Action.TheVariants.{Put, Flush, Finish, 
 use Rattle.gpu_plan.specs.Plans.{PlansData, PlanData, plan_of}
 use Rattle.gpu_plan.specs.Passes.{flush_count, flushes}
 use Rattle.gpu_plan.specs.Places.{flush_places, mark_of}
-use Rattle.gpu_plan.proofs.Passing.{flushes_one_further}
+use Rattle.gpu_plan.proofs.Passing.{flushes_one_further, flushes_all}
 use Rattle.gpu_fetch.specs.Plain.{IsNext, IsPut, IsFlush}
 use Rattle.gpu_fetch.specs.Stirred.{ComesToFlush, puts_ahead}
-use Rattle.serial_laws.proofs.Flushes.{flush_there, flushes_all, place_below, below_place}
+use Rattle.serial_laws.proofs.Flushes.{flush_placed}
 
 -- ---- a flush that is next
 
@@ -50,19 +50,6 @@ put_counts xs k next = by (slice_get xs k) refl next
     by None e is = absurd is
     by (Some a) e is = let step = flushes_one_further xs k a e in let none = counted a is in omega (arith, step, none)
 
--- its number is that of the flushes before it
-flush_stands : (xs : List Action) (k : ℕ) → IsNext IsFlush xs k → slice_get (flush_places xs) (flushes (take k xs)) ≡ Some k
-flush_stands xs k next =
-    let more = flush_counts xs k next in
-    let all = flushes_all xs (k + 1) in
-    let c = flush_there xs (flushes (take k xs)) (omega (arith, more, all)) in
-    let low = place_below xs (flushes (take k xs)) c.0 (k + 1) c.1 (omega (arith, more)) in
-    let not_below : c.0 < k → ⊥ = λ lt. absurd (above c.0 c.1 lt) in
-    c.1 ∙ ap Some (omega (arith, low, not_below))
-  where
-    above : (c : ℕ) → slice_get (flush_places xs) (flushes (take k xs)) ≡ Some c → c < k → ⊥
-    above c e lt = let more = below_place xs (flushes (take k xs)) c k e lt in omega arith
-
 -- there is a flush behind those before it
 pub flush_left : (plan : PlanData) (done n : ℕ) → n ≡ flushes (take done plan.actions) → IsNext IsFlush plan.actions done → n < flushes plan.actions
 flush_left plan done n e next =
@@ -73,7 +60,7 @@ flush_left plan done n e next =
 -- and its mark is that of its note
 pub flush_mark : (plan : PlanData) (done n : ℕ) → n ≡ flushes (take done plan.actions) → IsNext IsFlush plan.actions done → done + 1 ≡ mark_of plan n
 flush_mark plan done n e next =
-    let place : slice_get (flush_places plan.actions) n ≡ Some done = ap (slice_get (flush_places plan.actions)) e ∙ flush_stands plan.actions done next in
+    let place : slice_get (flush_places plan.actions) n ≡ Some done = ap (slice_get (flush_places plan.actions)) e ∙ flush_placed plan.actions done (flush_counts plan.actions done next) in
     let one : done + 1 ≡ suc done = omega arith in
     one ∙ sym (ap (λ (at : Option ℕ). unwrap_or (option_map suc at) (length plan.actions)) place)
 

@@ -7,7 +7,7 @@ use Rattle.gpu_plan.specs.declared.plan.Action.{Action}
 use Rattle.gpu_plan.specs.declared.plan.Action.TheVariants as actions
 use Rattle.gpu_plan.specs.Plans.{PlansData, plan_of, stays_open, is_closed}
 use Rattle.gpu_plan.specs.Passes.{flushes, bound, passes_if_there}
-use Rattle.gpu_plan.proofs.Passing.{bound_within, stops_at_bound, passes_below_bound}
+use Rattle.gpu_plan.proofs.Passing.{bound_within, stops_at_bound, passes_below_bound, flushes_all}
 use Rattle.sync_core.specs.declared.wait.Number.{Number}
 use Rattle.sync_core.specs.Standing.{first_order}
 use Rattle.gpu_journal.specs.declared.event.Event.{Event}
@@ -22,7 +22,7 @@ use Rattle.gpu_journal.proofs.Worlds.{known_of_left}
 use Rattle.serial_laws.specs.Going.{IsIdle, CanGoOn}
 use Rattle.serial_laws.specs.Laws.{EndsWhereComplete, UnfinishedGoesOn}
 use Rattle.serial_laws.proofs.First.{first_none, first_passes, first_fails, best_fails, and_true, and_made}
-use Rattle.serial_laws.proofs.Flushes.{flushes_all, flushes_end, flush_there, place_below, within}
+use Rattle.serial_laws.proofs.Flushes.{flushes_end, flush_there, place_below, within}
 use Rattle.serial_laws.proofs.Fitting.{fits, open_of_left}
 use Rattle.serial_laws.proofs.Counts.{count_begun}
 use Rattle.serial_laws.proofs.Passed.{flush_parts, le_of}

@@ -7,13 +7,8 @@ use Rattle.gpu_plan.specs.declared.plan.Action.TheVariants.{Put, Flush, Finish, 
 use Rattle.gpu_plan.specs.Passes.{flush_count, flushes}
 use Rattle.gpu_plan.specs.Plans.{is_flush, stays_open}
 use Rattle.gpu_plan.specs.Places.{flush_places_from, flush_places}
+use Rattle.gpu_plan.proofs.Passing.{flushes_all, by_flush}
 use Rattle.stream_state.proofs.Finding.{second_of}
-
-pub flushes_all : (xs : List Action) (k : ℕ) → flushes (take k xs) ≤ flushes xs
-flushes_all [] zero = omega arith
-flushes_all [] (suc k) = omega arith
-flushes_all (x ∷ xs) zero = omega arith
-flushes_all (x ∷ xs) (suc k) = let r = flushes_all xs k in omega arith
 
 pub flushes_grow : (xs : List Action) (k m : ℕ) → k ≤ m → flushes (take k xs) ≤ flushes (take m xs)
 flushes_grow [] zero m h = omega arith
@@ -29,14 +24,6 @@ flushes_end [] zero h = refl
 flushes_end [] (suc k) h = refl
 flushes_end (x ∷ xs) zero h = absurd (omega arith)
 flushes_end (x ∷ xs) (suc k) h = let r = flushes_end xs k (omega arith) in ap (λ n. flush_count x + n) r
-
--- what a test of a flush makes of its count
-by_flush : (P : Bool → ℕ → Type 0) (x : Action) → P true 1 → P false 0 → P (is_flush x) (flush_count x)
-by_flush P (Put place value) t f = f
-by_flush P (Flush put fences) t f = t
-by_flush P Finish t f = f
-by_flush P (Token token) t f = f
-by_flush P Close t f = f
 
 -- there is a place for each flush
 place_from : (i : ℕ) (xs : List Action) (j : ℕ) → j < flushes xs → (c : ℕ) × (slice_get (flush_places_from i xs) j ≡ Some c)

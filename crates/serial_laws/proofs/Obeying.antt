@@ -29,7 +29,8 @@ use Rattle.serial_laws.specs.Scripts.{AreLawfulPlans}
 use Rattle.serial_laws.specs.Laws.{PlayedIsLegal}
 use Rattle.serial_laws.proofs.First.{first_passes, first_fails, best_passes, and_true, not_true}
 use Rattle.serial_laws.proofs.Choices.{Kind, orders_it, closes_it, runs_it, kind_of, run_is}
-use Rattle.serial_laws.proofs.Flushes.{flushes_all, flush_there, place_below, close_is_last, flushes_before_close}
+use Rattle.gpu_plan.proofs.Passing.{flushes_all}
+use Rattle.serial_laws.proofs.Flushes.{flush_there, place_below, close_is_last, flushes_before_close}
 use Rattle.serial_laws.proofs.Fitting.{ArePlaced, fits, open_of_left}
 use Rattle.serial_laws.proofs.Counts.{count_reach, close_reach}
 use Rattle.serial_laws.proofs.Passed.{lawful_of, flush_parts, le_of, has_passed}
