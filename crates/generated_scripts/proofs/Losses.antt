@@ -4,21 +4,19 @@ use Rattle.std.specs.List.{count_by, range_with_len}
 use Rattle.std.proofs.lemmas.Bool.Decides.{nat_tests}
 use Rattle.std.proofs.lemmas.List.Sums.{sum_by-cons}
 use Rattle.gpu_plan.specs.Plans.{PlansData, plan_of}
-use Rattle.stream_state.specs.declared.effect.Effect.{Effect}
-use Rattle.stream_state.specs.declared.effect.Effect.TheVariants.{Nothing, Token, Release, Wait, WaitName, Pixels, Results}
 use Rattle.sync_core.specs.Standing.{Standing, IsKnown, is_open}
 use Rattle.gpu_journal.specs.declared.event.Event.{Event}
 use Rattle.gpu_journal.specs.declared.event.Event.TheVariants.{Order, Step, Finish, Lost, Close}
 use Rattle.gpu_journal.specs.declared.event.Why.{Why}
 use Rattle.gpu_journal.specs.declared.event.Why.TheVariants.{Error, Memory}
 use Rattle.gpu_journal.specs.World.{world, stream_in, asked_by, known}
-use Rattle.gpu_journal.specs.Waits.{deed, deed_asked, sync_of, standing_of, drawn}
+use Rattle.gpu_journal.specs.Waits.{deed, sync_of, standing_of, drawn}
 use Rattle.gpu_journal.specs.Output.{streams_of}
 use Rattle.gpu_journal.specs.Facts.{place_of}
 use Rattle.gpu_journal.specs.Legal.{Obeys, IsLegal}
 use Rattle.serial_laws.proofs.Others.{moved_by, standing_own, standing_other, along}
 use Rattle.serial_laws.proofs.Fitting.{open_of_left, fits}
-use Rattle.serial_laws.proofs.Spent.{obeys_known}
+use Rattle.serial_laws.proofs.Spent.{obeys_known, asked_same}
 use Rattle.generated_scripts.specs.Trials.{is_loss, losses}
 use Rattle.generated_scripts.specs.Laws.{lost_streams}
 
@@ -77,18 +75,9 @@ module _ (new old : ℕ → Bool) (s : ℕ) (was : old s ≡ false) (is : new s 
 
 -- ---- what an event makes of a stream
 
-asked_keeps : (p : PlansData) (effect : Effect) (n : ℕ) (old : Standing) → (moved_by (deed_asked p effect) n old).lost ≡ old.lost
-asked_keeps p Nothing n old = refl
-asked_keeps p (Token token) n old = refl
-asked_keeps p (Release release) n old = refl
-asked_keeps p (Wait stream release) n old = refl
-asked_keeps p (WaitName name release) n old = refl
-asked_keeps p (Pixels op) n old = refl
-asked_keeps p (Results writes) n old = refl
-
 own_kept : (p : PlansData) (e : Event) (h : List Event) (n : ℕ) (old : Standing) → is_loss e ≡ false → (moved_by (deed p e (world p h)) n old).lost ≡ old.lost
 own_kept p (Order s m c) h n old none = refl
-own_kept p (Step s words) h n old none = asked_keeps p (asked_by p s words (world p h)) n old
+own_kept p (Step s words) h n old none = (asked_same p (asked_by p s words (world p h)) n old).0
 own_kept p (Finish s m) h n old none = refl
 own_kept p (Lost s why words) h n old none = absurd cc
 own_kept p (Close s) h n old none = refl

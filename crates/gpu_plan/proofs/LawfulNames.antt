@@ -30,14 +30,15 @@ unfolding from_version
 version_named None n lines = tt
 version_named (Some version) n lines = body_named version (names_of version lines) (n + 1) no_stream lines (lawful_none version)
 
-either : (b : Bool) (r s : Result PlansData (ℕ × Kind)) → IfOk r AreNamed → IfOk s AreNamed → IfOk (cond b r s) AreNamed
-either true r s h k = h
-either false r s h k = k
+-- what either of two answers tells, the one that is taken tells
+pub either : (P : PlansData → Type 0) (b : Bool) (r s : Result PlansData (ℕ × Kind)) → IfOk r P → IfOk s P → IfOk (cond b r s) P
+either P true r s h k = h
+either P false r s h k = k
 
 head_named : (n : ℕ) (lines : List (List (List ℕ))) → IfOk (from_head n lines) AreNamed
 unfolding from_head
 head_named n [] = tt
-head_named n (line ∷ lines) = either (is_skipped line) (from_head (n + 1) lines) (from_version (version_of line) n lines) (head_named (n + 1) lines) (version_named (version_of line) n lines)
+head_named n (line ∷ lines) = either AreNamed (is_skipped line) (from_head (n + 1) lines) (from_version (version_of line) n lines) (head_named (n + 1) lines) (version_named (version_of line) n lines)
 
 pub names_are_lawful : (text : List ℕ) → IfOk (script_of text) AreNamed
 unfolding script_of

@@ -8,15 +8,13 @@ use Rattle.gpu_plan.specs.declared.plan.Action.{Action}
 use Rattle.gpu_plan.specs.declared.plan.Action.TheVariants as actions
 use Rattle.gpu_plan.specs.Plans.{PlansData, IsDump, plan_of, no_plan, stays_open}
 use Rattle.gpu_plan.specs.Passes.{flushes, bound, passes_if_there}
-use Rattle.gpu_plan.proofs.Passing.{passes_below_bound}
-use Rattle.stream_state.specs.declared.effect.Effect.{Effect}
-use Rattle.stream_state.specs.declared.effect.Effect.TheVariants.{Nothing, Token, Release, Wait, WaitName, Pixels, Results}
+use Rattle.gpu_plan.proofs.Passing.{passes_below_bound, flushes_all}
 use Rattle.sync_core.specs.Events as sync
 use Rattle.sync_core.specs.Standing.{Standing, IsKnown}
 use Rattle.gpu_journal.specs.declared.event.Event.{Event}
 use Rattle.gpu_journal.specs.declared.event.Event.TheVariants.{Order, Step, Finish, Lost, Close}
 use Rattle.gpu_journal.specs.World.{Known, World, world, stream_in, asked_by, known, known_after}
-use Rattle.gpu_journal.specs.Waits.{deed, deed_asked, standing_of, drawn}
+use Rattle.gpu_journal.specs.Waits.{deed, standing_of, drawn}
 use Rattle.gpu_journal.specs.Facts.{reach}
 use Rattle.gpu_journal.specs.Legal.{Obeys, IsLegal}
 use Rattle.gpu_journal.specs.Complete.{IsComplete}
@@ -26,12 +24,13 @@ use Rattle.gpu_journal.specs.Dumps.{MayDump, AreDumps, AreDumpsOf, dumps_of, pas
 use Rattle.gpu_journal.proofs.Worlds.{sync_none}
 use Rattle.serial_laws.specs.Scripts.{AreLawfulPlans}
 use Rattle.serial_laws.proofs.First.{first_none}
-use Rattle.serial_laws.proofs.Flushes.{flushes_all, close_is_last, within}
+use Rattle.serial_laws.proofs.Flushes.{close_is_last, within}
 use Rattle.serial_laws.proofs.Others.{moved_by, standing_own, standing_other, known_own, known_other, along}
 use Rattle.serial_laws.proofs.Counts.{reach_grows, count_reach, count_begun}
 use Rattle.serial_laws.proofs.Passed.{lt_of, lawful_of}
 use Rattle.serial_laws.proofs.Obeying.{close_of}
 use Rattle.serial_laws.proofs.Least.{none_runs}
+use Rattle.serial_laws.proofs.Spent.{asked_same}
 use Rattle.serial_laws.proofs.Ends.{clash, bound_end, complete_idle}
 use Rattle.serial_laws.proofs.Bounded.{serial_is_legal, serial_is_complete}
 use Rattle.history_laws.specs.Laws.{DumpsMayBeTold, LaterMayBeTold}
@@ -93,20 +92,11 @@ finish_passes xs f at tokens last few is = by (is_close (slice_get xs (bound xs 
     by true q = before_close xs (bound xs f tokens) at last (close_of (slice_get xs (bound xs f tokens)) q) is
     by false q = let all = bound_end xs f tokens few q in omega (arith, all, inside)
 
-asked_closed : (p : PlansData) (effect : Effect) (n : ℕ) (old : Standing) → (moved_by (deed_asked p effect) n old).closed ≡ old.closed
-asked_closed p Nothing n old = refl
-asked_closed p (Token token) n old = refl
-asked_closed p (Release release) n old = refl
-asked_closed p (Wait stream release) n old = refl
-asked_closed p (WaitName name release) n old = refl
-asked_closed p (Pixels op) n old = refl
-asked_closed p (Results writes) n old = refl
-
 -- a closed stream was closed before, or its client has come to its Close
 closed_own : (p : PlansData) (h : List Event) (e : Event) (at : ℕ) → AreLawfulPlans p → Obeys p h e → slice_get (plan_of p (stream_in e)).actions at ≡ Some actions.Finish → ((standing_of p h (stream_in e)).closed ≡ true → at < reach p h (stream_in e))
     → (moved_by (deed p e (world p h)) (drawn p h + 1) (standing_of p h (stream_in e))).closed ≡ true → at < reach p h (stream_in e)
 closed_own p h (Order s n c) at lawful o is before closed = before closed
-closed_own p h (Step s words) at lawful o is before closed = before (sym (asked_closed p (asked_by p s words (world p h)) (drawn p h + 1) (standing_of p h s)) ∙ closed)
+closed_own p h (Step s words) at lawful o is before closed = before (sym (asked_same p (asked_by p s words (world p h)) (drawn p h + 1) (standing_of p h s)).1 ∙ closed)
 closed_own p h (Finish s n) at lawful o is before closed = before closed
 closed_own p h (Lost s why words) at lawful o is before closed = before closed
 closed_own p h (Close s) at lawful o is before closed =

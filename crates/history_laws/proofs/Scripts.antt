@@ -29,6 +29,7 @@ use Rattle.gpu_plan.specs.Adding.{Draft, no_stream, streams, fresh_plan, acting,
 use Rattle.gpu_plan.specs.Script.{is_remark, is_skipped, version_of, numbered, plans_of, from_body, from_version, from_head, script_of}
 use Rattle.gpu_plan.proofs.Apart.{lawful_none}
 use Rattle.gpu_plan.proofs.Dumps.{dumps_stay, dumps_grow, no_dump}
+use Rattle.gpu_plan.proofs.LawfulNames.{either}
 use Rattle.gpu_plan.proofs.Lawful.{length-puts, lawful_start, lawful_puts, lawful_action, lawful_areas}
 use Rattle.gpu_plan.proofs.Named.{bound, passed, same, found, plain, numbered_lawful}
 use Rattle.gpu_plan.proofs.Tiled.{tiles_grow}
@@ -478,14 +479,10 @@ unfolding from_version
 version_lawful None n lines = tt
 version_lawful (Some version) n lines = body_lawful version (names_of version lines) (n + 1) no_stream lines none_lawful (lawful_none version)
 
-either : (b : Bool) (r s : Result PlansData (ℕ × Kind)) → IfOk r AreLawfulPlans → IfOk s AreLawfulPlans → IfOk (cond b r s) AreLawfulPlans
-either true r s h k = h
-either false r s h k = k
-
 head_lawful : (n : ℕ) (lines : List (List (List ℕ))) → IfOk (from_head n lines) AreLawfulPlans
 unfolding from_head
 head_lawful n [] = tt
-head_lawful n (line ∷ lines) = either (is_skipped line) (from_head (n + 1) lines) (from_version (version_of line) n lines) (head_lawful (n + 1) lines) (version_lawful (version_of line) n lines)
+head_lawful n (line ∷ lines) = either AreLawfulPlans (is_skipped line) (from_head (n + 1) lines) (from_version (version_of line) n lines) (head_lawful (n + 1) lines) (version_lawful (version_of line) n lines)
 
 pub scripts_are_lawful : ScriptsAreLawful
 unfolding script_of

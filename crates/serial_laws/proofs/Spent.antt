@@ -101,14 +101,18 @@ spent_stepped actions ring k l x y steps events same o d less falls sp =
     let second : l.ordered * ring ≡ k.ordered * ring = ap (λ n. n * ring) o in
     record { stepped = omega (arith, a, falls, at, first); inside = omega (arith, a, falls, most, second); counted = omega (arith, b, c, o, d) }
 
+-- what a command asks for neither loses nor closes its stream
+pub asked_same : (p : PlansData) (effect : Effect) (n : ℕ) (x : Standing) → ((moved_by (deed_asked p effect) n x).lost ≡ x.lost) × ((moved_by (deed_asked p effect) n x).closed ≡ x.closed)
+asked_same p (Release r) n x = (refl, refl)
+asked_same p (Wait t r) n x = (refl, refl)
+asked_same p (WaitName t r) n x = (refl, refl)
+asked_same p Nothing n x = (refl, refl)
+asked_same p (Token t) n x = (refl, refl)
+asked_same p (Pixels op) n x = (refl, refl)
+asked_same p (Results w) n x = (refl, refl)
+
 pub asked_open : (p : PlansData) (effect : Effect) (n : ℕ) (x : Standing) → is_open (moved_by (deed_asked p effect) n x) ≡ is_open x
-asked_open p (Release r) n x = refl
-asked_open p (Wait t r) n x = refl
-asked_open p (WaitName t r) n x = refl
-asked_open p Nothing n x = refl
-asked_open p (Token t) n x = refl
-asked_open p (Pixels op) n x = refl
-asked_open p (Results w) n x = refl
+asked_open p effect n x = let same = asked_same p effect n x in rw (same.0, same.1) refl
 
 -- the put of the first number is that of its flush
 put_is : (p : PlansData) (h : List Event) (s : ℕ) → FitsAt p h s → 0 < length (left_of p h s) → put_of p h s ≡ put_at (plan_of p s).actions (known p h s).finished
