@@ -48,30 +48,25 @@ noted p s run m low =
     viewed p s run (s.views ++ Note m ∷ []) (at_longer s.views (Note m ∷ []) run.client_seat (Client run.client) run.client_there) (at_longer s.views (Note m ∷ []) run.service_seat (Service run.service) run.service_there)
     (λ j u no no' at. ⊎_elim (λ (was : get_elem? s.views j ≡ some u). run.others j u no no' was) (λ (new : Note m ≡ u). subst (λ (v : View). IsStoredNote (get_or s.words 0 0) v) new low) (at_snoc s.views (Note m) u j at))
 
--- kind 4
-pub notes : (p : PlanData) (id : ℕ) (me : Sat) → IsClient me → Splits (Keeps p) id me.0 me.0 (note_part me.0)
-notes p id me is s kept at =
+-- a client hands out a note whose flush it has made
+hands : (p : PlanData) (id mark : ℕ) (me : Sat) → IsClient me → ((s : Words) (run : InUse p s) → client_of me.0 ≡ run.client → mark ≤ get_or s.words 0 0) → Splits (Keeps p) id me.0 me.0 (Note mark)
+hands p id mark me is made s kept at =
     let c : ClientView = client_of me.0 in
     let at' : get_elem? s.views id ≡ some (Client c) = at ∙ ap (λ (m : Sat). some m.0) is in
     ⊎_elim
     (λ (fresh : Fresh p s). let no : Client c ≡ Whole p = not_fresh p s id (Client c) fresh at' in absurd (cc))
     (λ (run : InUse p s).
-    let who = client_is p s run id c at' in
-    inr (subst (λ (l : List View). InUse p (record { words = s.words; homes = s.homes; views = l ++ Note c.mark ∷ [] })) (sym (set_again s.views id me.0 at))
-    (noted p s run c.mark (subst (λ (k : ClientView). k.mark ≤ get_or s.words 0 0) (sym who.1) run.client_mark))))
+    inr (subst (λ (l : List View). InUse p (record { words = s.words; homes = s.homes; views = l ++ Note mark ∷ [] })) (sym (set_again s.views id me.0 at))
+    (noted p s run mark (made s run (client_is p s run id c at').1))))
     kept
+
+-- kind 4
+pub notes : (p : PlanData) (id : ℕ) (me : Sat) → IsClient me → Splits (Keeps p) id me.0 me.0 (note_part me.0)
+notes p id me is = hands p id (client_of me.0).mark me is (λ s run who. subst (λ (k : ClientView). k.mark ≤ get_or s.words 0 0) (sym who) run.client_mark)
 
 -- kind 4, with no flush
 pub blanks : (p : PlanData) (id : ℕ) (me : Sat) → IsClient me → Splits (Keeps p) id me.0 me.0 (Note 0)
-blanks p id me is s kept at =
-    let c : ClientView = client_of me.0 in
-    let at' : get_elem? s.views id ≡ some (Client c) = at ∙ ap (λ (m : Sat). some m.0) is in
-    ⊎_elim
-    (λ (fresh : Fresh p s). let no : Client c ≡ Whole p = not_fresh p s id (Client c) fresh at' in absurd (cc))
-    (λ (run : InUse p s).
-    inr (subst (λ (l : List View). InUse p (record { words = s.words; homes = s.homes; views = l ++ Note 0 ∷ [] })) (sym (set_again s.views id me.0 at))
-    (noted p s run 0 (omega arith))))
-    kept
+blanks p id me is = hands p id 0 me is (λ s run who. omega arith)
 
 -- a note is spent
 spends : (p : PlanData) (s : Words) (run : InUse p s) (id m : ℕ) → get_elem? s.views id ≡ some (Note m) → InUse p (record { words = s.words; homes = s.homes; views = set s.views id Spent })
