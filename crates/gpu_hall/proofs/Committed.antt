@@ -10,6 +10,7 @@ use Rattle.gpu_journal.specs.declared.event.Event.TheVariants as event
 use Rattle.gpu_journal.specs.declared.event.Why.TheVariants.{Error, Memory}
 use Rattle.gpu_journal.specs.Waits.{standing_of}
 use Rattle.gpu_journal.specs.Facts.{verdict_at}
+use Rattle.serial_laws.proofs.Passed.{is_order}
 use Rattle.run_laws.proofs.Going.{lost_ends}
 use Rattle.run_laws.proofs.Runs.{step_open}
 use Rattle.house_core.specs.Desks.{RunData}
@@ -18,7 +19,6 @@ use Rattle.gpu_house.specs.declared.answers.Next.TheVariants as next
 use Rattle.gpu_house.specs.House.{OutData}
 use Rattle.gpu_house.specs.Committing.{stepped, Stage, IsStill, AreDone, HaveGone, GoneInPart, LosesAt, Commits, IsOverBy, is_executed}
 use Rattle.gpu_hall.specs.Commits.{Return, WasOver, Waits, Ended, Invalid, Wanted, HasSteps, CameHome}
-use Rattle.gpu_hall.proofs.Takers.{is_order}
 
 lost_over : (x : Standing) → x.lost ≡ true → is_open x ≡ false
 lost_over x e = ap (λ (b : Bool). not b && not x.closed) e

@@ -10,11 +10,12 @@ use Rattle.gpu_journal.specs.declared.event.Event.{Event}
 use Rattle.gpu_journal.specs.declared.event.Event.TheVariants.{Lost, Close}
 use Rattle.gpu_journal.specs.declared.event.Why.TheVariants.{Memory}
 use Rattle.gpu_journal.specs.Serial.{order_event}
+use Rattle.serial_laws.proofs.Passed.{is_order}
 use Rattle.house_core.specs.declared.ends.Closing.{Closing}
 use Rattle.house_core.specs.declared.ends.Closing.TheVariants as closing
 use Rattle.gpu_hall.specs.Collecting.{OrderedOrLost}
 use Rattle.gpu_hall.specs.Views.{ViewFits, IsSameView, HallFits}
-use Rattle.gpu_hall.proofs.Takers.{is_order, takers_event}
+use Rattle.gpu_hall.proofs.Takers.{takers_event}
 use Rattle.gpu_hall.proofs.Viewed.{is_step, view_quiet, view_room}
 
 module _ (p : PlansData) (words queues : List TableId) (view : Book) where

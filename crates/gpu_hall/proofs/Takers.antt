@@ -8,43 +8,21 @@ use Rattle.flush_queue.specs.Seen.{EndData, one_more}
 use Rattle.sync_core.specs.Standing.{Standing, IsKnown, is_open}
 use Rattle.sync_core.specs.Events as sync
 use Rattle.gpu_journal.specs.declared.event.Event.{Event}
-use Rattle.gpu_journal.specs.declared.event.Event.TheVariants.{Order, Step, Finish, Lost, Close}
+use Rattle.gpu_journal.specs.declared.event.Event.TheVariants.{Lost}
 use Rattle.gpu_journal.specs.declared.event.Why.TheVariants.{Memory}
-use Rattle.gpu_journal.specs.World.{Known, stream_in, known, known_after, world}
+use Rattle.gpu_journal.specs.World.{Known, stream_in, known, world}
 use Rattle.gpu_journal.specs.Waits.{standing_of, deed, drawn}
 use Rattle.gpu_journal.specs.Legal.{IsLegal}
 use Rattle.gpu_journal.specs.Serial.{order_event}
 use Rattle.serial_laws.proofs.Others.{along, moved_by, standing_own, standing_other, known_own, known_other}
 use Rattle.serial_laws.proofs.Flushes.{flush_there}
+use Rattle.serial_laws.proofs.Passed.{is_order, ordered_same}
 use Rattle.run_laws.proofs.Ended.{next_open}
 use Rattle.gpu_house.proofs.Rows.{each_set, position_of}
 use Rattle.gpu_hall.specs.Takers.{TakerFits, QueuesFit}
 use Rattle.gpu_hall.specs.Collecting.{OrderedOrLost}
 
 -- ---- what an event changes of a stream
-
-abbrev pub is_order : Event → Bool
-is_order (Order s n c) = true
-is_order (Step s words) = false
-is_order (Finish s n) = false
-is_order (Lost s why words) = false
-is_order (Close s) = false
-
--- an event that is no order leaves the number of orders
-own_ordered : (p : PlansData) (e : Event) (h : List Event) (k : Known) → is_order e ≡ false → (known_after p e (world p h) k).ordered ≡ k.ordered
-own_ordered p (Order s n c) h k not_order = absurd (cc)
-own_ordered p (Step s words) h k not_order = refl
-own_ordered p (Finish s n) h k not_order = refl
-own_ordered p (Lost s why words) h k not_order = refl
-own_ordered p (Close s) h k not_order = refl
-
-same_ordered : (p : PlansData) (e : Event) (h : List Event) (t : ℕ) → is_order e ≡ false → (known p (e ∷ h) t).ordered ≡ (known p h t).ordered
-same_ordered p e h t not_order = by (eqb (stream_in e) t) refl
-  where
-    by : (b : Bool) → eqb (stream_in e) t ≡ b → (known p (e ∷ h) t).ordered ≡ (known p h t).ordered
-    by true q = subst (λ (t : ℕ). (known p (e ∷ h) t).ordered ≡ (known p h t).ordered) (along (stream_in e) t q)
-        (ap (λ (k : Known). k.ordered) (known_own p e h) ∙ own_ordered p e h (known p h (stream_in e)) not_order)
-    by false q = ap (λ (k : Known). k.ordered) (known_other p e h t q)
 
 -- a stream that is not lost was not lost before
 own_kept : (d : Option sync.Deed) (n : ℕ) (x : Standing) → (moved_by d n x).lost ≡ false → x.lost ≡ false
@@ -84,7 +62,7 @@ module _ (p : PlansData) (words queues : List TableId) where
   pub takers_event : (e : Event) (h g : List Event) (takers : List EndData) → g ≡ e ∷ h → is_order e ≡ false → QueuesFit p words queues h takers → QueuesFit p words queues g takers
   takers_event e h g takers is not_order fit = takers_same (e ∷ h) g takers is record {
     count = fit.count;
-    each = λ k other few. still_fits h (e ∷ h) (suc k) (slice_index_or takers k other) (kept_before p e h (suc k)) (λ _. same_ordered p e h (suc k) not_order) (fit.each k other few);
+    each = λ k other few. still_fits h (e ∷ h) (suc k) (slice_index_or takers k other) (kept_before p e h (suc k)) (λ _. ordered_same p e h (suc k) not_order) (fit.each k other few);
   }
 
   pub takers_keep : (takers : List EndData) (e : Event) (h : List Event) → is_order e ≡ false → QueuesFit p words queues h takers → QueuesFit p words queues (e ∷ h) takers

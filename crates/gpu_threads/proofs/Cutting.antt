@@ -5,9 +5,8 @@ use Rattle.std.proofs.lemmas.Bool.{ne_eqb}
 use Rattle.std.proofs.lemmas.Bool.Decides.{nat_tests}
 use Rattle.std.proofs.lemmas.List.{take-append-le, take-map, take_all}
 use Rattle.std.proofs.lemmas.List.Kept.{AllPairs-from_increasing}
-use Rattle.std.proofs.lemmas.List.Sums.{sum_by-append}
 use Rattle.std.proofs.Math.Seq.{take-append-add}
-use Rattle.gpu_word.specs.Results.{Written, Write, is_finish, finishes_in, after_written, last_or, last_written, writes_of, WasLast}
+use Rattle.gpu_word.specs.Results.{Written, Write, finishes_in, after_written, last_or, last_written, writes_of, WasLast}
 use Rattle.gpu_word.specs.Results.{Finish as finish}
 use Rattle.gpu_plan.specs.Plans.{PlansData, plan_of, RiseFrom}
 use Rattle.gpu_plan.specs.Passes.{flushes}
@@ -19,20 +18,13 @@ use Rattle.gpu_journal.specs.World.{stream_in, state_of}
 use Rattle.gpu_journal.specs.Written.{written, written_by}
 use Rattle.gpu_journal.specs.Dumps.{MayDump}
 use Rattle.gpu_journal.proofs.Folding.{written_then}
-use Rattle.gpu_house.proofs.Counting.{finishes_are}
+use Rattle.gpu_house.proofs.Counting.{finishes_append, no_finish, nothing_written, finishes_are}
 
 -- ---- lists of writes and finishes
 
 last_of_both : (i v : ℕ) (xs ys : List Written) → last_or i v (xs ++ ys) ≡ last_or i (last_or i v xs) ys
 last_of_both i v [] ys = refl
 last_of_both i v (x ∷ xs) ys = last_of_both i (after_written i v x) xs ys
-
-finishes_of_both : (xs ys : List Written) → finishes_in (xs ++ ys) ≡ finishes_in xs + finishes_in ys
-finishes_of_both xs ys = sum_by-append (λ (x : Written). cond (is_finish x) 1 0) xs ys
-
-no_finish : (pairs : List (ℕ × ℕ)) → finishes_in (writes_of pairs) ≡ 0
-no_finish [] = refl
-no_finish (pair ∷ pairs) = no_finish pairs
 
 abbrev nothing : List Written
 nothing = []
@@ -61,7 +53,7 @@ cut xs ys place least value clean was = by (nat_le n (length xs)) refl
     behind j parts = ⊎_elim before after (clean j place (last_written xs place))
       where
         count : least ≤ finishes_in xs + finishes_in (take j ys)
-        count = let many = was.enough in let e = ap finishes_in parts ∙ finishes_of_both xs (take j ys) in omega (arith, many, e)
+        count = let many = was.enough in let e = ap finishes_in parts ∙ finishes_append xs (take j ys) in omega (arith, many, e)
 
         found : last_or place (last_written xs place) (take j ys) ≡ value
         found = sym (ap (λ (l : List Written). last_written l place) parts ∙ last_of_both place 0 xs (take j ys)) ∙ was.last
@@ -77,7 +69,7 @@ cut xs ys place least value clean was = by (nat_le n (length xs)) refl
 
         after : (finishes_in (take j ys) ≤ finishes_in ys) × (last_or place (last_written xs place) (take j ys) ≡ last_or place (last_written xs place) ys) → WasLast xs place least value ⊎ IsWhole (xs ++ ys) place least value
         after more = inr record {
-          enough = (let few = more.0 in let e = finishes_of_both xs ys in omega (arith, count, few, e));
+          enough = (let few = more.0 in let e = finishes_append xs ys in omega (arith, count, few, e));
           last = last_of_both place 0 xs ys ∙ sym more.1 ∙ found;
         }
 
@@ -158,10 +150,6 @@ event_clean p h s (Lost t why words) = none_clean
 event_clean p h s (Close t) = none_clean
 
 -- ---- histories
-
-nothing_written : (p : PlansData) (s : ℕ) → written p [] s ≡ []
-unfolding written
-nothing_written p s = refl
 
 module _ (p : PlansData) (s : ℕ) (dump : ℕ × ℕ) (value : ℕ) where
   abbrev least : ℕ

@@ -1,5 +1,6 @@
 -- The dumps of a plan, as a client comes to them.
 use Rattle.std.proofs.Common.{◌≡◌, ℕ, ◌+◌, ◌≤◌, ◌<◌, eqb, Bool, true, false, cond, Option, None, Some, List, [], ◌∷◌, ◌++◌, length, refl, sym, ap, subst, ◌∙◌, arith}
+use Rattle.std.proofs.lemmas.Bool.{lt-ltb, le-ltb}
 use Rattle.std.specs.Prelude.{nat_lt, slice_get, option_to_list, IfSome}
 use Rattle.std.specs.List.{All}
 use Rattle.std.proofs.lemmas.Bool.Decides.{nat_tests}
@@ -10,18 +11,12 @@ use Rattle.gpu_plan.specs.declared.plan.Action.TheVariants.{Finish}
 use Rattle.gpu_plan.specs.Plans.{IsDump, RiseFrom}
 use Rattle.gpu_threads.specs.Clients.{dumps_to, due_in}
 
-not_below : (a b : ℕ) → b ≤ a → nat_lt a b ≡ false
-not_below a b le = grind (arith, nat_tests)
-
-is_below : (a b : ℕ) → a < b → nat_lt a b ≡ true
-is_below a b lt = grind (arith, nat_tests)
-
 -- none of them is before the first
 pub none_before : (r k : ℕ) (dumps : List (ℕ × ℕ)) → RiseFrom r dumps → k ≤ r → dumps_to k dumps ≡ []
 none_before r k [] rise le = refl
 none_before r k (dump ∷ dumps) rise le =
     let first = rise.0 in
-    ap (λ (b : Bool). cond b (dump ∷ dumps_to k dumps) (dumps_to k dumps)) (not_below dump.0 k (omega (arith, first, le))) ∙ none_before (dump.0 + 1) k dumps rise.1 (omega (arith, first, le))
+    ap (λ (b : Bool). cond b (dump ∷ dumps_to k dumps) (dumps_to k dumps)) (le-ltb dump.0 k (omega (arith, first, le))) ∙ none_before (dump.0 + 1) k dumps rise.1 (omega (arith, first, le))
 
 -- with one action more there is the next dump, where it is of that action
 pub next_dumps : (r k : ℕ) (dumps : List (ℕ × ℕ)) → RiseFrom r dumps → dumps_to (k + 1) dumps ≡ dumps_to k dumps ++ option_to_list (due_in (slice_get dumps (length (dumps_to k dumps))) k)
@@ -30,12 +25,12 @@ next_dumps r k (dump ∷ dumps) rise = by (nat_lt dump.0 k) refl (next_dumps (du
   where
     at : dump.0 ≡ k → cond (nat_lt dump.0 (k + 1)) (dump ∷ dumps_to (k + 1) dumps) (dumps_to (k + 1) dumps) ≡ dump ∷ []
     at same =
-        ap (λ (b : Bool). cond b (dump ∷ dumps_to (k + 1) dumps) (dumps_to (k + 1) dumps)) (is_below dump.0 (k + 1) (omega (arith, same)))
+        ap (λ (b : Bool). cond b (dump ∷ dumps_to (k + 1) dumps) (dumps_to (k + 1) dumps)) (lt-ltb dump.0 (k + 1) (omega (arith, same)))
         ∙ ap (λ (l : List (ℕ × ℕ)). dump ∷ l) (none_before (dump.0 + 1) (k + 1) dumps rise.1 (omega (arith, same)))
 
     past : k < dump.0 → cond (nat_lt dump.0 (k + 1)) (dump ∷ dumps_to (k + 1) dumps) (dumps_to (k + 1) dumps) ≡ []
     past more =
-        ap (λ (b : Bool). cond b (dump ∷ dumps_to (k + 1) dumps) (dumps_to (k + 1) dumps)) (not_below dump.0 (k + 1) (omega (arith, more)))
+        ap (λ (b : Bool). cond b (dump ∷ dumps_to (k + 1) dumps) (dumps_to (k + 1) dumps)) (le-ltb dump.0 (k + 1) (omega (arith, more)))
         ∙ none_before (dump.0 + 1) (k + 1) dumps rise.1 (omega (arith, more))
 
     here : k ≤ dump.0 → (b : Bool) → eqb dump.0 k ≡ b → cond (nat_lt dump.0 (k + 1)) (dump ∷ dumps_to (k + 1) dumps) (dumps_to (k + 1) dumps) ≡ option_to_list (cond b (Some dump) None)
@@ -47,7 +42,7 @@ next_dumps r k (dump ∷ dumps) rise = by (nat_lt dump.0 k) refl (next_dumps (du
         ≡ cond b (dump ∷ dumps_to k dumps) (dumps_to k dumps) ++ option_to_list (due_in (slice_get (dump ∷ dumps) (length (cond b (dump ∷ dumps_to k dumps) (dumps_to k dumps)))) k)
     by true q rest =
         let lt : dump.0 < k = grind (arith, nat_tests) in
-        ap (λ (b : Bool). cond b (dump ∷ dumps_to (k + 1) dumps) (dumps_to (k + 1) dumps)) (is_below dump.0 (k + 1) (omega (arith, lt))) ∙ ap (λ (l : List (ℕ × ℕ)). dump ∷ l) rest
+        ap (λ (b : Bool). cond b (dump ∷ dumps_to (k + 1) dumps) (dumps_to (k + 1) dumps)) (lt-ltb dump.0 (k + 1) (omega (arith, lt))) ∙ ap (λ (l : List (ℕ × ℕ)). dump ∷ l) rest
     by false q rest =
         let le : k ≤ dump.0 = grind (arith, nat_tests) in
         let none = none_before (dump.0 + 1) k dumps rise.1 (omega (arith, le)) in

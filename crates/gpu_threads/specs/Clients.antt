@@ -1,5 +1,5 @@
 -- What contracts see of a client on a thread, and what it keeps.
-use Rattle.std.specs.Prelude.{◌≡◌, ℕ, ◌+◌, ◌<◌, ◌≤◌, ◌==◌, nat_lt, List, ◌++◌, length, map, take, Option, Some, None, MatchOption, IfSome, option_to_list, slice_index_or, if◌then◌else◌}
+use Rattle.std.specs.Prelude.{◌≡◌, ℕ, ◌+◌, ◌<◌, ◌≤◌, ◌==◌, nat_lt, List, ◌++◌, length, map, Option, Some, None, MatchOption, IfSome, option_to_list, slice_index_or, if◌then◌else◌}
 use Rattle.std.specs.List.{All, filter}
 use Rattle.atomic_table.specs.Seated.{TableId}
 use Rattle.gpu_cmd.specs.Spans.{words_in}
@@ -12,6 +12,7 @@ use Rattle.flush_queue.specs.Seen.{EndData, one_more, note_of}
 use Rattle.flush_queue.specs.Clients.{HasPostedAll}
 use Rattle.result_words.specs.Seen.{ReaderData}
 use Rattle.gpu_house.specs.Names.{table_at}
+use Rattle.gpu_run.specs.Clients.{flushes_to}
 
 -- its stream, its pass, its end of the queue, a note that is still to be posted, its reader, the dump that it is to read next, and
 -- what it has read: the action place, the result place and the value of each dump
@@ -51,13 +52,9 @@ due_in (Some dump) action = if dump.0 == action then Some dump else None
 abbrev pub dump_of : ℕ × ℕ × ℕ → ℕ × ℕ
 dump_of read = (read.0, read.1)
 
--- how many finishes the read of a dump asks for: as many as flushes stand before its action
-abbrev pub asked_for : PlanData → ℕ → ℕ
-asked_for plan action = flushes (take action plan.actions)
-
--- what the reader was asked for a dump, and gave
+-- what the reader was asked for a dump, and gave; the read asks for as many finishes as flushes stand before the dump's action
 abbrev pub read_for : PlanData → ℕ × ℕ × ℕ → ℕ × ℕ × ℕ
-read_for plan read = (read.1, asked_for plan read.0, read.2)
+read_for plan read = (read.1, flushes_to plan read.0, read.2)
 
 -- the dumps that were read and then the one that is due are, in order, those of the plan whose actions the pass has done; the reader
 -- was asked for them and for nothing else; and it has every result place of the plan
@@ -77,7 +74,7 @@ pub record IsCounted (pass : seen.ClientData) (due : Option (ℕ × ℕ)) (plann
   pub few : length pass.plan.actions ≤ 1000000
   pub place : position ≡ pass.done
   pub count : flushed ≡ flushes_before pass
-  pub due_asks : IfSome due (λ dump. flushed ≡ asked_for pass.plan dump.0)
+  pub due_asks : IfSome due (λ dump. flushed ≡ flushes_to pass.plan dump.0)
   pub due_there : IfSome due (λ dump. dump.1 < words_in pass.plan.areas.results)
   pub room_is : length planned ≤ room
 

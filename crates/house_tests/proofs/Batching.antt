@@ -17,9 +17,9 @@ use Rattle.gpu_house.specs.Committing.{Stage, AreDone, IsStill, HaveGone, Commit
 use Rattle.gpu_house.specs.declared.answers.Next.{Next}
 use Rattle.gpu_house.specs.declared.answers.Next.TheVariants.{More, Paused, FlushEnd, Invalid, Closed}
 use Rattle.gpu_house.specs.declared.answers.Next.TheVariants as nexts
+use Rattle.gpu_house.proofs.Going.{goes_further}
 use Rattle.house_tests.specs.Alone.{ordered, AllBelong, IsOut}
 use Rattle.house_tests.proofs.Belonging.{still}
-use Rattle.house_tests.proofs.Turning.{goes_further}
 
 -- ---- how many flushes are ordered
 

@@ -1,6 +1,6 @@
 -- What the house of one stream has belongs with its words: after an order, while a run is out, and once it is at home.
 use Rattle.std.proofs.Common.{◌≡◌, ℕ, Bool, true, false, cond, Option, Some, None, List, [], ◌∷◌, ◌++◌, length, drop, refl, sym, ap, subst, ◌∙◌}
-use Rattle.std.proofs.lemmas.List.Elements.{All-head, All-tail, All-push, All-weaker, All-nil}
+use Rattle.std.proofs.lemmas.List.Elements.{All-tail, All-push, All-weaker, All-nil}
 use Rattle.std.specs.Prelude.{slice_get, IfSome}
 use Rattle.std.specs.List.{All}
 use Rattle.gpu_fetch.specs.Side.{SideData}
@@ -8,6 +8,7 @@ use Rattle.gpu_house.specs.Slots.{SlotData, slot_at, with_slot, note_ahead, left
 use Rattle.gpu_house.specs.House.{HouseData, OutData}
 use Rattle.gpu_house.specs.Changes.{StillBelongs, CameDone, WroteResults, ResultsBelong, with_note, with_side, with_done}
 use Rattle.gpu_house.specs.Making.{fresh_slots}
+use Rattle.gpu_house.proofs.Sides.{first_of}
 use Rattle.house_tests.specs.Alone.{AllBelong, IsHome, IsOut}
 
 module _ {Side Note Results Words : Type 0} (belongs : Side → Words → Type 0) (note_belongs : Side → Words → Note → Type 0) (results_belong : Words → Results → Type 0) (words : Words) where
@@ -46,10 +47,6 @@ module _ {Side Note Results Words : Type 0} (belongs : Side → Words → Type 0
       }
 
   -- ---- a run leaves
-
-  first_of : (P : Note → Type 0) (notes : List Note) → All P notes → IfSome (slice_get notes 0) P
-  first_of P [] all = tt
-  first_of P (x ∷ xs) all = All-head P x xs all
 
   rest_of : (P : Note → Type 0) (notes : List Note) → All P notes → All P (drop 1 notes)
   rest_of P [] all = all

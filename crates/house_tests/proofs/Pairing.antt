@@ -1,8 +1,7 @@
 -- A house of two streams: what it is made of, its two orders, and its second stream, which is at home.
 use Rattle.std.proofs.Common.{◌≡◌, ℕ, ◌<◌, Bool, true, false, cond, Option, Some, None, List, [], ◌∷◌, ◌++◌, length, get_or, refl, sym, ap, subst, ◌∙◌, arith}
-use Rattle.std.proofs.lemmas.List.Elements.{All-push, All-nil, All-head}
+use Rattle.std.proofs.lemmas.List.Elements.{All-push, All-nil}
 use Rattle.std.specs.Prelude.{slice_get, IfSome}
-use Rattle.std.specs.List.{All}
 use Rattle.atomic_table.specs.Seated.{TableId}
 use Rattle.gpu_plan.specs.Plans.{PlansData, PlanData, plan_of, no_plan}
 use Rattle.gpu_plan.specs.Passes.{flushes}
@@ -16,6 +15,7 @@ use Rattle.gpu_house.specs.Slots.{SlotData, slot_at, note_ahead}
 use Rattle.gpu_house.specs.House.{HouseData}
 use Rattle.gpu_house.specs.Changes.{Same, Appends, ResultsBelong, with_note}
 use Rattle.gpu_house.specs.Making.{AreFreshResults, fresh_slots}
+use Rattle.gpu_house.proofs.Sides.{first_of}
 use Rattle.house_tests.specs.Alone.{AllBelong}
 use Rattle.house_tests.specs.Pair.{SecondIsHome}
 use Rattle.house_tests.proofs.Flushing.{flush_left, flush_mark}
@@ -94,10 +94,6 @@ module _ {Side Note Results Words : Type 0} (belongs : Side → Words → Type 0
         slot = subst (λ (m : List Slot). SlotBelongs (slot_at m 2)) (sym row) record { its_side = its; its_first = tt; its_notes = All-push (note_belongs b words) [] y (All-nil (note_belongs b words)) its_note };
         results = subst (λ (list : List Results). ResultsBelong results_belong words list 2) (sym (m ∙ l ∙ k ∙ two_results)) its_results;
       }
-
-  first_of : (P : Note → Type 0) (notes : List Note) → All P notes → IfSome (slice_get notes 0) P
-  first_of P [] all = tt
-  first_of P (x ∷ xs) all = All-head P x xs all
 
   note_there : (slot : Slot) (side : Side) → Some side ≡ slot.side → SlotBelongs slot → IfSome (note_ahead slot) (note_belongs side words)
   note_there slot side own h = by slot.begun (subst (λ (o : Option Side). IfSome o (λ x. AllBelong belongs note_belongs words x slot.first slot.notes)) (sym own) h)

@@ -1,11 +1,11 @@
 -- One turn of a run of the one stream.
-use Rattle.std.proofs.Common.{◌≡◌, ℕ, ◌+◌, Bool, true, false, not, ◌&&◌, Option, None, List, ◌∷◌, ◌++◌, length, refl, sym, ap, subst, ◌∙◌, arith}
-use Rattle.std.proofs.lemmas.Bool.{and_right}
+use Rattle.std.proofs.Common.{◌≡◌, ℕ, ◌+◌, Bool, true, false, not, Option, None, List, ◌∷◌, ◌++◌, length, refl, sym, ap, subst, ◌∙◌, arith}
+use Rattle.std.proofs.lemmas.Bool.{not-true}
 use Rattle.std.proofs.lemmas.List.{length-append}
 use Rattle.gpu_cmd.specs.declared.error.CmdError.{CmdError}
 use Rattle.gpu_plan.specs.Plans.{PlansData}
 use Rattle.gpu_fetch.specs.Side.{SideData}
-use Rattle.sync_core.specs.Standing.{Standing, is_open}
+use Rattle.sync_core.specs.Standing.{is_open}
 use Rattle.gpu_journal.specs.declared.event.Event.{Event}
 use Rattle.gpu_journal.specs.declared.event.Event.TheVariants.{Step, Finish, Lost}
 use Rattle.gpu_journal.specs.declared.event.Why.TheVariants.{Error}
@@ -23,6 +23,7 @@ use Rattle.gpu_house.specs.Steps.{Steps}
 use Rattle.gpu_house.specs.declared.answers.Next.{Next}
 use Rattle.gpu_house.specs.declared.answers.Next.TheVariants.{More, Paused, FlushEnd, Invalid, Closed}
 use Rattle.gpu_house.specs.declared.answers.Next.TheVariants as nexts
+use Rattle.gpu_house.proofs.Going.{goes_further, not_lost, not_closed}
 use Rattle.house_tests.specs.Alone.{ordered, AllBelong, IsOut}
 use Rattle.house_tests.proofs.Belonging.{still}
 
@@ -37,30 +38,6 @@ finish_orders p h g s n true one event over = ap (ordered p) (event refl ∙ ap 
 finish_orders p h g s n false one event over = ap (ordered p) (over refl)
 
 -- ---- the answers of a step
-
--- whether the run goes on
-abbrev pub goes_further : Next → Bool
-goes_further More = true
-goes_further Paused = false
-goes_further FlushEnd = true
-goes_further (Invalid error) = false
-goes_further nexts.Lost = false
-goes_further Closed = false
-
--- what is neither of the answers to go on is one to stop
-pub stops : (next : Next) → (next ≡ More → ⊥) → (next ≡ FlushEnd → ⊥) → goes_further next ≡ false
-stops More not_more not_end = absurd (not_more refl)
-stops Paused not_more not_end = refl
-stops FlushEnd not_more not_end = absurd (not_end refl)
-stops (Invalid error) not_more not_end = refl
-stops nexts.Lost not_more not_end = refl
-stops Closed not_more not_end = refl
-
-not_lost : (x : Standing) → is_open x ≡ true → x.lost ≡ true → ⊥
-not_lost x o lost = let off : is_open x ≡ false = ap (λ (b : Bool). not b && not x.closed) lost in cc
-
-not_closed : (x : Standing) → is_open x ≡ true → x.closed ≡ true → ⊥
-not_closed x o closed = let off : is_open x ≡ false = ap (λ (b : Bool). not x.lost && not b) closed ∙ and_right (not x.lost) false refl in cc
 
 module _ {Side Note Results Words : Type 0} (belongs : Side → Words → Type 0) (note_belongs : Side → Words → Note → Type 0) (results_belong : Words → Results → Type 0) (seen : Side → SideData) (words : Words) where
   -- a run that has fetched the words of its next command
@@ -118,16 +95,12 @@ module _ {Side Note Results Words : Type 0} (belongs : Side → Words → Type 0
         let fetches : length (seen now.side).fetched ≡ now.run.facts.fetched = (let l = ap length list in let old = has.count in let more = moved.fetched in omega (arith, l, old, more)) in
         record {
           stream = moved.stream ∙ has.stream;
-          on = λ m. record { stream = moved.stream ∙ has.stream; going = moved.paused ∙ back kept m; list = fetches; all = all_now met; results = results_now };
+          on = λ m. record { stream = moved.stream ∙ has.stream; going = moved.paused ∙ not-true kept m; list = fetches; all = all_now met; results = results_now };
           list = λ _. fetches;
           all = all_now met;
           results = results_now;
           same = ap (ordered p) (past ∙ ap (λ (t : ℕ). Step t found ∷ h) has.stream) ∙ step_ordered p h 1 found;
         }
-      where
-        back : (b : Bool) → not b ≡ true → b ≡ false
-        back true e = absurd (cc)
-        back false e = refl
 
     stepped_lost : (error : CmdError) → new.core.past ≡ Lost s (Error error) found ∷ h → now.run ≡ run.run → now.note ≡ None → HasStepped p house new now false
     stepped_lost error past same met =

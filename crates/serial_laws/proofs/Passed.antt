@@ -33,7 +33,7 @@ lawful_of p (suc k) lawful known = (lawful.each k no_plan (let a = known.1 in om
 
 -- ---- what is ordered, the client has passed
 
-abbrev is_order : Event → Bool
+abbrev pub is_order : Event → Bool
 is_order (Order s n c) = true
 is_order _ = false
 
@@ -44,7 +44,8 @@ ordered_own p (Finish s n) w k e = refl
 ordered_own p (Lost s why words) w k e = refl
 ordered_own p (Close s) w k e = refl
 
-ordered_same : (p : PlansData) (e : Event) (h : List Event) (t : ℕ) → is_order e ≡ false → (known p (e ∷ h) t).ordered ≡ (known p h t).ordered
+-- an event that is no order leaves the number of orders
+pub ordered_same : (p : PlansData) (e : Event) (h : List Event) (t : ℕ) → is_order e ≡ false → (known p (e ∷ h) t).ordered ≡ (known p h t).ordered
 ordered_same p e h t none = by (eqb (stream_in e) t) refl
   where
     own : (known p (e ∷ h) (stream_in e)).ordered ≡ (known p h (stream_in e)).ordered

@@ -10,10 +10,6 @@ use Rattle.gpu_threads.proofs.Crew.{head_at, tail_from}
 use Rattle.gpu_threads.proofs.Told.{one_more_read}
 use Rattle.gpu_threads.proofs.reading.all_read.Goals as goal
 
-none_of : {X : Type 0} (xs : List X) → length xs ≡ 0 → xs ≡ []
-none_of [] none = refl
-none_of (x ∷ xs) none = absurd (omega (arith, none))
-
 one_longer : {X : Type 0} (old now : List X) (x : X) → now ≡ old ++ x ∷ [] → length now ≡ length old + 1
 one_longer old now x pushed = ap length pushed ∙ length_push old x
 

@@ -2,9 +2,10 @@ use Rattle.std.proofs.Common.{sym, ap, subst, ◌∙◌}
 use Rattle.sync_core.specs.Standing.{is_open}
 use Rattle.gpu_journal.specs.Waits.{standing_of}
 use Rattle.gpu_house.specs.Changes.{ResultsBelong}
+use Rattle.gpu_house.proofs.Going.{goes_further}
 use Rattle.house_tests.specs.Alone.{ordered}
 use Rattle.house_tests.proofs.Belonging.{back_home}
-use Rattle.house_tests.proofs.Turning.{HasStepped, fetched, stepped, finish_orders, goes_further}
+use Rattle.house_tests.proofs.Turning.{HasStepped, fetched, stepped, finish_orders}
 use Rattle.house_tests.proofs.tests.drive.turn.Given.{Over}
 use Rattle.house_tests.proofs.tests.drive.turn.Goals as goal
 

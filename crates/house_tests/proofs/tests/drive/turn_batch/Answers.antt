@@ -3,9 +3,10 @@ use Rattle.sync_core.specs.Standing.{is_open}
 use Rattle.gpu_journal.specs.Waits.{standing_of}
 use Rattle.gpu_house.specs.Changes.{ResultsBelong}
 use Rattle.gpu_house.specs.Batches.{member_words, batch_words}
+use Rattle.gpu_house.proofs.Going.{goes_further}
 use Rattle.house_tests.specs.Alone.{ordered}
 use Rattle.house_tests.proofs.Belonging.{back_home}
-use Rattle.house_tests.proofs.Turning.{fetched, finish_orders, goes_further}
+use Rattle.house_tests.proofs.Turning.{fetched, finish_orders}
 use Rattle.house_tests.proofs.Batching.{HasCommitted, committed, lose_orders}
 use Rattle.house_tests.proofs.tests.drive.turn_batch.Given.{Over}
 use Rattle.house_tests.proofs.tests.drive.turn_batch.Goals as goal
