@@ -26,7 +26,8 @@ stepped s w p h =
     let met = h.met in
     record { plan = h.plan; met = omega arith; within = bound_one_further s.plan.actions w.done s.finished (s.greatest ∷ []) h.within here }
 
-put_passes : (f g : ℕ) (ts : List ℕ) (a : Option Action) → IsSomeAnd a IsPut → passes_if_there f g ts a ≡ true
+-- a put passes, whatever is finished
+pub put_passes : (f g : ℕ) (ts : List ℕ) (a : Option Action) → IsSomeAnd a IsPut → passes_if_there f g ts a ≡ true
 put_passes f g ts None h = absurd h
 put_passes f g ts (Some (Put place value)) h = refl
 put_passes f g ts (Some (Flush put fences)) h = absurd h

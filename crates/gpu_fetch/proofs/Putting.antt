@@ -9,20 +9,9 @@ use Rattle.gpu_plan.specs.declared.plan.Action.TheVariants.{Put, Flush, Finish, 
 use Rattle.gpu_plan.specs.Plans.{PlanData}
 use Rattle.gpu_plan.specs.Passes.{flushes, passes, passes_if_there, bound}
 use Rattle.gpu_plan.proofs.Passing.{bound_one_further}
+use Rattle.gpu_fetch.proofs.Beside.{put_passes}
 use Rattle.gpu_fetch.specs.Side.{SideData}
 use Rattle.gpu_fetch.specs.Plain.{PlainData, ArePuts, IsNext, IsPut, IsBeside, IsNoteBeside}
-
-some_put : (o : Option Action) → IsSomeAnd o IsPut → (before f : ℕ) (tokens : List ℕ) → passes_if_there before f tokens o ≡ true
-some_put None is before f tokens = absurd is
-some_put (Some (Put place value)) is before f tokens = refl
-some_put (Some (Flush put fences)) is before f tokens = refl
-some_put (Some Finish) is before f tokens = absurd is
-some_put (Some (Token token)) is before f tokens = absurd is
-some_put (Some Close) is before f tokens = absurd is
-
--- it passes, whatever is finished
-put_passes : (actions : List Action) (k f : ℕ) (tokens : List ℕ) → IsNext IsPut actions k → passes actions k f tokens ≡ true
-put_passes actions k f tokens is = some_put (slice_get actions k) is (flushes (take k actions)) f tokens
 
 -- none where nothing is between
 pub no_puts : (actions : List Action) (from : ℕ) → ArePuts actions from from
@@ -43,7 +32,7 @@ pub bound_puts : (actions : List Action) (from n f : ℕ) (tokens : List ℕ) �
 bound_puts actions from zero f tokens low puts = omega (arith, low)
 bound_puts actions from (suc n) f tokens low puts =
     let here = bound_puts actions from n f tokens low (fewer_puts actions from n puts) in
-    let one = bound_one_further actions (from + n) f tokens here (put_passes actions (from + n) f tokens (puts (from + n) (omega arith) (omega arith))) in
+    let one = bound_one_further actions (from + n) f tokens here (put_passes (flushes (take (from + n) actions)) f tokens (slice_get actions (from + n)) (puts (from + n) (omega arith) (omega arith))) in
     omega (arith, one)
 
 pub apart : (from to : ℕ) → from ≤ to → to ≡ from + (to - from)
