@@ -1,6 +1,7 @@
 -- Texts that are written one after the other.
-use Rattle.std.proofs.Common.{◌≡◌, ℕ, ◌+◌, ◌*◌, List, ◌++◌, refl, sym, ap, ◌∙◌, append_assoc}
+use Rattle.std.proofs.Common.{◌≡◌, ℕ, ◌+◌, ◌*◌, List, [], ◌++◌, refl, sym, ap, ◌∙◌, append_assoc}
 use Rattle.std.proofs.lemmas.Grind.{flat_map-append}
+use Rattle.std.proofs.lemmas.List.{append-nil}
 use Rattle.std.specs.Prelude.{codes}
 use Rattle.std.specs.Fmt.{digits}
 use Rattle.std.specs.List.{flat_map}
@@ -10,6 +11,19 @@ use Rattle.script_generator.specs.Generator.{number_text, value_text, wait_words
 -- one text behind another that was written behind it
 pub joined : (out one two text behind : List ℕ) → one ≡ out ++ text → two ≡ one ++ behind → two ≡ out ++ (text ++ behind)
 joined out one two text behind first second = second ∙ ap (λ texts. texts ++ behind) first ∙ append_assoc out text behind
+
+-- pieces that are written one after the other
+pub three_pieces : (out a b c : List ℕ) → ((out ++ a) ++ b) ++ c ≡ out ++ (a ++ (b ++ c))
+three_pieces out a b c = simp append_assoc
+
+pub four_pieces : (out a b c d : List ℕ) → (((out ++ a) ++ b) ++ c) ++ d ≡ out ++ (a ++ (b ++ (c ++ d)))
+four_pieces out a b c d = simp append_assoc
+
+pub five_pieces : (out a b c d e : List ℕ) → ((((out ++ a) ++ b) ++ c) ++ d) ++ e ≡ out ++ (a ++ (b ++ (c ++ (d ++ e))))
+five_pieces out a b c d e = simp append_assoc
+
+pub six_pieces : (out a b c d e f : List ℕ) → (((((out ++ a) ++ b) ++ c) ++ d) ++ e) ++ f ≡ out ++ (a ++ (b ++ (c ++ (d ++ (e ++ (f ++ []))))))
+six_pieces out a b c d e f = simp (append_assoc, append-nil)
 
 -- the pieces of a block are one text
 pub block_said : (out a b c d new : List ℕ) (stream round state d1 d2 d3 d4 d5 d6 other x y to_x to_y : ℕ)

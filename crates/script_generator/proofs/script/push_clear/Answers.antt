@@ -1,23 +1,11 @@
-use Rattle.std.proofs.Common.{[], ◌++◌, ◌∙◌, ap, sym}
 use Rattle.std.specs.Prelude.{codes}
 use Rattle.std.specs.Fmt.{digits}
 use Rattle.script_generator.specs.Generator.{value_text}
-use Rattle.std.proofs.lemmas.List.{append-nil}
-use Rattle.script_generator.proofs.Joining.{joined}
+use Rattle.script_generator.proofs.Joining.{six_pieces}
 use Rattle.script_generator.proofs.script.push_clear.Goals as goal
 
 pub returns : goal.returns
 unfolding digits
 returns c =
-    let out = c.args.out.now.items in
-    let l1 = c.extend_from_slice.new.self.items in
-    let l2 = c.push_value.new.out.items in
-    let l3 = c.push_value-2.new.out.items in
-    let l4 = c.push_value-3.new.out.items in
-    let l5 = c.extend_from_slice-2.new.self.items in
-    let l6 = c.push_value-4.new.out.items in
-    let w4 = joined l4 l5 l6 (codes " 1 1") (value_text c.args.texel ++ []) c.in_ok-extend_from_slice-2.ensures.items (c.in_ok-push_value-4.ensures ∙ ap (λ text. l5 ++ text) (sym (append-nil (value_text c.args.texel)))) in
-    let w3 = joined l3 l4 l6 (value_text c.args.y) (codes " 1 1" ++ (value_text c.args.texel ++ [])) c.in_ok-push_value-3.ensures w4 in
-    let w2 = joined l2 l3 l6 (value_text c.args.x) (value_text c.args.y ++ (codes " 1 1" ++ (value_text c.args.texel ++ []))) c.in_ok-push_value-2.ensures w3 in
-    let w1 = joined l1 l2 l6 (value_text c.args.stream) (value_text c.args.x ++ (value_text c.args.y ++ (codes " 1 1" ++ (value_text c.args.texel ++ [])))) c.in_ok-push_value.ensures w2 in
-    joined out l1 l6 (codes " 20800007") (value_text c.args.stream ++ (value_text c.args.x ++ (value_text c.args.y ++ (codes " 1 1" ++ (value_text c.args.texel ++ []))))) c.in_ok-extend_from_slice.ensures.items w1
+    rw (c.in_ok-push_value-4.ensures, c.in_ok-extend_from_slice-2.ensures.items, c.in_ok-push_value-3.ensures, c.in_ok-push_value-2.ensures, c.in_ok-push_value.ensures, c.in_ok-extend_from_slice.ensures.items)
+    (six_pieces c.args.out.now.items (codes " 20800007") (value_text c.args.stream) (value_text c.args.x) (value_text c.args.y) (codes " 1 1") (value_text c.args.texel))
