@@ -133,6 +133,7 @@ impl Carried {
     }
 
     /// The run of this order, whose flush stands at this place and ends at this put, leaves its desk.
+    #[inline(always)]
     pub fn take(
         desk: &mut Desk,
         plan: &Plan,

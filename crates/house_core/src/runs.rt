@@ -132,6 +132,7 @@ impl Core {
 
     /// Finishes the order of a run that is at its end, and takes the run back. Where its stream is lost or closed it only takes the
     /// run back. It takes no memory.
+    #[inline(always)]
     pub fn finish(&mut self, mut run: Carried)
         requires plan { IsOfPlans self.old.plans run }
         requires book { run.book ≡ book_at self.old.books run.stream }

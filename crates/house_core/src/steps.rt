@@ -46,6 +46,7 @@ impl Core {
     }
 
     // The journal notes the step of a command, which is executed.
+    #[inline(always)]
     fn enter_step(
         &mut self,
         run: &mut Carried,
