@@ -14,10 +14,14 @@ abbrev pub with_both : (ℕ → ℕ → Command) → Option ℕ → Option ℕ �
 with_both command (Some size) (Some seed) = Some (command size seed)
 with_both command _ _ = None
 
+-- the number of a word of one decimal digit, from one character to another
+abbrev pub digit_in : ℕ → ℕ → List ℕ → Option ℕ
+digit_in least most (digit ∷ []) = if nat_le least digit && nat_le digit most then Some (digit - 48) else None
+digit_in least most _ = None
+
 -- the number of workers that a word says: it is one of the words `0` to `8`
 abbrev pub workers_in : List ℕ → Option ℕ
-workers_in (digit ∷ []) = if nat_le 48 digit && nat_le digit 56 then Some (digit - 48) else None
-workers_in _ = None
+workers_in = digit_in 48 56
 
 -- what stands behind `--workers=` in a word
 abbrev pub behind_equals : List ℕ → Option (List ℕ)
@@ -29,8 +33,7 @@ run_with workers = if workers == 0 then Run else RunOnThreads workers 0
 
 -- the number of viewers that a word says: it is one of the words `1` to `4`
 abbrev pub views_in : List ℕ → Option ℕ
-views_in (digit ∷ []) = if nat_le 49 digit && nat_le digit 52 then Some (digit - 48) else None
-views_in _ = None
+views_in = digit_in 49 52
 
 -- a run with so many workers and viewers, where both are there; without workers there are no viewers
 abbrev pub viewed_with : Option ℕ → Option ℕ → Option Command

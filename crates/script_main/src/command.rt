@@ -1,7 +1,7 @@
-ghost use Rattle.std.specs.Prelude.{◌≡◌, ◌≤◌, Some, map, string_bytes, option_map, IfSome};
+ghost use Rattle.std.specs.Prelude.{◌≡◌, ◌≤◌, ◌+◌, Some, map, string_bytes, option_map, IfSome};
 ghost use Rattle.script_words.specs.Numbers.{decimal_of};
 ghost use Rattle.script_main.specs.declared.command.Command.TheVariants.{Generate, Trial};
-ghost use Rattle.script_main.specs.Commands.{sized, with_both, workers_in, behind_equals, run_with, views_in, viewed_with, of_one, of_two, of_workers, of_three, of_views, of_five, command_of, is_plain, IsSized};
+ghost use Rattle.script_main.specs.Commands.{sized, with_both, digit_in, workers_in, behind_equals, run_with, views_in, viewed_with, of_one, of_two, of_workers, of_three, of_views, of_five, command_of, is_plain, IsSized};
 ghost use Rattle.script_main.specs.Says.{reads};
 
 use script_words::decimal_u32;
@@ -79,18 +79,27 @@ fn of_one(name: &str) -> Option<Command>
     }
 }
 
+// The number that a word of one digit says, from one digit to another.
+fn digit_in(word: &[u8], least: u8, most: u8) -> Option<u32>
+    requires { 48 ≤ least }
+    ensures number { result ≡ digit_in least most word.now }
+    ensures range { IfSome result (λ number. 48 + number ≤ most) }
+{
+    let [digit] = word else {
+        return None;
+    };
+    if *digit < least || *digit > most {
+        return None;
+    }
+    Some(u32::from(*digit - b'0'))
+}
+
 // The number of workers that a word says, from 0 to 8.
 fn workers_in(word: &[u8]) -> Option<u32>
     ensures workers { result ≡ workers_in word.now }
     ensures range { IfSome result (λ workers. workers ≤ MOST_WORKERS) }
 {
-    let [digit] = word else {
-        return None;
-    };
-    if *digit < b'0' || *digit > b'8' {
-        return None;
-    }
-    Some(u32::from(*digit - b'0'))
+    digit_in(word, b'0', b'8')
 }
 
 // What stands behind `--workers=` in a word.
@@ -155,13 +164,7 @@ fn views_in(word: &[u8]) -> Option<u32>
     ensures views { result ≡ views_in word.now }
     ensures range { IfSome result (λ views. views ≤ MOST_VIEWS) }
 {
-    let [digit] = word else {
-        return None;
-    };
-    if *digit < b'1' || *digit > b'4' {
-        return None;
-    }
-    Some(u32::from(*digit - b'0'))
+    digit_in(word, b'1', b'4')
 }
 
 // The run with the workers and the viewers that two words say; with no worker there is none.
