@@ -294,9 +294,10 @@ fn run_named<N: Naming + Send + Sync, H: Hook + Send, G: Gate + Sync, R: Threads
     )
 }
 
-/// Runs a script on threads: one for the client of each stream, one for each worker, and one for each viewer. The journal that the report
-/// has is legal and complete. Beside it is what each viewer saw: 16 looks while the run went on, and one more at the whole journal. Then
-/// come the dumps of each stream, in order: what its client read of its results while the run went on. A lost stream has none.
+/// Runs a script on threads: one for the client of each stream, one for each of 1 to 8 workers, and one for each of up to 4
+/// viewers. The journal that the report has is legal and complete. Beside it is what each viewer saw: 16 looks while the run
+/// went on, and one more at the whole journal. Then come the dumps of each stream, in order: what its client read of its
+/// results while the run went on. A lost stream has none.
 ///
 /// A waiting client serves too, and a worker ends once no stream is open; so the run also ends where a machine does one job after the
 /// other. Where memory is wanted for a stream alone, that stream is lost, and its journal says so.
@@ -313,7 +314,9 @@ pub fn run_threads<H: Hook + Send, G: Gate + Sync, R: Threads + Wait + Sync>(
     hook: H,
     gate: &G,
 ) -> Result<(Report, Vec<Vec<Look>>, Vec<Dumps>), Memory>
-    requires { views ≤ 4 }
+    requires some_workers { 1 ≤ workers }
+    requires few_workers { workers ≤ 8 }
+    requires few_views { views ≤ 4 }
     ensures plans { IfOk result (λ ran. ran.0.plans ≡ plans) }
     ensures base { IfOk result (λ ran. ran.0.base ≡ H.base hook) }
     ensures legal { IfOk result (λ ran. IsLegal plans ran.0.past) }

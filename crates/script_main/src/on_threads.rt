@@ -32,7 +32,9 @@ fn run_plans<H: Hook + Send, G: Gate + Sync, R: Threads + Wait + Sync>(
     gate: &G,
     hook: H,
 ) -> Result<RunOutput, Memory>
-    requires { views ≤ 4 }
+    requires some_workers { 1 ≤ workers }
+    requires few_workers { workers ≤ 8 }
+    requires few_views { views ≤ 4 }
     ensures { IfOk result (λ run.
         IsOutput (IsViewedRun views) plans (H.base hook) (run_ending (reverse run.report.past))
         (run_text run)) }
@@ -52,7 +54,9 @@ fn run_answer<H: Hook + Send, G: Gate + Sync, R: Threads + Wait + Sync>(
     hook: H,
 ) -> Result<Answer, Memory>
     requires short { length input.now ≤ most_bytes }
-    requires views { views ≤ 4 }
+    requires some_workers { 1 ≤ workers }
+    requires few_workers { workers ≤ 8 }
+    requires few_views { views ≤ 4 }
     ensures { IfOk result (λ answer.
         Says (RunOnThreads workers views) (H.base hook) input.now (answer_ending answer)
         (answer_text answer)) }

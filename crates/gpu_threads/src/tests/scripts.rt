@@ -115,6 +115,9 @@ pub(crate) fn viewed<G: Gate + Sync, R: Threads + Wait + Sync>(
 ) -> Result<(Report, Vec<Vec<Look>>), Fail>
     requires { views ≤ 4 }
 {
+    if workers < 1 || workers > 8 {
+        return Err("a number of workers".into());
+    }
     let plans = plans_of(alloc, script)?;
     let ran = run_threads(rt, alloc, plans, workers, views, Marker::make(1000), gate).ok();
     let (report, looks, _) = ran.ok_or("memory is ample")?;
