@@ -2,6 +2,7 @@
 use Rattle.std.proofs.Common.{◌≡◌, ℕ, zero, suc, ◌+◌, ◌-◌, ◌≤◌, ◌⊎◌, inl, inr, Bool, true, false, cond, eqb, Some, List, length, refl, sym, ap, subst, ◌∙◌, arith, get_or, set}
 use Rattle.std.specs.Prelude.{◌||◌, slice_get, slice_index}
 use Rattle.std.specs.Bool.{Decides}
+use Rattle.std.proofs.lemmas.Bool.{eq-eqb}
 use Rattle.std.proofs.lemmas.Bool.Decides.{nat_tests}
 use Rattle.std.proofs.lemmas.List.{get_or-set_same, get_or-set_other}
 use Rattle.std.proofs.lemmas.Option.{slice_get_within, slice_get-get_or}
@@ -81,9 +82,6 @@ may_hold_cases actions least most place value within m =
 pub holds_at_least : (actions : List Action) (least most place value : ℕ) → least ≤ most → value_at actions least place ≡ value → MayHold actions least most place value
 holds_at_least actions least most place value within held = record { done = least; since = omega arith; until = within; held = held }
 
-self : (n : ℕ) → eqb n n ≡ true
-self n = grind (arith, nat_tests)
-
 pub holds_when_put : (actions : List Action) (least most place value : ℕ) → PutBetween actions least most place value → MayHold actions least most place value
 holds_when_put actions least most place value put =
     let since = put.since in
@@ -92,7 +90,7 @@ holds_when_put actions least most place value put =
       done = put.at + 1;
       since = omega arith;
       until = omega arith;
-      held = value_one_further actions put.at place (Put place value) put.put ∙ ap (λ (b : Bool). cond b value (value_at actions put.at place)) (self place);
+      held = value_one_further actions put.at place (Put place value) put.put ∙ ap (λ (b : Bool). cond b value (value_at actions put.at place)) (eq-eqb place place refl);
     }
 
 either_decides : {P A B : Type 0} (a b : Bool) → Decides a A → Decides b B → (A → P) → (B → P) → (P → A ⊎ B) → Decides (a || b) P

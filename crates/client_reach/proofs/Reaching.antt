@@ -5,6 +5,7 @@ use Rattle.std.specs.Bool.{Decides}
 use Rattle.std.specs.List.{All}
 use Rattle.std.specs.Ordering.{is_eq}
 use Rattle.std.proofs.Math.Nat.{eq-or-lt_of_le}
+use Rattle.std.proofs.lemmas.Bool.{eq-eqb}
 use Rattle.std.proofs.lemmas.Bool.Decides.{nat_tests}
 use Rattle.std.proofs.lemmas.List.{get_or-set_same, get_or-set_other, length-set}
 use Rattle.std.proofs.lemmas.Option.{slice_get_within}
@@ -100,14 +101,11 @@ older_tells from done last end value o since below = by (eqb last value) (ltb do
         let no : leb from (end - 1) ≡ false = grind (arith, nat_tests) in
         no ∙ sym ed
 
-self : (n : ℕ) → eqb n n ≡ true
-self n = grind (arith, nat_tests)
-
 -- the test of the puts at a place once this was put there
 test_here : (done p v from value : ℕ) (old : Reached) → p < length old.values → p < length old.ends → done ≤ from → (has_since from old p value ≡ true → from < slice_index old.ends p)
     → ((eqb (get_or (set old.values p v) p 0) value && ltb from (get_or (set old.ends p (old.upto + 1)) p 0)) || is_since from (older_with done p old p value)) ≡ ((eqb v value && ltb from (old.upto + 1)) || has_since from old p value)
 test_here done p v from value old valued ended since below =
-    rw (get_or-set_same old.values p v 0 valued, get_or-set_same old.ends p (old.upto + 1) 0 ended, self p)
+    rw (get_or-set_same old.values p v 0 valued, get_or-set_same old.ends p (old.upto + 1) 0 ended, eq-eqb p p refl)
     (ap (λ (b : Bool). (eqb v value && ltb from (old.upto + 1)) || b) (older_tells from done (slice_index old.values p) (slice_index old.ends p) value (last_of old.older p value) since below))
 
 -- and of those at another place

@@ -1,5 +1,6 @@
 -- A legal history loses each stream once at most.
 use Rattle.std.proofs.Common.{◌≡◌, ℕ, zero, suc, ◌+◌, ◌<◌, ◌≤◌, eqb, Bool, true, false, not, ◌&&◌, cond, List, [], ◌∷◌, length, refl, sym, ap, subst, ◌∙◌, arith}
+use Rattle.std.proofs.lemmas.Bool.{eqb-true}
 use Rattle.std.specs.List.{count_by, range_with_len}
 use Rattle.std.proofs.lemmas.Bool.Decides.{nat_tests}
 use Rattle.std.proofs.lemmas.List.Sums.{sum_by-cons}
@@ -14,7 +15,7 @@ use Rattle.gpu_journal.specs.Waits.{deed, sync_of, standing_of, drawn}
 use Rattle.gpu_journal.specs.Output.{streams_of}
 use Rattle.gpu_journal.specs.Facts.{place_of}
 use Rattle.gpu_journal.specs.Legal.{Obeys, IsLegal}
-use Rattle.serial_laws.proofs.Others.{moved_by, standing_own, standing_other, along}
+use Rattle.serial_laws.proofs.Others.{moved_by, standing_own, standing_other}
 use Rattle.serial_laws.proofs.Fitting.{open_of_left, fits}
 use Rattle.serial_laws.proofs.Spent.{obeys_known, asked_same}
 use Rattle.generated_scripts.specs.Trials.{is_loss, losses}
@@ -66,7 +67,7 @@ module _ (new old : ℕ → Bool) (s : ℕ) (was : old s ≡ false) (is : new s 
     where
       by : (b : Bool) → eqb s from ≡ b → (from + 1 ≤ s → count_by new (range_with_len (from + 1) count) ≡ count_by old (range_with_len (from + 1) count) + 1)
           → count_by new (from ∷ range_with_len (from + 1) count) ≡ count_by old (from ∷ range_with_len (from + 1) count) + 1
-      by true e next = one_here from count (along s from e)
+      by true e next = one_here from count (eqb-true s from e)
       by false e next =
           let apart : s ≡ from → ⊥ = grind (arith, nat_tests) in
           let rest : count_by new (range_with_len (from + 1) count) ≡ count_by old (range_with_len (from + 1) count) + 1 = next (omega arith) in
@@ -90,7 +91,7 @@ kept p e h none t = by (eqb (stream_in e) t) refl
     own = ap (λ (x : Standing). x.lost) (standing_own p e h) ∙ own_kept p e h (drawn p h + 1) (standing_of p h (stream_in e)) none
 
     by : (b : Bool) → eqb (stream_in e) t ≡ b → (standing_of p (e ∷ h) t).lost ≡ (standing_of p h t).lost
-    by true is = subst (λ (t : ℕ). (standing_of p (e ∷ h) t).lost ≡ (standing_of p h t).lost) (along (stream_in e) t is) own
+    by true is = subst (λ (t : ℕ). (standing_of p (e ∷ h) t).lost ≡ (standing_of p h t).lost) (eqb-true (stream_in e) t is) own
     by false is = ap (λ (x : Standing). x.lost) (standing_other p e h t is)
 
 not_lost : (lost closed : Bool) → (not lost && not closed) ≡ true → lost ≡ false

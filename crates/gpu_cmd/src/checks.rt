@@ -221,8 +221,8 @@ impl Command {
     }
 }
 
-// How many bytes the texels of a rectangle take.
-fn texels_bytes(w: u32, h: u32, format: u32) -> u128
+/// How many bytes the texels of a rectangle take in a format, by its number; none where the number is no format's.
+pub fn texels_bytes(w: u32, h: u32, format: u32) -> u128
     ensures bytes { result ≡ w * h * texel_bytes format }
     ensures small { result < 2 ^ 67 }
 {

@@ -17,6 +17,7 @@ mod shape;
 mod table;
 
 pub use areas::{Areas, Span, span_at, words_in};
+pub use checks::texels_bytes;
 pub use command::Command;
 pub use decoded::{Decoded, decode};
 pub use error::CmdError;

@@ -5,3 +5,4 @@ pub mod Fetching
 pub mod Cutting
 pub mod Parts
 pub mod Stirring
+pub mod Counting

@@ -1,5 +1,6 @@
 -- The takers of a hall fit its journal again after each call.
 use Rattle.std.proofs.Common.{◌≡◌, ⊎_elim, ℕ, suc, ◌+◌, ◌-◌, ◌<◌, eqb, Bool, true, false, Option, Some, None, List, [], ◌∷◌, length, get_or, set, refl, sym, ap, subst, ◌∙◌, arith, length-set}
+use Rattle.std.proofs.lemmas.Bool.{eqb-true}
 use Rattle.std.specs.Prelude.{slice_index_or}
 use Rattle.atomic_table.specs.Seated.{TableId}
 use Rattle.gpu_plan.specs.Plans.{PlansData, PlanData, plan_of}
@@ -7,6 +8,7 @@ use Rattle.gpu_plan.specs.Passes.{flushes}
 use Rattle.flush_queue.specs.Seen.{EndData, one_more}
 use Rattle.sync_core.specs.Standing.{Standing, IsKnown, is_open}
 use Rattle.sync_core.specs.Events as sync
+use Rattle.sync_core.proofs.Rows.{position_of}
 use Rattle.gpu_journal.specs.declared.event.Event.{Event}
 use Rattle.gpu_journal.specs.declared.event.Event.TheVariants.{Lost}
 use Rattle.gpu_journal.specs.declared.event.Why.TheVariants.{Memory}
@@ -14,11 +16,11 @@ use Rattle.gpu_journal.specs.World.{Known, stream_in, known, world}
 use Rattle.gpu_journal.specs.Waits.{standing_of, deed, drawn}
 use Rattle.gpu_journal.specs.Legal.{IsLegal}
 use Rattle.gpu_journal.specs.Serial.{order_event}
-use Rattle.serial_laws.proofs.Others.{along, moved_by, standing_own, standing_other, known_own, known_other}
+use Rattle.serial_laws.proofs.Others.{moved_by, standing_own, standing_other, known_own, known_other}
 use Rattle.serial_laws.proofs.Flushes.{flush_there}
 use Rattle.serial_laws.proofs.Passed.{is_order, ordered_same}
 use Rattle.run_laws.proofs.Ended.{next_open}
-use Rattle.gpu_house.proofs.Rows.{each_set, position_of}
+use Rattle.gpu_house.proofs.Rows.{each_set}
 use Rattle.gpu_hall.specs.Takers.{TakerFits, QueuesFit}
 use Rattle.gpu_hall.specs.Collecting.{OrderedOrLost}
 
@@ -39,7 +41,7 @@ kept_before p e h t kept = by (eqb (stream_in e) t) refl
   where
     by : (b : Bool) → eqb (stream_in e) t ≡ b → (standing_of p h t).lost ≡ false
     by true q =
-        let at = along (stream_in e) t q in
+        let at = eqb-true (stream_in e) t q in
         let kept' : (standing_of p (e ∷ h) (stream_in e)).lost ≡ false = subst (λ (t : ℕ). (standing_of p (e ∷ h) t).lost ≡ false) (sym at) kept in
         subst (λ (t : ℕ). (standing_of p h t).lost ≡ false) at
         (own_kept (deed p e (world p h)) (drawn p h + 1) (standing_of p h (stream_in e)) (ap (λ (x : Standing). x.lost) (sym (standing_own p e h)) ∙ kept'))

@@ -201,7 +201,7 @@ module _ {Side Note Results Words : Type 0} (side : Side → SideData) (mark : N
     kept = kept_none x beside results;
   }
 
-  module _ (old now : Stage Side Note Results) (done : List FetchedData) (member : FetchedData) (rest : List FetchedData) (st : Stands old now done (member ∷ rest)) where
+  module _ {old now : Stage Side Note Results} {done : List FetchedData} {member : FetchedData} {rest : List FetchedData} (st : Stands old now done (member ∷ rest)) where
     -- what the next step asks for
     pub its_results : ResultsBelong results_belong words now.house.results now.out.run.stream
     its_results = subst (ResultsBelong results_belong words now.house.results) (sym st.stream) st.kept.wrote.belong
@@ -221,7 +221,7 @@ module _ {Side Note Results Words : Type 0} (side : Side → SideData) (mark : N
         by [] is end = refl
         by (n ∷ more) is end = absurd ((passed_on n more is).more (ap (λ (f : StreamFacts). f.get) behind ∙ end ∙ ap (λ (f : StreamFacts). f.put) (sym st.chained.0)))
 
-    module _ (new : Stage Side Note Results) (next : Next) (took : Took now new member next) where
+    module _ {new : Stage Side Note Results} {next : Next} (took : Took now new member next) where
       -- the step was executed
       abbrev Made : Bool → Type 0
       Made paused = IsDone side mark p now.house new.house now.out new.out member.words paused

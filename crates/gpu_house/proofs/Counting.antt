@@ -1,9 +1,10 @@
 -- The finishes among what was written to the results of a stream are those of the journal.
 use Rattle.std.proofs.Common.{◌≡◌, ℕ, ◌+◌, eqb, Bool, true, false, cond, List, [], ◌∷◌, ◌++◌, Option, Some, None, refl, sym, ap, subst, ◌∙◌, arith}
 use Rattle.std.specs.Prelude.{IfSome}
-use Rattle.std.proofs.lemmas.List.Sums.{sum_by-append, sum_by-cons}
+use Rattle.std.proofs.lemmas.List.Sums.{sum_by-cons}
 use Rattle.gpu_word.specs.Results.{Written, is_finish, finishes_in, writes_of}
 use Rattle.gpu_word.specs.Results.{Write, Finish as finish}
+use Rattle.gpu_word.proofs.Written.{finishes_of_both}
 use Rattle.gpu_plan.specs.Plans.{PlansData, plan_of}
 use Rattle.gpu_fetch.specs.Side.{told_more}
 use Rattle.stream_state.specs.Steps.{writes}
@@ -12,24 +13,16 @@ use Rattle.gpu_journal.specs.declared.event.Event.TheVariants.{Order, Step, Fini
 use Rattle.gpu_journal.specs.World.{World, Known, world, stream_in, known, known_after, state_of}
 use Rattle.gpu_journal.specs.Written.{written, written_by}
 use Rattle.gpu_journal.proofs.Worlds.{world_none, known_then}
-use Rattle.gpu_journal.proofs.Folding.{written_then}
+use Rattle.gpu_journal.proofs.Folding.{written_none, written_then}
 
 -- what a member counts
 abbrev counts : Written → ℕ
 counts x = cond (is_finish x) 1 0
 
-pub finishes_append : (xs ys : List Written) → finishes_in (xs ++ ys) ≡ finishes_in xs + finishes_in ys
-finishes_append xs ys = sum_by-append counts xs ys
-
 -- a value that is written is no finish
 pub no_finish : (pairs : List (ℕ × ℕ)) → finishes_in (writes_of pairs) ≡ 0
 no_finish [] = refl
 no_finish (pair ∷ pairs) = let parts = sum_by-cons counts (Write pair.0 pair.1) (writes_of pairs) in let rest = no_finish pairs in omega (arith, parts, rest)
-
--- before any event nothing is written
-pub nothing_written : (p : PlansData) (s : ℕ) → written p [] s ≡ []
-unfolding written
-nothing_written p s = refl
 
 -- an event of a stream counts a finish where it is one
 finishes_by : (p : PlansData) (e : Event) (h : List Event) (s n : ℕ) → n ≡ (known p h s).finished
@@ -42,11 +35,11 @@ finishes_by p (Close t) h s n same = omega (arith, same)
 
 counted_then : (p : PlansData) (e : Event) (h : List Event) (s : ℕ) (b : Bool) → finishes_in (written p h s) ≡ (known p h s).finished
     → finishes_in (cond b (written p h s ++ written_by p h s e) (written p h s)) ≡ (cond b (known_after p e (world p h) (known p h s)) (known p h s)).finished
-counted_then p e h s true before = finishes_append (written p h s) (written_by p h s e) ∙ finishes_by p e h s (finishes_in (written p h s)) before
+counted_then p e h s true before = finishes_of_both (written p h s) (written_by p h s e) ∙ finishes_by p e h s (finishes_in (written p h s)) before
 counted_then p e h s false before = before
 
 pub finishes_are : (p : PlansData) (h : List Event) (s : ℕ) → finishes_in (written p h s) ≡ (known p h s).finished
-finishes_are p [] s = ap finishes_in (nothing_written p s) ∙ sym (ap (λ (w : World). (w.streams s).finished) (world_none p))
+finishes_are p [] s = ap finishes_in (written_none p s) ∙ sym (ap (λ (w : World). (w.streams s).finished) (world_none p))
 finishes_are p (e ∷ h) s =
     ap finishes_in (written_then p e h s) ∙ counted_then p e h s (eqb (stream_in e) s) (finishes_are p h s) ∙ sym (ap (λ (k : Known). k.finished) (known_then p e h s))
 
@@ -58,6 +51,6 @@ counted_next p h s old new are told = subst (λ (o : Option (List Written)). IfS
     by : (o : Option (List Written)) → IfSome o (λ list. list ≡ written p h s) → IfSome (told_more o (finish ∷ [])) (λ list. finishes_in list ≡ (known p h s).finished + 1)
     by None is = tt
     by (Some list) is =
-        let more : finishes_in (list ++ finish ∷ []) ≡ finishes_in list + 1 = finishes_append list (finish ∷ []) in
+        let more : finishes_in (list ++ finish ∷ []) ≡ finishes_in list + 1 = finishes_of_both list (finish ∷ []) in
         let so : finishes_in list ≡ (known p h s).finished = ap finishes_in is ∙ finishes_are p h s in
         omega (arith, more, so)

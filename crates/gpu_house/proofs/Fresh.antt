@@ -16,6 +16,7 @@ use Rattle.sync_core.specs.Pending.{pending, endings}
 use Rattle.gpu_journal.specs.World.{World, known}
 use Rattle.gpu_journal.specs.Written.{written}
 use Rattle.gpu_journal.proofs.Worlds.{world_none, sync_none}
+use Rattle.gpu_journal.proofs.Folding.{written_none}
 use Rattle.house_core.specs.Core.{CoreData, is_home}
 use Rattle.house_core.specs.Desks.{Out, at_home}
 use Rattle.house_core.specs.Invariant.{IsCore}
@@ -24,7 +25,6 @@ use Rattle.gpu_house.specs.Slots.{SlotData, marks_between, SlotFits}
 use Rattle.gpu_house.specs.Marks.{AreMarked}
 use Rattle.gpu_house.specs.Making.{fresh_slot, fresh_slots, AreFreshSides, IsFreshFor, AreFreshResults}
 use Rattle.gpu_house.specs.House.{HouseInvariant}
-use Rattle.gpu_house.proofs.Counting.{nothing_written}
 use Rattle.gpu_house.proofs.Homes as homes
 use Rattle.gpu_house.proofs.Writings as writings
 
@@ -128,7 +128,7 @@ module _ {Results : Type 0} (takes : Results → ℕ → Bool) (told : Results �
     where
       by : ((list : List Written) → told (get_or results k other) ≡ Some list → list ≡ []) → (o : Option (List Written)) → told (get_or results k other) ≡ o → IfSome o (λ list. list ≡ written p [] (suc k))
       by none None e = tt
-      by none (Some list) e = none list e ∙ sym (nothing_written p (suc k))
+      by none (Some list) e = none list e ∙ sym (written_none p (suc k))
 
 module _ {Side Note Results : Type 0} (side : Side → SideData) (table : Side → TableId) (mark : Note → ℕ) (note_of : Note → TableId → Type 0) (takes : Results → ℕ → Bool) (told : Results → Option (List Written)) (results_of : Results → TableId → Type 0) where
   pub fresh_house : (p : PlansData) (base : ℕ) (words books result_words : List TableId) (marks : Marks) (core : CoreData) (sides : List Side) (slots : List (SlotData Side Note)) (results : List Results)

@@ -16,6 +16,7 @@ use Rattle.gpu_cmd.specs.Lawful.{IsLawfulFacts}
 use Rattle.gpu_cmd.specs.Laws.{LeavesRoom}
 use Rattle.gpu_cmd.proofs.Fitting.{accepted_leaves_room}
 use Rattle.gpu_plan.specs.Plans.{PlansData}
+use Rattle.gpu_plan.proofs.Dumps.{found_behind}
 use Rattle.gpu_fetch.specs.Side.{SideData, Fetches}
 use Rattle.gpu_fetch.specs.declared.sharing.FetchedPart.{FetchedPart}
 use Rattle.gpu_fetch.specs.Fetched.{FetchedData, added, IsFetched, FetchesSome}
@@ -24,6 +25,7 @@ use Rattle.gpu_fetch.proofs.Fetching.{fetches_none, fetches_then}
 use Rattle.gpu_fetch.proofs.Cutting.{parts_more, words_whole}
 use Rattle.stream_state.specs.Steps.{header_in}
 use Rattle.stream_state.proofs.Accepting.{told, says}
+use Rattle.step_parts.proofs.Asking.{first_value}
 use Rattle.house_core.specs.Answers.{further}
 use Rattle.house_core.specs.Desks.{RunData}
 use Rattle.gpu_house.specs.Slots.{RunFits}
@@ -48,11 +50,6 @@ passed_ends words facts command lawful copy =
       ends = omega (arith, room.ends, header);
       quota = room.quota;
     }
-
--- the header is the value of the first word
-first_value : (words : List (ℕ × ℕ)) → (get_or words 0 (0, 0)).1 ≡ header_in words
-first_value [] = refl
-first_value (word ∷ words) = refl
 
 -- the facts behind it, as they are computed
 pub behind_is : (words : List (ℕ × ℕ)) (facts : StreamFacts) (size get : ℕ) → size ≡ size_of (get_or words 0 (0, 0)).1 → get ≡ further facts.areas.ring facts.get size
@@ -94,16 +91,12 @@ batch_words_more members member = sym (flat_map_more (λ (m : FetchedData). m.wo
 pub all_more : {X : Type 0} (P : X → Type 0) (xs : List X) (x : X) → All P xs → P x → All P (xs ++ x ∷ [])
 all_more P xs x all one = All-append P xs (x ∷ []) all (All-cons P x [] one (All-nil P))
 
-last_got : {X : Type 0} (xs : List X) (x : X) → slice_get (xs ++ x ∷ []) (length xs) ≡ Some x
-last_got [] x = refl
-last_got (y ∷ ys) x = last_got ys x
-
 pub ends_exactly : (members : List FetchedData) (member : FetchedData) → length members < most_members → All (λ m. is_last m ≡ false) members → (is_last member ≡ true) ⊎ (length members + 1 ≡ most_members) → EndsExactly (members ++ member ∷ [])
 ends_exactly members member few goes_on ends =
     let long : length (members ++ member ∷ []) ≡ length members + 1 = length-append members (member ∷ []) in
     let at : length (members ++ member ∷ []) - 1 ≡ length members = omega (arith, long) in
     let first : take (length (members ++ member ∷ []) - 1) (members ++ member ∷ []) ≡ members = ap (λ (n : ℕ). take n (members ++ member ∷ [])) at ∙ take-append_seam members (member ∷ []) in
-    let last : slice_get (members ++ member ∷ []) (length (members ++ member ∷ []) - 1) ≡ Some member = ap (slice_get (members ++ member ∷ [])) at ∙ last_got members member in
+    let last : slice_get (members ++ member ∷ []) (length (members ++ member ∷ []) - 1) ≡ Some member = ap (slice_get (members ++ member ∷ [])) at ∙ found_behind members member in
     record {
       some = omega (arith, long);
       few = omega (arith, long);
@@ -222,7 +215,7 @@ pub record IsOneMore (old between new : SideData) (first next : StreamFacts) (li
   pub pushed : again ≡ parts ++ record { count = count; verdict = verdict; facts = next } ∷ []
   pub counted : count ≡ length longer - length list
 
-module _ (old between new : SideData) (first next : StreamFacts) (list longer : List (ℕ × ℕ)) (parts again : List FetchedPart) (verdict : Result Command CmdError) (count : ℕ) (more : IsOneMore old between new first next list longer parts again verdict count) where
+module _ {old between new : SideData} {first next : StreamFacts} {list longer : List (ℕ × ℕ)} {parts again : List FetchedPart} {verdict : Result Command CmdError} {count : ℕ} (more : IsOneMore old between new first next list longer parts again verdict count) where
   abbrev last_part : FetchedPart
   last_part = record { count = count; verdict = verdict; facts = next }
 

@@ -1,5 +1,6 @@
 -- The results of the streams after an event: they tell what the journal's steps and finishes wrote.
 use Rattle.std.proofs.Common.{◌≡◌, ℕ, zero, suc, ◌-◌, ◌<◌, eqb, Bool, true, false, cond, Option, Some, None, List, [], ◌∷◌, ◌++◌, length, refl, sym, ap, subst, ◌∙◌, arith}
+use Rattle.std.proofs.lemmas.Bool.{eq-eqb}
 use Rattle.std.specs.Prelude.{IfSome, slice_get, slice_index_or, slice_set}
 use Rattle.std.proofs.lemmas.List.{append-nil}
 use Rattle.atomic_table.specs.Seated.{TableId}
@@ -11,7 +12,6 @@ use Rattle.gpu_journal.specs.declared.event.Event.{Event}
 use Rattle.gpu_journal.specs.World.{stream_in}
 use Rattle.gpu_journal.specs.Written.{written_by, written}
 use Rattle.gpu_journal.proofs.Folding.{written_then}
-use Rattle.serial_laws.proofs.Others.{self}
 use Rattle.gpu_house.specs.House.{ResultsFit}
 use Rattle.gpu_house.specs.Changes.{ResultsBelong, WroteResults}
 use Rattle.gpu_house.proofs.Rows.{each_set}
@@ -27,7 +27,7 @@ written_other p e h s off = written_then p e h s ∙ ap (λ (b : Bool). cond b (
 written_own : (p : PlansData) (e : Event) (h : List Event) → written p (e ∷ h) (stream_in e) ≡ written p h (stream_in e) ++ written_by p h (stream_in e) e
 written_own p e h =
     let s = stream_in e in
-    written_then p e h s ∙ ap (λ (b : Bool). cond b (written p h s ++ written_by p h s e) (written p h s)) (self s)
+    written_then p e h s ∙ ap (λ (b : Bool). cond b (written p h s ++ written_by p h s e) (written p h s)) (eq-eqb s s refl)
 
 -- an event that writes nothing at all
 pub written_none : (p : PlansData) (e : Event) (h : List Event) (s : ℕ) → written_by p h s e ≡ [] → written p (e ∷ h) s ≡ written p h s

@@ -3,6 +3,7 @@ use Rattle.std.proofs.Common.{◌≡◌, ℕ, Bool, true, false, List, [], ◌�
 use Rattle.std.specs.Prelude.{◌==◌, if◌then◌else◌}
 use Rattle.std.proofs.lemmas.Bool.Decides.{nat_tests}
 use Rattle.gpu_word.specs.Results as results
+use Rattle.gpu_word.proofs.Written.{last_of_both}
 use Rattle.gpu_plan.specs.Plans.{PlansData, plan_of}
 use Rattle.stream_state.specs.State.{State, noted, result_of}
 use Rattle.stream_state.specs.Steps as steps
@@ -39,17 +40,13 @@ state_is_fold p (e ∷ h) s = ap (λ (k : Known). k.state) (known_then p e h s) 
 
 -- ---- the results
 
-written_none : (p : PlansData) (s : ℕ) → written p [] s ≡ []
+pub written_none : (p : PlansData) (s : ℕ) → written p [] s ≡ []
 unfolding written
 written_none p s = refl
 
 pub written_then : (p : PlansData) (e : Event) (h : List Event) (s : ℕ) → written p (e ∷ h) s ≡ (if stream_in e == s then written p h s ++ written_by p h s e else written p h s)
 unfolding written
 written_then p e h s = refl
-
-last_of_both : (i v : ℕ) (first second : List results.Written) → results.last_or i v (first ++ second) ≡ results.last_or i (results.last_or i v first) second
-last_of_both i v [] second = refl
-last_of_both i v (member ∷ first) second = last_of_both i (results.after_written i v member) first second
 
 last_of_pairs : (i v : ℕ) (pairs : List (ℕ × ℕ)) → results.last_or i v (results.writes_of pairs) ≡ writing.last_written pairs i v
 last_of_pairs i v [] = refl

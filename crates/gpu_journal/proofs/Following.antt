@@ -3,8 +3,7 @@ use Rattle.std.proofs.Common.{◌≡◌, ◌≢◌, ℕ, zero, suc, ◌+◌, ◌
 use Rattle.std.specs.Prelude.{◌==◌, if◌then◌else◌, slice_get}
 use Rattle.std.proofs.lemmas.Bool.{cases_lt}
 use Rattle.std.proofs.lemmas.Bool.Decides.{nat_tests}
-use Rattle.std.proofs.lemmas.List.{take_more, reverse-append, take-append-drop, get_or-set_same, get_or-set_other, get_or-replicate, get_or_past, length-replicate, length-set}
-use Rattle.std.proofs.lemmas.List.{get_or_read_under}
+use Rattle.std.proofs.lemmas.List.{take_more, reverse-append, take-append-drop, get_or-replicate, get_or_past, length-replicate, length-set}
 use Rattle.std.proofs.lemmas.Option.{get_or_from_slice_get}
 use Rattle.gpu_cmd.specs.Lawful.{IsLawfulAreas}
 use Rattle.gpu_store.specs.Images.{Pictures}
@@ -14,6 +13,7 @@ use Rattle.stream_state.specs.State.{State, first_state, noted}
 use Rattle.stream_state.specs.Steps.{stepped, effect}
 use Rattle.stream_state.specs.Laws.{IsTaken}
 use Rattle.sync_core.specs.Standing.{IsKnown}
+use Rattle.sync_core.proofs.Rows.{row, row_is, row_same, row_other, row_there}
 use Rattle.gpu_journal.specs.declared.event.Event.{Event}
 use Rattle.gpu_journal.specs.declared.event.Event.TheVariants.{Order, Step, Finish, Lost, Close}
 use Rattle.gpu_journal.specs.World.{Known, World, world, stream_in, asked_by, drawn_by, known, known_after, images_after, state_of}
@@ -57,27 +57,20 @@ shows_none p images states none first = record {
   each = λ s. ap (λ (xs : List State). state_in xs s) first ∙ all_first (length p.plans) s ∙ sym (none_known p s);
 }
 
+state_row : (states : List State) (s : ℕ) → state_in states s ≡ row first_state states s
+state_row states s = row_is first_state state_in (λ xs. refl) (λ xs k. refl) states s
+
 -- a state in place of that of stream s
-set_same : (states : List State) (s : ℕ) (state : State) → 1 ≤ s → s ≤ length states → state_in (set states (s - 1) state) s ≡ state
-set_same states zero state some within = absurd (omega arith)
-set_same states (suc k) state some within =
-    let i : suc k - 1 ≡ k = omega arith in
-    ap (λ (i : ℕ). get_or (set states i state) k first_state) i ∙ get_or-set_same states k state first_state (omega arith)
-
-set_other : (states : List State) (s t : ℕ) (state : State) → 1 ≤ s → t ≢ s → state_in (set states (s - 1) state) t ≡ state_in states t
-set_other states s zero state some apart = refl
-set_other states s (suc k) state some apart = get_or-set_other states (s - 1) k state first_state (λ same. apart (omega arith))
-
-after_step : (p : PlansData) (h : List Event) (s t : ℕ) (words : List (ℕ × ℕ)) (states : List State) (state : State) (b : Bool) → (s == t) ≡ b → 1 ≤ s → s ≤ length states
+after_step : (p : PlansData) (h : List Event) (s t : ℕ) (words : List (ℕ × ℕ)) (states : List State) (state : State) (b : Bool) → (s == t) ≡ b → IsKnown (length states) s
     → state_in states t ≡ state_of p h t
     → state ≡ noted (drawn_by (asked_by p s words (world p h)) (world p h).images).answer (stepped (plan_of p s).areas words (state_of p h s))
     → state_in (set states (s - 1) state) t ≡ (if b then known_after p (Step s words) (world p h) (known p h t) else known p h t).state
-after_step p h s t words states state true e some within old new =
+after_step p h s t words states state true e inside old new =
     let same : s ≡ t = grind (arith, nat_tests) in
-    subst (λ (t : ℕ). state_in (set states (s - 1) state) t ≡ (known_after p (Step s words) (world p h) (known p h t)).state) same (set_same states s state some within ∙ new)
-after_step p h s t words states state false e some within old new =
+    subst (λ (t : ℕ). state_in (set states (s - 1) state) t ≡ (known_after p (Step s words) (world p h) (known p h t)).state) same (state_row (set states (s - 1) state) s ∙ row_same first_state states s state inside ∙ new)
+after_step p h s t words states state false e inside old new =
     let apart : t ≢ s = grind (arith, nat_tests) in
-    set_other states s t state some apart ∙ old
+    state_row (set states (s - 1) state) t ∙ row_other first_state states s t state inside.0 apart ∙ sym (state_row states t) ∙ old
 
 pub shows_step : (p : PlansData) (h : List Event) (s : ℕ) (words : List (ℕ × ℕ)) (images images' : Pictures) (states states' : List State) (state : State) → IsKnown (length p.plans) s → Shows p h images states
     → images' ≡ (drawn_by (effect (plan_of p s).areas words (state_in states s)) images).images
@@ -91,12 +84,11 @@ shows_step p h s words images images' states states' state known shows drawn not
     let new : state ≡ noted (drawn_by (asked_by p s words (world p h)) (world p h).images).answer (stepped (plan_of p s).areas words (state_of p h s)) =
     noted' ∙ ap (λ (x : State). noted (drawn_by (effect (plan_of p s).areas words x) images).answer (stepped (plan_of p s).areas words x)) own
     ∙ ap (λ (x : Pictures). noted (drawn_by (asked_by p s words (world p h)) x).answer (stepped (plan_of p s).areas words (state_of p h s))) shows.drawn in
-    let some : 1 ≤ s = omega (arith, known.0) in
-    let within : s ≤ length states = omega (arith, known.1, shows.count) in
+    let inside : IsKnown (length states) s = (known.0, omega (arith, known.1, shows.count)) in
     record {
       drawn = drawn_here ∙ sym (images_then p (Step s words) h);
       count = ap length put ∙ length-set states (s - 1) state ∙ shows.count;
-      each = λ t. ap (λ (xs : List State). state_in xs t) put ∙ after_step p h s t words states state (s == t) refl some within (shows.each t) new ∙ sym (ap (λ (k : Known). k.state) (known_then p (Step s words) h t));
+      each = λ t. ap (λ (xs : List State). state_in xs t) put ∙ after_step p h s t words states state (s == t) refl inside (shows.each t) new ∙ sym (ap (λ (k : Known). k.state) (known_then p (Step s words) h t));
     }
 
 -- ---- other events leave images and states
@@ -143,10 +135,7 @@ turn_of p events k s words e lt here step legal =
 
 -- what the code finds at a stream's place is the stream's
 pub state_here : (states : List State) (s : ℕ) (x : State) → 1 ≤ s → s ≤ length states → x ≡ get_or states (s - 1) x → x ≡ state_in states s
-state_here states zero x some within at = absurd (omega arith)
-state_here states (suc k) x some within at =
-    let i : suc k - 1 ≡ k = omega arith in
-    get_or_read_under states k (length states) x first_state (at ∙ ap (λ (i : ℕ). get_or states i x) i) (omega arith) refl
+state_here states s x some within at = at ∙ row_there first_state states s x (omega (arith, some), within) ∙ sym (state_row states s)
 
 pub plan_here : (p : PlansData) (s : ℕ) (x : PlanData) → 1 ≤ s → slice_get p.plans (s - 1) ≡ Some x → plan_of p s ≡ x
 plan_here p zero x some at = absurd (omega arith)

@@ -1,11 +1,11 @@
 -- The lines of images, one after the other.
-use Rattle.std.proofs.Common.{◌≡◌, ℕ, zero, suc, ◌+◌, ◌<◌, ◌≤◌, List, [], ◌∷◌, ◌++◌, length, get_or, take, drop, map, Option, Some, None, inl, inr, sym, ap, subst, ◌∙◌, append_assoc, arith}
-use Rattle.std.specs.Prelude.{IfSome, option_map, slice_get, unwrap_or, codes}
+use Rattle.std.proofs.Common.{◌≡◌, ℕ, zero, suc, ◌+◌, ◌≤◌, List, [], ◌∷◌, ◌++◌, length, get_or, take, drop, map, Option, Some, None, sym, ap, subst, ◌∙◌, append_assoc, arith}
+use Rattle.std.specs.Prelude.{IfSome, option_map, unwrap_or, codes}
 use Rattle.std.specs.List.{flat_map, join_with_byte, range_with_len}
-use Rattle.std.proofs.lemmas.List.{append-nil, length-map, take_more, flat_map_more}
-use Rattle.std.proofs.lemmas.Option.{slice_get-map, slice_get_cases}
+use Rattle.std.proofs.lemmas.List.{append-nil, take_more, flat_map_more}
 use Rattle.gpu_store.specs.Picture.{Picture, row_of}
-use Rattle.gpu_store.specs.Images.{Pictures, picture_of, numbers}
+use Rattle.gpu_store.specs.Images.{Pictures, picture_of}
+use Rattle.gpu_store.proofs.Lookups.{Stands}
 use Rattle.gpu_journal.specs.Digits.{hex8}
 use Rattle.gpu_journal.specs.Picture.{head_text, row_text, image_text}
 
@@ -19,7 +19,7 @@ row_joined [] some = absurd (omega arith)
 row_joined (first ∷ more) some = ap (λ (row : List ℕ). row ++ codes "\n") (joined first more)
 
 -- one number more at the end of a range
-range_more : (from count : ℕ) → range_with_len from (count + 1) ≡ range_with_len from count ++ (from + count) ∷ []
+pub range_more : (from count : ℕ) → range_with_len from (count + 1) ≡ range_with_len from count ++ (from + count) ∷ []
 range_more from zero = ap (λ n. n ∷ []) (omega arith)
 range_more from (suc count) =
     let one : suc count + 1 ≡ suc (count + 1) = omega arith in
@@ -52,35 +52,15 @@ image_done (Some picture) image width height y front out size end so_far =
     let high : picture.height ≡ height = ap (λ (o : Option (ℕ × ℕ)). (unwrap_or o none).1) size in
     so_far ∙ ap (λ n. (front ++ head_text image picture.width picture.height) ++ rows_text picture n) (end ∙ sym high) ∙ append_assoc front (head_text image picture.width picture.height) (rows_text picture picture.height)
 
--- what stands at a place of the images
-pub entry_there : (images : Pictures) (index image : ℕ) → index < length images → slice_get (numbers images) index ≡ Some image
-    → picture_of images image ≡ option_map (λ (entry : ℕ × Picture). entry.1) (slice_get images index)
-    → (entry : ℕ × Picture) × (picture_of images image ≡ Some entry.1) × (image ≡ entry.0) × (get_or images index entry ≡ entry)
-entry_there images index image lt number found =
-    elim ((slice_get_cases images index).1) [
-      | inl here ↦
-          let entry = here.0 in
-          let keyed : slice_get (numbers images) index ≡ Some entry.0 = slice_get-map (λ (e : ℕ × Picture). e.0) images index ∙ ap (option_map (λ (e : ℕ × Picture). e.0)) here.2 in
-          let same : image ≡ entry.0 = cc in
-          let shown : picture_of images image ≡ Some entry.1 = found ∙ ap (option_map (λ (e : ℕ × Picture). e.1)) here.2 in
-          (entry, shown, same, here.3)
-      | inr past ↦ absurd (omega arith)
-    ]
-
 -- the lines of the first images, and one image more
-pub images_more : (images : Pictures) (index image : ℕ) (old new : List ℕ) → index < length images → slice_get (numbers images) index ≡ Some image
-    → picture_of images image ≡ option_map (λ (entry : ℕ × Picture). entry.1) (slice_get images index)
+pub images_more : (images : Pictures) (index image : ℕ) (old new : List ℕ) → Stands images index image
     → IfSome (picture_of images image) (λ picture. new ≡ old ++ image_text (image, picture)) → old ≡ flat_map image_text (take index images) → new ≡ flat_map image_text (take (index + 1) images)
-images_more images index image old new lt number found pushed so_far =
-    let there = entry_there images index image lt number found in
-    let entry = there.0 in
-    let added : new ≡ old ++ image_text (image, entry.1) = subst (λ (o : Option Picture). IfSome o (λ picture. new ≡ old ++ image_text (image, picture))) there.1 pushed in
+images_more images index image old new stands pushed so_far =
+    let entry = stands.entry in
+    let added : new ≡ old ++ image_text (image, entry.1) = subst (λ (o : Option Picture). IfSome o (λ picture. new ≡ old ++ image_text (image, picture))) stands.shown pushed in
     added
     ∙ ap (λ (text : List ℕ). text ++ image_text (image, entry.1)) so_far
-    ∙ ap (λ n. flat_map image_text (take index images) ++ image_text (n, entry.1)) there.2
+    ∙ ap (λ n. flat_map image_text (take index images) ++ image_text (n, entry.1)) stands.same
     ∙ flat_map_more image_text [] (take index images) entry
-    ∙ ap (λ (e : ℕ × Picture). flat_map image_text (take index images ++ e ∷ [])) (sym there.3)
-    ∙ ap (λ (entries : List (ℕ × Picture)). flat_map image_text entries) (sym (take_more images index entry lt))
-
-pub length-numbers : (images : Pictures) → length (numbers images) ≡ length images
-length-numbers images = length-map images (λ (entry : ℕ × Picture). entry.0)
+    ∙ ap (λ (e : ℕ × Picture). flat_map image_text (take index images ++ e ∷ [])) (sym stands.there)
+    ∙ ap (λ (entries : List (ℕ × Picture)). flat_map image_text entries) (sym (take_more images index entry stands.within))

@@ -4,6 +4,7 @@ use Rattle.std.specs.Prelude.{codes, ◌==◌, if◌then◌else◌}
 use Rattle.std.specs.List.{All, flat_map}
 use Rattle.std.proofs.lemmas.List.{append-nil}
 use Rattle.std.proofs.lemmas.List.Elements.{All-head, All-tail}
+use Rattle.gpu_word.proofs.Pieces.{three_pieces, four_pieces, five_pieces}
 use Rattle.gpu_cmd.specs.declared.error.CmdError.{CmdError}
 use Rattle.gpu_cmd.specs.declared.error.CmdError.TheVariants.{InvalidSize, OutOfBounds, UnknownCommand, InvalidArguments, Quota}
 use Rattle.gpu_cmd.specs.Errors.{code_of}
@@ -76,34 +77,25 @@ why_cut Memory (Error b) x y ex ey e =
     absurd (omega (arith, digit.1))
 why_cut Memory Memory x y ex ey e = (refl, ap (drop 7) e)
 
-three_flat : (a b c x : List ℕ) → ((a ++ b) ++ c) ++ x ≡ a ++ (b ++ (c ++ x))
-three_flat a b c x = simp append_assoc
-
-four_flat : (a b c d x : List ℕ) → (((a ++ b) ++ c) ++ d) ++ x ≡ a ++ (b ++ (c ++ (d ++ x)))
-four_flat a b c d x = simp append_assoc
-
-five_flat : (a b c d e x : List ℕ) → ((((a ++ b) ++ c) ++ d) ++ e) ++ x ≡ a ++ (b ++ (c ++ (d ++ (e ++ x))))
-five_flat a b c d e x = simp append_assoc
-
 order_flat : (stream order place : ℕ) (x : List ℕ) → event_text (Order stream order place) ++ x ≡ codes "order" ++ (number_text stream ++ (number_text order ++ (number_text place ++ (10 ∷ x))))
 unfolding event_text
-order_flat stream order place x = five_flat (codes "order") (number_text stream) (number_text order) (number_text place) (codes "\n") x
+order_flat stream order place x = five_pieces (codes "order") (number_text stream) (number_text order) (number_text place) (codes "\n") x
 
 step_flat : (stream : ℕ) (words : List (ℕ × ℕ)) (x : List ℕ) → event_text (Step stream words) ++ x ≡ codes "step" ++ (number_text stream ++ (flat_map word_text words ++ (10 ∷ x)))
 unfolding event_text
-step_flat stream words x = four_flat (codes "step") (number_text stream) (flat_map word_text words) (codes "\n") x
+step_flat stream words x = four_pieces (codes "step") (number_text stream) (flat_map word_text words) (codes "\n") x
 
 finish_flat : (stream order : ℕ) (x : List ℕ) → event_text (Finish stream order) ++ x ≡ codes "finish" ++ (number_text stream ++ (number_text order ++ (10 ∷ x)))
 unfolding event_text
-finish_flat stream order x = four_flat (codes "finish") (number_text stream) (number_text order) (codes "\n") x
+finish_flat stream order x = four_pieces (codes "finish") (number_text stream) (number_text order) (codes "\n") x
 
 lost_flat : (stream : ℕ) (why : Why) (words : List (ℕ × ℕ)) (x : List ℕ) → event_text (Lost stream why words) ++ x ≡ codes "lost" ++ (number_text stream ++ (why_text why ++ (flat_map word_text words ++ (10 ∷ x))))
 unfolding event_text
-lost_flat stream why words x = five_flat (codes "lost") (number_text stream) (why_text why) (flat_map word_text words) (codes "\n") x
+lost_flat stream why words x = five_pieces (codes "lost") (number_text stream) (why_text why) (flat_map word_text words) (codes "\n") x
 
 close_flat : (stream : ℕ) (x : List ℕ) → event_text (Close stream) ++ x ≡ codes "close" ++ (number_text stream ++ (10 ∷ x))
 unfolding event_text
-close_flat stream x = three_flat (codes "close") (number_text stream) (codes "\n") x
+close_flat stream x = three_pieces (codes "close") (number_text stream) (codes "\n") x
 
 order_cut : (s t m n c d : ℕ) (x y : List ℕ) → event_text (Order s m c) ++ x ≡ event_text (Order t n d) ++ y → (Order s m c ≡ Order t n d) × (x ≡ y)
 order_cut s t m n c d x y e =

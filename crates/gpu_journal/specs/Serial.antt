@@ -23,10 +23,10 @@ use Rattle.gpu_journal.specs.Facts.{facts_at, verdict_at, reach}
 
 -- ---- choices among streams
 
--- the stream, where it passes a test
-abbrev pub when : Bool → ℕ → Option ℕ
-when true s = Some s
-when false s = None
+-- this, where a test holds
+abbrev pub when : {A : Type 0} → Bool → A → Option A
+when true x = Some x
+when false x = None
 
 -- the first of the streams 1 to n that passes a test
 abbrev pub first : (ℕ → Bool) → ℕ → Option ℕ

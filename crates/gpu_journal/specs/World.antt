@@ -1,6 +1,6 @@
 -- What a history says of the images and of each stream, beside its waits. A history is written with its newest event
 -- first, so the rest of the list is what came before that event.
-use Rattle.std.specs.Prelude.{ℕ, ◌+◌, ◌==◌, List, [], ◌∷◌, if◌then◌else◌}
+use Rattle.std.specs.Prelude.{ℕ, ◌+◌, ◌==◌, max, List, [], ◌∷◌, if◌then◌else◌}
 use Rattle.gpu_store.specs.declared.op.Answer.TheVariants.{Done}
 use Rattle.gpu_store.specs.Images.{Pictures, Applied, apply}
 use Rattle.gpu_plan.specs.Plans.{PlansData, plan_of}
@@ -53,6 +53,11 @@ drawn_by _ images = record { answer = Done; images = images }
 abbrev pub with_token : Effect → List ℕ → List ℕ
 with_token (Token token) tokens = token ∷ tokens
 with_token _ tokens = tokens
+
+-- the greatest of them after what a step asks
+abbrev pub greatest_after : Effect → ℕ → ℕ
+greatest_after (Token token) greatest = max token greatest
+greatest_after _ greatest = greatest
 
 -- what is known of a stream after a step that asked for this effect and got this answer
 abbrev pub known_after_step : PlansData → ℕ → List (ℕ × ℕ) → Effect → Applied → Known → Known

@@ -1,18 +1,15 @@
 -- Names that are told apart, and one more behind them.
-use Rattle.std.proofs.Common.{◌≡◌, ℕ, zero, suc, ◌+◌, ◌-◌, ◌≤◌, Bool, true, false, ◌||◌, List, [], ◌∷◌, ◌++◌, length, slice_get, option_map, Some, refl, sym, ap, subst, ◌∙◌, arith}
+use Rattle.std.proofs.Common.{◌≡◌, ℕ, zero, suc, ◌+◌, ◌-◌, ◌≤◌, false, ◌||◌, List, [], ◌∷◌, ◌++◌, length, slice_get, option_map, Some, refl, sym, ap, subst, ◌∙◌, arith}
 use Rattle.std.specs.List.{All, AllByRecursion, IsDistinct, list_any, position_or_len}
 use Rattle.std.proofs.lemmas.List.Elements.{All-nil, All-push, All-head, All-tail}
-use Rattle.std.proofs.lemmas.Bool.{lt-ltb}
+use Rattle.std.proofs.lemmas.Bool.{lt-ltb, or_parts}
 use Rattle.std.proofs.lemmas.Option.{slice_get_within, slice_get-map}
 use Rattle.std.proofs.lemmas.Bool.Decides.{nat_tests}
 use Rattle.gpu_cmd.specs.declared.name.Name.{Name}
 use Rattle.script_lines.specs.Names.{is_name}
+use Rattle.script_lines.proofs.Numbers.{itself}
 use Rattle.gpu_plan.specs.Plans.{PlanData, is_of, number_of}
 use Rattle.gpu_plan.specs.Named.{names_in, AreNumbered, HasSmallSpace, AreLawfulNames}
-
-neither : (a b : Bool) → (a || b) ≡ false → (a ≡ false) × (b ≡ false)
-neither true b e = absurd cc
-neither false b e = (refl, e)
 
 turned : (a b : Name) → is_name a b ≡ false → is_name b a ≡ false
 turned a b e = grind (arith, nat_tests)
@@ -25,7 +22,7 @@ distinct_end : (names : List Name) (name : Name) → IsDistinct is_name names �
 unfolding IsDistinct
 distinct_end [] name h new = (tt, tt)
 distinct_end (n ∷ names) name h new =
-    let both = neither (is_name name n) (list_any (is_name name) names) new in
+    let both = or_parts (is_name name n) (list_any (is_name name) names) new in
     (all_end (λ y. is_name n y ≡ false) names name h.0 (turned name n both.0), distinct_end names name h.1 both.1)
 
 numbered_from : (j : ℕ) (names : List Name) (name : Name) → ((k : ℕ) (n : Name) → slice_get names k ≡ Some n → n ≡ record { namespace = 0; id = j + k + 1 }) → name ≡ record { namespace = 0; id = j + length names + 1 }
@@ -73,9 +70,6 @@ small_at : (plans : List PlanData) (k : ℕ) (plan : PlanData) → All HasSmallS
 small_at [] k plan h e = absurd cc
 small_at (p ∷ plans) zero plan h e = let s : p ≡ plan = cc in subst (λ (x : PlanData). HasSmallSpace x.name) s (All-head HasSmallSpace p.name (names_in plans) h)
 small_at (p ∷ plans) (suc k) plan h e = small_at plans k plan (All-tail HasSmallSpace p.name (names_in plans) h) e
-
-itself : (name : Name) → is_name name name ≡ true
-itself name = grind (arith, nat_tests)
 
 first_is : (plans : List PlanData) (k : ℕ) (plan : PlanData) → IsDistinct is_name (names_in plans) → slice_get plans k ≡ Some plan → position_or_len (is_of plan.name) plans ≡ k
 unfolding IsDistinct

@@ -14,7 +14,7 @@ found_before [] ys i x found = absurd cc
 found_before (y ∷ xs) ys zero x found = found
 found_before (y ∷ xs) ys (suc i) x found = found_before xs ys i x found
 
-found_behind : {X : Type 0} (xs : List X) (x : X) → slice_get (xs ++ x ∷ []) (length xs) ≡ Some x
+pub found_behind : {X : Type 0} (xs : List X) (x : X) → slice_get (xs ++ x ∷ []) (length xs) ≡ Some x
 found_behind [] x = refl
 found_behind (y ∷ xs) x = found_behind xs x
 

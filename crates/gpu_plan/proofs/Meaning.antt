@@ -12,7 +12,7 @@ use Rattle.script_lines.specs.declared.fault.ScriptFault.{ScriptFault}
 use Rattle.script_lines.specs.declared.fault.ScriptFault.TheVariants as faults
 use Rattle.script_lines.specs.declared.keyword.Keyword.{Keyword}
 use Rattle.script_lines.specs.declared.keyword.Keyword.TheVariants.{StreamLine, MemoryLine, ResultsLine, PutLine, FillLine, FlushLine, FinishLine, TokenLine, CloseLine, DumpLine}
-use Rattle.script_lines.specs.Outcome.{◌>>=◌, or_kind, at_line, FailsAt}
+use Rattle.script_lines.specs.Outcome.{◌>>=◌, or_error, at_line, FailsAt}
 use Rattle.script_lines.specs.Said.{keyword_of, flush_said}
 use Rattle.script_lines.specs.Naming.{named_in, names_of}
 use Rattle.script_lines.specs.Mentioned.{mentioned_behind}
@@ -48,7 +48,7 @@ module _ (mentioned named : List Name) where
       (added_moved numbers (Flush said.0 said.1 ∷ []) last (record d { flushes = d.flushes + 1 }))))
 
   keyword_moved : (names : List Name) (keyword : Option Keyword) (words : List (List ℕ)) (d : Draft) → Keeps (mentioned_as 2 names keyword words) mentioned
-      → (or_kind Word keyword >>= λ k. with_keyword 2 named k words (moved_draft numbers d)) ≡ shown_by (moved_draft numbers) (or_kind Word keyword >>= λ k. with_keyword 2 mentioned k words d)
+      → (or_error Word keyword >>= λ k. with_keyword 2 named k words (moved_draft numbers d)) ≡ shown_by (moved_draft numbers) (or_error Word keyword >>= λ k. with_keyword 2 mentioned k words d)
   keyword_moved names None words d keeps = refl
   keyword_moved names (Some StreamLine) words d keeps = stream_moved numbers 2 words d
   keyword_moved names (Some MemoryLine) words d keeps = memory_moved numbers words d

@@ -6,7 +6,7 @@ use Rattle.gpu_cmd.specs.declared.name.Name.{Name}
 use Rattle.gpu_cmd.specs.Spans.{span_at}
 use Rattle.script_lines.specs.declared.fault.Kind.{Kind}
 use Rattle.script_lines.specs.declared.fault.Kind.TheVariants.{Order, Place, Limit}
-use Rattle.script_lines.specs.Outcome.{◌>>=◌, or_kind}
+use Rattle.script_lines.specs.Outcome.{◌>>=◌, or_error}
 use Rattle.script_lines.specs.Said.{none_said, one_said, two_said, stream_said, put_said, fill_said}
 use Rattle.script_lines.proofs.Steps.{shown_by, same_step, shown_step, test_step}
 use Rattle.gpu_plan.specs.declared.plan.Action.{Action}
@@ -20,7 +20,7 @@ module _ (numbers : List ℕ) where
   abbrev pub moved_draft : Draft → Draft
   moved_draft d = record { done = map (renumbered_plan numbers) d.done; last = option_map (renumbered_plan numbers) d.last; actions = d.actions; flushes = d.flushes }
 
-  last_moved : (kind : Kind) (last : Option PlanData) → or_kind kind (option_map (renumbered_plan numbers) last) ≡ shown_by (renumbered_plan numbers) (or_kind kind last)
+  last_moved : (kind : Kind) (last : Option PlanData) → or_error kind (option_map (renumbered_plan numbers) last) ≡ shown_by (renumbered_plan numbers) (or_error kind last)
   last_moved kind None = refl
   last_moved kind (Some plan) = refl
 
@@ -34,13 +34,13 @@ module _ (numbers : List ℕ) where
   pub acting_moved : (d : Draft) → acting (moved_draft d) ≡ shown_by (renumbered_plan numbers) (acting d)
   unfolding acting
   acting_moved d =
-      shown_step (renumbered_plan numbers) (renumbered_plan numbers) (or_kind Order (option_map (renumbered_plan numbers) d.last)) (or_kind Order d.last) _ _ (last_moved Order d.last)
+      shown_step (renumbered_plan numbers) (renumbered_plan numbers) (or_error Order (option_map (renumbered_plan numbers) d.last)) (or_error Order d.last) _ _ (last_moved Order d.last)
       (λ last. test_step (renumbered_plan numbers) Order (not (is_closed (renumbered_plan numbers last).actions)) (not (is_closed last.actions)) _ _ (ap (λ unclosed. not (not unclosed)) (all_open numbers last.actions)) refl)
 
   fresh_moved : (d : Draft) → fresh (moved_draft d) ≡ shown_by (renumbered_plan numbers) (fresh d)
   unfolding fresh
   fresh_moved d =
-      shown_step (renumbered_plan numbers) (renumbered_plan numbers) (or_kind Order (option_map (renumbered_plan numbers) d.last)) (or_kind Order d.last) _ _ (last_moved Order d.last)
+      shown_step (renumbered_plan numbers) (renumbered_plan numbers) (or_error Order (option_map (renumbered_plan numbers) d.last)) (or_error Order d.last) _ _ (last_moved Order d.last)
       (λ last. test_step (renumbered_plan numbers) Order (length (renumbered_plan numbers last).actions == 0) (length last.actions == 0) _ _ (ap (λ n. n == 0) (length-map last.actions (renumbered_action numbers))) refl)
 
   pub added_moved : (actions : List Action) (plan : PlanData) (d : Draft) → added (map (renumbered_action numbers) actions) (renumbered_plan numbers plan) (moved_draft d) ≡ shown_by moved_draft (added actions plan d)
@@ -85,7 +85,7 @@ module _ (numbers : List ℕ) where
   fill_moved words d =
       same_step moved_draft (fill_said words) _ _ (λ said.
       shown_step moved_draft (renumbered_plan numbers) (acting (moved_draft d)) (acting d) _ _ (acting_moved d) (λ last.
-      same_step moved_draft (or_kind Place (span_at last.areas.memories said.0)) _ _ (λ span.
+      same_step moved_draft (or_error Place (span_at last.areas.memories said.0)) _ _ (λ span.
       test_step moved_draft Place (nat_le (said.1 + length said.2) span.words) (nat_le (said.1 + length said.2) span.words) _ _ refl (added_puts (span.base + said.1) said.2 last d))))
 
   pub finish_moved : (words : List (List ℕ)) (d : Draft) → with_finish words (moved_draft d) ≡ shown_by moved_draft (with_finish words d)
@@ -111,7 +111,7 @@ module _ (numbers : List ℕ) where
   dump_moved words d =
       same_step moved_draft (two_said words) _ _ (λ said.
       shown_step moved_draft (renumbered_plan numbers) (acting (moved_draft d)) (acting d) _ _ (acting_moved d) (λ last.
-      same_step moved_draft (or_kind Place (span_at last.areas.results said.0)) _ _ (λ span.
+      same_step moved_draft (or_error Place (span_at last.areas.results said.0)) _ _ (λ span.
       test_step moved_draft Place (nat_lt said.1 span.words) (nat_lt said.1 span.words) _ _ refl
       (ap (λ n. added (Finish ∷ []) (record (renumbered_plan numbers last) { dumps = last.dumps ++ (n, span.base + said.1) ∷ [] }) (moved_draft d)) (length-map last.actions (renumbered_action numbers))
       ∙ added_moved (Finish ∷ []) (record last { dumps = last.dumps ++ (length last.actions, span.base + said.1) ∷ [] }) d))))

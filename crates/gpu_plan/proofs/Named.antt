@@ -2,6 +2,7 @@
 use Rattle.std.proofs.Common.{◌≡◌, ℕ, ◌+◌, Bool, true, false, cond, not, nat_le, nat_lt, ◌&&◌, ◌||◌, ◌==◌, List, [], ◌∷◌, ◌++◌, length, option_to_list, Option, Some, None, Result, Ok, Err, refl, sym, ap, subst, ◌∙◌, arith}
 use Rattle.std.specs.List.{list_any}
 use Rattle.std.proofs.lemmas.List.{length-map}
+use Rattle.std.proofs.lemmas.Bool.{not-true}
 use Rattle.std.proofs.lemmas.Bool.Decides.{nat_tests}
 use Rattle.gpu_cmd.specs.declared.name.Name.{Name}
 use Rattle.script_lines.specs.Names.{is_name}
@@ -10,7 +11,7 @@ use Rattle.script_lines.specs.declared.fault.Kind.TheVariants.{Word, Number, Ord
 use Rattle.gpu_cmd.specs.declared.priority.Priority.{Priority}
 use Rattle.script_lines.specs.declared.keyword.Keyword.{Keyword}
 use Rattle.script_lines.specs.declared.keyword.Keyword.TheVariants.{StreamLine, MemoryLine, ResultsLine, PutLine, FillLine, FlushLine, FinishLine, TokenLine, CloseLine, DumpLine}
-use Rattle.script_lines.specs.Outcome.{◌>>=◌, or_kind, unless, at_line}
+use Rattle.script_lines.specs.Outcome.{◌>>=◌, or_error, unless, at_line}
 use Rattle.script_lines.specs.Said.{keyword_of, priority_of, none_said, one_said, two_said, stream_said, numbered_said, put_said, fill_said, flush_said}
 use Rattle.script_words.specs.Numbers.{decimal_of}
 use Rattle.gpu_cmd.specs.Spans.{span_at}
@@ -42,7 +43,7 @@ right x = Ok x
 pub same : {A : Type 0} (x y : A) → right x ≡ right y → x ≡ y
 same x y e = cc
 
-pub found : {A : Type 0} (kind : Kind) (o : Option A) (x : A) → or_kind kind o ≡ Ok x → o ≡ Some x
+pub found : {A : Type 0} (kind : Kind) (o : Option A) (x : A) → or_error kind o ≡ Ok x → o ≡ Some x
 found kind None x e = absurd cc
 found kind (Some y) x e = let s : y ≡ x = cc in ap Some s
 
@@ -54,14 +55,14 @@ SameNames d e = names_in (streams e) ≡ names_in (streams d)
 acting_last : (d : Draft) (p : PlanData) → acting d ≡ Ok p → d.last ≡ Some p
 unfolding acting
 acting_last d p e =
-    let one = bound (or_kind Order d.last) (λ last. unless (not (is_closed last.actions)) Order >>= λ _. Ok last) p e in
+    let one = bound (or_error Order d.last) (λ last. unless (not (is_closed last.actions)) Order >>= λ _. Ok last) p e in
     let two = passed (not (is_closed one.0.actions)) Order (λ _. Ok one.0) p one.2 in
     found Order d.last one.0 one.1 ∙ ap Some (same one.0 p two.1)
 
 fresh_last : (d : Draft) (p : PlanData) → fresh d ≡ Ok p → d.last ≡ Some p
 unfolding fresh
 fresh_last d p e =
-    let one = bound (or_kind Order d.last) (λ last. unless (length last.actions == 0) Order >>= λ _. Ok last) p e in
+    let one = bound (or_error Order d.last) (λ last. unless (length last.actions == 0) Order >>= λ _. Ok last) p e in
     let two = passed (length one.0.actions == 0) Order (λ _. Ok one.0) p one.2 in
     found Order d.last one.0 one.1 ∙ ap Some (same one.0 p two.1)
 
@@ -111,7 +112,7 @@ unfolding with_fill
 fill_same words d e h =
     let said = bound (fill_said words) _ e h in
     let last = bound (acting d) _ e said.2 in
-    let span = bound (or_kind Place (span_at last.0.areas.memories said.0.0)) _ e last.2 in
+    let span = bound (or_error Place (span_at last.0.areas.memories said.0.0)) _ e last.2 in
     let fits = passed (nat_le (said.0.1 + length said.0.2) span.0.words) Place _ e span.2 in
     added_same (puts (span.0.base + said.0.1) said.0.2) last.0 last.0 d d e refl (acting_last d last.0 last.1) refl fits.1
 
@@ -149,7 +150,7 @@ unfolding with_dump
 dump_same words d e h =
     let said = bound (two_said words) _ e h in
     let last = bound (acting d) _ e said.2 in
-    let span = bound (or_kind Place (span_at last.0.areas.results said.0.0)) _ e last.2 in
+    let span = bound (or_error Place (span_at last.0.areas.results said.0.0)) _ e last.2 in
     let fits = passed (nat_lt said.0.1 span.0.words) Place _ e span.2 in
     added_same (Finish ∷ []) (record last.0 { dumps = last.0.dumps ++ (length last.0.actions, span.0.base + said.0.1) ∷ [] }) last.0 d d e refl (acting_last d last.0 last.1) refl fits.1
 
@@ -162,15 +163,11 @@ zero_space [] said e = absurd cc
 zero_space (s ∷ []) said e = absurd cc
 zero_space (s ∷ p ∷ []) said e = absurd cc
 zero_space (s ∷ p ∷ r ∷ []) said e =
-    let priority = bound (or_kind Word (priority_of p)) _ said e in
-    let stream = bound (or_kind Number (decimal_of s)) _ said priority.2 in
-    let ring = bound (or_kind Number (decimal_of r)) _ said stream.2 in
+    let priority = bound (or_error Word (priority_of p)) _ said e in
+    let stream = bound (or_error Number (decimal_of s)) _ said priority.2 in
+    let ring = bound (or_error Number (decimal_of r)) _ said stream.2 in
     ap (λ (x : Name × Priority × ℕ). x.0.namespace) (sym (same (record { namespace = 0; id = stream.0 }, priority.0, ring.0) said ring.2))
 zero_space (s ∷ p ∷ r ∷ more ∷ words) said e = absurd cc
-
-no_other : (b : Bool) → not b ≡ true → b ≡ false
-no_other true e = absurd cc
-no_other false e = refl
 
 -- what is known where a stream line is taken up: what it says, that its name and its number are new, and its small namespace
 pub record Begins (version : ℕ) (words : List (List ℕ)) (d e : Draft) : Type 0 where
@@ -197,7 +194,7 @@ stream_begins version words d e h =
       said = said.0;
       is = said.1;
       order = order.0;
-      new = sym (any_is name (streams d)) ∙ no_other (list_any (is_of name) (streams d)) new.0;
+      new = sym (any_is name (streams d)) ∙ not-true (list_any (is_of name) (streams d)) new.0;
       names = ap (λ (x : Draft). names_in (streams x)) (sym is) ∙ names_more (streams d) plan;
       small = grind (arith, nat_tests);
     }
@@ -241,7 +238,7 @@ keyword_lawful version names keyword words d e h lawful = keyword_told version n
 
 line_lawful : (version : ℕ) (names : List Name) (name : List ℕ) (words : List (List ℕ)) (d e : Draft) → with_line version names name words d ≡ Ok e → AreLawfulNames version (names_in (streams d)) → AreLawfulNames version (names_in (streams e))
 unfolding with_line
-line_lawful version names name words d e h = let keyword = bound (or_kind Word (keyword_of name)) _ e h in keyword_lawful version names keyword.0 words d e keyword.2
+line_lawful version names name words d e h = let keyword = bound (or_error Word (keyword_of name)) _ e h in keyword_lawful version names keyword.0 words d e keyword.2
 
 pub plain : {A : Type 0} (n : ℕ) (r : Result A Kind) (x : A) → at_line n r ≡ Ok x → r ≡ Ok x
 plain n (Ok y) x e = cc

@@ -1,5 +1,6 @@
 -- How far a client can come.
 use Rattle.std.proofs.Common.{◌≡◌, ℕ, zero, suc, ◌+◌, ◌≤◌, ◌<◌, Bool, true, false, cond, ◌||◌, nat_le, max, List, [], ◌∷◌, length, take, Option, None, Some, refl, sym, ap, ◌∙◌, subst, arith}
+use Rattle.std.proofs.lemmas.Bool.{both_ways}
 use Rattle.std.proofs.lemmas.Bool.Decides.{nat_tests}
 use Rattle.std.proofs.Math.Bool.{or-false}
 use Rattle.std.specs.Prelude.{slice_get}
@@ -20,7 +21,7 @@ flushes_after (x ∷ xs) (suc k) a e = let r = flushes_after xs k a e in omega a
 pub flushes_one_further : (actions : List Action) (k : ℕ) (action : Action) → slice_get actions k ≡ Some action → flushes (take (k + 1) actions) ≡ flushes (take k actions) + flush_count action
 flushes_one_further xs k a e = let one : k + 1 ≡ suc k = omega arith in ap (λ n. flushes (take n xs)) one ∙ flushes_after xs k a e
 
-flush_count_most : (a : Action) → flush_count a ≤ 1
+pub flush_count_most : (a : Action) → flush_count a ≤ 1
 flush_count_most (Put place value) = omega arith
 flush_count_most (Flush put fences) = omega arith
 flush_count_most Finish = omega arith
@@ -182,13 +183,10 @@ behind_within f g tokens (x ∷ xs) = cond_within (passes_behind f g tokens x) _
 pub bound_within : (actions : List Action) (finished : ℕ) (tokens : List ℕ) → bound actions finished tokens ≤ length actions
 bound_within actions g tokens = behind_within 0 g tokens actions
 
-true_is_not_false : (b : Bool) → b ≡ true → b ≡ false → ⊥
-true_is_not_false b t f = cc
-
 -- a bound below the position would not pass, and one above it would
 pub bound_is_first : (actions : List Action) (b finished : ℕ) (tokens : List ℕ) → ((k : ℕ) → k < b → passes actions k finished tokens ≡ true) → passes actions b finished tokens ≡ false → bound actions finished tokens ≡ b
 bound_is_first actions b g tokens below at =
     let n = bound actions g tokens in
-    let not_below : n < b → ⊥ = λ lt. true_is_not_false (passes actions n g tokens) (below n lt) (stops_at_bound actions g tokens) in
-    let not_above : b < n → ⊥ = λ lt. true_is_not_false (passes actions b g tokens) (passes_below_bound actions b g tokens lt) at in
+    let not_below : n < b → ⊥ = λ lt. both_ways (passes actions n g tokens) (stops_at_bound actions g tokens) (below n lt) in
+    let not_above : b < n → ⊥ = λ lt. both_ways (passes actions b g tokens) at (passes_below_bound actions b g tokens lt) in
     omega arith

@@ -6,7 +6,7 @@ use Rattle.script_words.specs.Text.{words_of}
 use Rattle.script_lines.specs.declared.fault.Kind.TheVariants.{Word}
 use Rattle.script_lines.specs.declared.keyword.Keyword.{Keyword}
 use Rattle.script_lines.specs.declared.keyword.Keyword.TheVariants.{StreamLine, MemoryLine, ResultsLine, PutLine, FillLine, FlushLine, FinishLine, TokenLine, CloseLine, DumpLine}
-use Rattle.script_lines.specs.Outcome.{◌>>=◌, or_kind, at_line}
+use Rattle.script_lines.specs.Outcome.{◌>>=◌, or_error, at_line}
 use Rattle.script_lines.specs.Said.{keyword_of}
 use Rattle.script_lines.specs.Mentioned.{mentioned_behind}
 use Rattle.script_lines.proofs.Mentions.{keeps_behind}
@@ -54,7 +54,7 @@ module _ (version : ℕ) (names total : List Name) where
   flush_line_stays words d keeps = rw (flush_stays version names total words keeps) refl
 
   keyword_stays : (keyword : Option Keyword) (words : List (List ℕ)) (d : Draft) → Keeps (mentioned_as version names keyword words) total
-      → (or_kind Word keyword >>= λ k. with_keyword version (mentioned_as version names keyword words) k words d) ≡ (or_kind Word keyword >>= λ k. with_keyword version total k words d)
+      → (or_error Word keyword >>= λ k. with_keyword version (mentioned_as version names keyword words) k words d) ≡ (or_error Word keyword >>= λ k. with_keyword version total k words d)
   keyword_stays None words d keeps = refl
   keyword_stays (Some StreamLine) words d keeps = refl
   keyword_stays (Some MemoryLine) words d keeps = refl

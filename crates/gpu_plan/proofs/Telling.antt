@@ -10,7 +10,7 @@ use Rattle.script_lines.specs.declared.fault.Kind.{Kind}
 use Rattle.script_lines.specs.declared.fault.Kind.TheVariants.{Word}
 use Rattle.script_lines.specs.declared.keyword.Keyword.{Keyword}
 use Rattle.script_lines.specs.declared.keyword.Keyword.TheVariants.{StreamLine, MemoryLine, ResultsLine, PutLine, FillLine, FlushLine, FinishLine, TokenLine, CloseLine, DumpLine}
-use Rattle.script_lines.specs.Outcome.{◌>>=◌, or_kind, at_line}
+use Rattle.script_lines.specs.Outcome.{◌>>=◌, or_error, at_line}
 use Rattle.script_lines.specs.Said.{keyword_of, named_said}
 use Rattle.script_lines.specs.Naming.{told, named_on, named_in}
 use Rattle.gpu_plan.specs.Plans.{PlanData, PlansData, is_of, number_of}
@@ -68,7 +68,7 @@ begun_told words d e h =
 line_told : (names : List Name) (name : List ℕ) (words : List (List ℕ)) (d e : Draft) → with_line 2 names name words d ≡ Ok e → names_in (streams e) ≡ named_on (names_in (streams d)) (name ∷ words)
 unfolding with_line named_on
 line_told names name words d e h =
-    let keyword = bound (or_kind Word (keyword_of name)) _ e h in
+    let keyword = bound (or_error Word (keyword_of name)) _ e h in
     let test = stream_test name keyword.0 (found Word (keyword_of name) keyword.0 keyword.1) in
     keyword_told 2 names keyword.0 words d e (names_in (streams e) ≡ named_on (names_in (streams d)) (name ∷ words)) keyword.2
     (λ begins begun. rw (test, begins) (begun_told words d e begun))

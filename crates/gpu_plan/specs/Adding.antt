@@ -12,7 +12,7 @@ use Rattle.gpu_plan.specs.declared.plan.Action.TheVariants.{Put, Flush, Finish, 
 use Rattle.gpu_cmd.specs.declared.priority.Priority.{Priority}
 use Rattle.script_lines.specs.declared.keyword.Keyword.{Keyword}
 use Rattle.script_lines.specs.declared.keyword.Keyword.TheVariants.{StreamLine, MemoryLine, ResultsLine, PutLine, FillLine, FlushLine, FinishLine, TokenLine, CloseLine, DumpLine}
-use Rattle.script_lines.specs.Outcome.{◌>>=◌, or_kind, unless}
+use Rattle.script_lines.specs.Outcome.{◌>>=◌, or_error, unless}
 use Rattle.gpu_plan.specs.Plans.{PlanData, is_closed, is_of, ring_alone}
 use Rattle.script_lines.specs.Said.{keyword_of, none_said, one_said, two_said, stream_said, put_said, fill_said, flush_said}
 
@@ -34,14 +34,14 @@ streams d = d.done ++ option_to_list d.last
 -- the stream begun last, where it may still act
 unfoldable pub acting : Draft → Result PlanData Kind
 acting d = do
-  last ← or_kind Order d.last
+  last ← or_error Order d.last
   _ ← unless (not (is_closed last.actions)) Order
   Ok last
 
 -- the stream begun last, where it has not acted yet
 unfoldable pub fresh : Draft → Result PlanData Kind
 fresh d = do
-  last ← or_kind Order d.last
+  last ← or_error Order d.last
   _ ← unless (length last.actions == 0) Order
   Ok last
 
@@ -73,7 +73,7 @@ flushed put fences d = do
 unfoldable pub dumped : ℕ → ℕ → Draft → Result Draft Kind
 dumped memory index d = do
   last ← acting d
-  span ← or_kind Place (span_at last.areas.results memory)
+  span ← or_error Place (span_at last.areas.results memory)
   _ ← unless (nat_lt index span.words) Place
   added (Finish ∷ []) (record last { dumps = last.dumps ++ (length last.actions, span.base + index) ∷ [] }) d
 
@@ -86,7 +86,7 @@ area_of areas (Some memory) = span_at areas.memories memory
 unfoldable pub put_into : Option ℕ → ℕ → List ℕ → Draft → Result Draft Kind
 put_into memory place values d = do
   last ← acting d
-  span ← or_kind Place (area_of last.areas memory)
+  span ← or_error Place (area_of last.areas memory)
   _ ← unless (nat_le (place + length values) span.words) Place
   added (puts (span.base + place) values) last d
 
@@ -144,7 +144,7 @@ unfoldable pub with_fill : List (List ℕ) → Draft → Result Draft Kind
 with_fill words d = do
   said ← fill_said words
   last ← acting d
-  span ← or_kind Place (span_at last.areas.memories said.0)
+  span ← or_error Place (span_at last.areas.memories said.0)
   _ ← unless (nat_le (said.1 + length said.2) span.words) Place
   added (puts (span.base + said.1) said.2) last d
 
@@ -179,7 +179,7 @@ unfoldable pub with_dump : List (List ℕ) → Draft → Result Draft Kind
 with_dump words d = do
   said ← two_said words
   last ← acting d
-  span ← or_kind Place (span_at last.areas.results said.0)
+  span ← or_error Place (span_at last.areas.results said.0)
   _ ← unless (nat_lt said.1 span.words) Place
   added (Finish ∷ []) (record last { dumps = last.dumps ++ (length last.actions, span.base + said.1) ∷ [] }) d
 
@@ -211,5 +211,5 @@ is_declaring DumpLine = false
 
 unfoldable pub with_line : ℕ → List Name → List ℕ → List (List ℕ) → Draft → Result Draft Kind
 with_line version names name words d = do
-  keyword ← or_kind Word (keyword_of name)
+  keyword ← or_error Word (keyword_of name)
   with_keyword version names keyword words d

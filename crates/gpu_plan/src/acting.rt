@@ -1,7 +1,7 @@
 ghost use Rattle.std.specs.Prelude.{◌≡◌, ◌+◌, ◌<◌, ◌≤◌, ℕ, [], ◌∷◌, true, false, length, map, List, ◌^◌, is_ok, Ok, Err, IfOk, IfSome, MatchOption};
 ghost use Rattle.gpu_cmd.specs.Lawful.{IsLawfulAreas, places_of};
 ghost use Rattle.gpu_plan.specs.Plans.{IsWithin, HasFewFences, is_flush};
-ghost use Rattle.script_lines.specs.Outcome.{Gives, or_kind};
+ghost use Rattle.script_lines.specs.Outcome.{Gives, or_error};
 ghost use Rattle.script_lines.specs.declared.fault.Kind.TheVariants.{Order};
 ghost use Rattle.gpu_plan.specs.Adding.{acting, fresh, acted, flushed, dumped, area_of, put_into};
 ghost use Rattle.gpu_plan.specs.Drafts.{shown, begun, Becomes, WerePut, WereRefused, TellsWhy};
@@ -25,7 +25,7 @@ const MOST_FENCES: usize = 16;
 
 // The draft, where a stream was begun.
 fn begun(draft: Draft) -> Result<Begun, LineError>
-    ensures plan { Gives (λ b. b.plan) result (or_kind Order (shown draft).last) }
+    ensures plan { Gives (λ b. b.plan) result (or_error Order (shown draft).last) }
     ensures same { IfOk result (λ b. begun b ≡ shown draft) }
 {
     let Draft {

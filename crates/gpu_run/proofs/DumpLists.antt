@@ -1,5 +1,5 @@
 -- The lists of dumps that the code reads.
-use Rattle.std.proofs.Common.{◌≡◌, ◌≢◌, ℕ, zero, suc, ◌+◌, ◌≤◌, ◌<◌, Bool, cond, Option, None, Some, Result, Ok, Err, List, [], ◌∷◌, ◌++◌, length, map, drop, get_or, sym, ap, ◌∙◌, arith}
+use Rattle.std.proofs.Common.{◌≡◌, ◌≢◌, ℕ, suc, ◌+◌, ◌≤◌, ◌<◌, Bool, cond, Option, None, Some, Result, Ok, Err, List, [], ◌∷◌, ◌++◌, length, map, drop, get_or, sym, ap, ◌∙◌, arith}
 use Rattle.std.specs.Prelude.{slice_get}
 use Rattle.std.specs.List.{range_with_len}
 use Rattle.std.specs.Result.{OnOk}
@@ -7,6 +7,7 @@ use Rattle.std.proofs.lemmas.Bool.{ne_eqb, eq-eqb}
 use Rattle.std.proofs.lemmas.List.{map-append, append-nil, append_assoc, length-append, drop_more}
 use Rattle.std.proofs.lemmas.Option.{slice_get_past, slice_get-get_or}
 use Rattle.std.proofs.Math.Seq.{get_or-append_seam}
+use Rattle.gpu_journal.proofs.Rows.{range_more}
 use Rattle.gpu_run.specs.Clients.{ClientData, no_client, client_at}
 use Rattle.gpu_run.specs.Reading.{dump_now, read_with, read_left}
 
@@ -53,13 +54,6 @@ left_further dumps read now all result dump value lt here is pushed old =
 -- ---- the dumps of all streams
 
 -- one stream more
-range_more : (a n : ℕ) → range_with_len a (n + 1) ≡ range_with_len a n ++ (a + n) ∷ []
-range_more a zero = ap (λ (x : ℕ). x ∷ []) (omega arith)
-range_more a (suc n) =
-    let more : suc n + 1 ≡ suc (n + 1) = omega arith in
-    let last : (a + 1) + n ≡ a + suc n = omega arith in
-    ap (range_with_len a) more ∙ ap (λ (l : List ℕ). a ∷ l) (range_more (a + 1) n ∙ ap (λ (x : ℕ). range_with_len (a + 1) n ++ x ∷ []) last)
-
 pub one_more : {X : Type 0} (f : ℕ → X) (n : ℕ) (all now : List X) (x : X) → all ≡ map f (range_with_len 1 n) → x ≡ f (n + 1) → now ≡ all ++ x ∷ [] → now ≡ map f (range_with_len 1 (n + 1))
 one_more f n all now x old is pushed =
     let last : 1 + n ≡ n + 1 = omega arith in

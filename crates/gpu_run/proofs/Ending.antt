@@ -23,10 +23,11 @@ use Rattle.house_core.specs.declared.ends.Closing.TheVariants as closing
 use Rattle.gpu_house.specs.Slots.{SlotData, slot_at}
 use Rattle.gpu_house.specs.Changes.{Appends}
 use Rattle.gpu_fetch.specs.Side.{SideData}
+use Rattle.gpu_journal.proofs.Following.{plan_here}
 use Rattle.gpu_run.specs.Clients.{ClientData, client_at, done_at}
 use Rattle.gpu_run.specs.Rounds.{IsRising, HaveActed, HaveClosed}
 use Rattle.gpu_run.specs.Served.{PlainHouse, IsServedAt, IsServed}
-use Rattle.gpu_run.proofs.Rows.{plan_is, client_there}
+use Rattle.gpu_run.proofs.Rows.{client_there}
 use Rattle.gpu_run.proofs.Serving.{client_on, has_event, other_home, served_all}
 use Rattle.gpu_run.proofs.Phases.{at_close_is, rising_close, acted_close, closed_close}
 
@@ -99,7 +100,7 @@ closes p house new clients s r is_known lawful rising served acted closed o here
 pub close_test : (p plans : PlansData) (clients : List ClientData) (s position : ℕ) (plan : PlanData) (list : List Action) (client : ClientData) (b : Bool) → plans ≡ p → slice_get plans.plans (s - 1) ≡ Some plan → list ≡ plan.actions → IsKnown (length p.plans) s → length clients ≡ length p.plans
     → client ≡ get_or clients (s - 1) client → position ≡ client.words.done → b ≡ is_close (slice_get list position) → is_close (slice_get (plan_of p s).actions (done_at clients s)) ≡ b
 close_test p plans clients s position plan list client b same at listed is_known count read place test =
-    let is : plan_of p s ≡ plan = plan_is p s plan is_known.0 (ap (λ (q : PlansData). slice_get q.plans (s - 1)) (sym same) ∙ at) in
+    let is : plan_of p s ≡ plan = plan_here p s plan is_known.0 (ap (λ (q : PlansData). slice_get q.plans (s - 1)) (sym same) ∙ at) in
     let high = is_known.1 in
     let here : client ≡ client_at clients s = read ∙ client_there clients s client (is_known.0, omega (arith, high, count)) in
     let done : position ≡ done_at clients s = place ∙ ap (λ (c : ClientData). c.words.done) here in

@@ -1,6 +1,6 @@
 -- What an event leaves as it was, and what it makes of the phases of a round.
 use Rattle.std.proofs.Common.{◌≡◌, ◌≢◌, ℕ, ◌+◌, ◌-◌, ◌≤◌, ◌<◌, ◌⊎◌, inl, inr, eqb, Bool, true, false, not, ◌&&◌, cond, List, ◌∷◌, length, take, refl, sym, ap, subst, ◌∙◌, arith}
-use Rattle.std.proofs.lemmas.Bool.{ne_eqb, and_left, and_right, lt-ltb}
+use Rattle.std.proofs.lemmas.Bool.{ne_eqb, and_left, and_right, lt-ltb, eqb-true, and_from}
 use Rattle.std.proofs.lemmas.Bool.Decides.{nat_tests}
 use Rattle.std.specs.Prelude.{nat_lt, slice_get}
 use Rattle.gpu_plan.specs.Plans.{PlansData, plan_of}
@@ -12,8 +12,8 @@ use Rattle.gpu_journal.specs.World.{Known, world, stream_in, asked_by, known}
 use Rattle.gpu_journal.specs.Waits.{deed, standing_of, drawn}
 use Rattle.gpu_journal.specs.Facts.{reach}
 use Rattle.gpu_journal.specs.Serial.{begins_round, count, stays, has_flush, is_close, is_at_close, order_event}
-use Rattle.serial_laws.proofs.First.{nat_cases, and_made}
-use Rattle.serial_laws.proofs.Others.{moved_by, standing_own, standing_other, known_own, known_other, along}
+use Rattle.serial_laws.proofs.First.{nat_cases}
+use Rattle.serial_laws.proofs.Others.{moved_by, standing_own, standing_other, known_own, known_other}
 use Rattle.serial_laws.proofs.Spent.{asked_open}
 use Rattle.run_laws.proofs.Going.{close_ends}
 use Rattle.run_laws.proofs.Reaches.{reach_order, reach_close}
@@ -38,7 +38,7 @@ module _ (p : PlansData) (h : List Event) where
       own q = event_open e (drawn p h + 1) (standing_of p h (stream_in e)) (sym (ap is_open (standing_own p e h)) ∙ q)
 
       by : (b : Bool) → eqb (stream_in e) t ≡ b → stays p h t ≡ true
-      by true q = subst (λ (s : ℕ). stays p h s ≡ true) (along (stream_in e) t q) (own (subst (λ (s : ℕ). stays p (e ∷ h) s ≡ true) (sym (along (stream_in e) t q)) o))
+      by true q = subst (λ (s : ℕ). stays p h s ≡ true) (eqb-true (stream_in e) t q) (own (subst (λ (s : ℕ). stays p (e ∷ h) s ≡ true) (sym (eqb-true (stream_in e) t q)) o))
       by false q = sym (ap is_open (standing_other p e h t q)) ∙ o
 
 -- ---- the counts of the rule
@@ -62,7 +62,7 @@ reach_same : (p : PlansData) (e : Event) (h : List Event) (t : ℕ) → reach p 
 reach_same p e h t own = by (eqb (stream_in e) t) refl
   where
     by : (b : Bool) → eqb (stream_in e) t ≡ b → reach p (e ∷ h) t ≡ reach p h t
-    by true q = subst (λ (s : ℕ). reach p (e ∷ h) s ≡ reach p h s) (along (stream_in e) t q) own
+    by true q = subst (λ (s : ℕ). reach p (e ∷ h) s ≡ reach p h s) (eqb-true (stream_in e) t q) own
     by false q = reach_other p e h t q
 
 pub reach_ordered : (p : PlansData) (h : List Event) (s t : ℕ) → reach p (order_event p h s ∷ h) t ≡ reach p h t
@@ -102,7 +102,7 @@ pub rising_order : (p : PlansData) (h : List Event) (done : ℕ → ℕ) (s : �
 rising_order p h done s r a pos high open' some_flush = record {
   played = (
     follows_order p h s pos high (λ t x y. a.no_flush t x (omega arith))
-        (and_made (stays p h s) (nat_lt (known p h s).ordered (flushes (take (count p h s) (plan_of p s).actions))) open'
+        (and_from (stays p h s) (nat_lt (known p h s).ordered (flushes (take (count p h s) (plan_of p s).actions))) open'
         (ap (λ (k : ℕ). nat_lt (known p h s).ordered (flushes (take k (plan_of p s).actions))) (r.fresh s) ∙ lt-ltb (known p h s).ordered (flushes_to (plan_of p s) (reach p h s)) some_flush)),
     r.played,
   );

@@ -1,25 +1,24 @@
 -- The puts that follow one another.
-use Rattle.std.proofs.Common.{◌≡◌, ◌≢◌, ℕ, zero, suc, ◌+◌, ◌-◌, ◌≤◌, ◌<◌, ◌⊎◌, inl, inr, true, Option, None, Some, List, [], ◌∷◌, ◌++◌, length, get_or, set, take, refl, sym, ap, subst, ◌∙◌, arith}
+use Rattle.std.proofs.Common.{◌≡◌, ◌≢◌, ℕ, zero, suc, ◌+◌, ◌-◌, ◌≤◌, ◌<◌, ◌⊎◌, inl, inr, Option, Some, List, [], ◌∷◌, ◌++◌, length, get_or, set, take, refl, sym, ap, subst, ◌∙◌, arith}
 use Rattle.std.proofs.lemmas.List.{length-set}
 use Rattle.std.proofs.lemmas.List.Elements.{All-head, All-tail, All-weaker}
-use Rattle.std.proofs.lemmas.Option.{slice_get-get_or}
 use Rattle.std.specs.Prelude.{slice_get}
 use Rattle.std.specs.List.{All}
 use Rattle.std.specs.Option.{IsSomeAnd}
 use Rattle.gpu_cmd.specs.declared.areas.Span.{Span}
 use Rattle.gpu_plan.specs.declared.plan.Action.{Action}
-use Rattle.gpu_plan.specs.declared.plan.Action.TheVariants.{Put, Flush, Finish, Token, Close}
 use Rattle.gpu_plan.specs.Plans.{PlansData, PlanData, no_plan, plan_of, IsDump, RiseFrom}
-use Rattle.gpu_plan.specs.Passes.{flush_count, flushes, passes, passes_if_there, bound, greatest}
-use Rattle.gpu_plan.proofs.Passing.{flushes_one_further, bound_one_further}
+use Rattle.gpu_plan.specs.Passes.{flushes, greatest}
 use Rattle.gpu_fetch.specs.Side.{SideData}
 use Rattle.gpu_fetch.specs.Plain.{PlainData, ArePuts, IsNext, IsPut, IsBeside, IsNoteBeside}
 use Rattle.gpu_fetch.proofs.Putting.{bound_puts, apart}
 use Rattle.sync_core.specs.Standing.{IsKnown}
+use Rattle.gpu_fetch.proofs.Counting.{put_counts}
 use Rattle.gpu_journal.specs.declared.event.Event.{Event}
 use Rattle.gpu_journal.specs.World.{known}
 use Rattle.gpu_journal.specs.Facts.{reach}
 use Rattle.gpu_journal.specs.Serial.{count}
+use Rattle.gpu_journal.proofs.Following.{plan_here}
 use Rattle.serial_laws.specs.Scripts.{AreLawfulPlans}
 use Rattle.serial_laws.proofs.First.{nat_cases}
 use Rattle.run_laws.proofs.Tokens.{reach_is}
@@ -28,27 +27,9 @@ use Rattle.gpu_run.specs.Clients.{ClientData, client_at, done_at, flushes_to, Is
 use Rattle.gpu_run.specs.Reading.{HasRead, HaveRead}
 use Rattle.gpu_run.specs.Served.{PlainHouse, IsClientOf, IsServedAt, IsServed}
 use Rattle.gpu_run.specs.Stands.{Acting, Stands}
-use Rattle.gpu_run.proofs.NextAction.{next_is}
-use Rattle.gpu_run.proofs.Rows.{plan_is, client_there, client_same, client_other}
+use Rattle.gpu_run.proofs.Rows.{client_there, client_same, client_other}
 use Rattle.gpu_run.proofs.Serving.{beside_puts, stays_so, other_home, served_all}
 use Rattle.gpu_run.proofs.Phases.{acted_passed}
-
--- ---- one put
-
-put_counts : (a : Action) → IsPut a → flush_count a ≡ 0
-put_counts (Put place value) is = refl
-put_counts (Flush put fences) is = absurd is
-put_counts Finish is = refl
-put_counts (Token token) is = refl
-put_counts Close is = refl
-
--- it is no flush
-pub put_quiet : (actions : List Action) (k : ℕ) → IsNext IsPut actions k → flushes (take (k + 1) actions) ≡ flushes (take k actions)
-put_quiet actions k is = by (slice_get actions k) refl is
-  where
-    by : (o : Option Action) → slice_get actions k ≡ o → IsSomeAnd o IsPut → flushes (take (k + 1) actions) ≡ flushes (take k actions)
-    by None e at = absurd at
-    by (Some a) e at = let step = flushes_one_further actions k a e in let none = put_counts a at in omega (arith, step, none)
 
 -- ---- puts that follow one another
 
@@ -56,7 +37,7 @@ quiet_puts : (actions : List Action) (from n : ℕ) → ArePuts actions from (fr
 quiet_puts actions from zero puts = ap (λ (k : ℕ). flushes (take k actions)) (omega arith)
 quiet_puts actions from (suc n) puts =
     let more : from + suc n ≡ (from + n) + 1 = omega arith in
-    ap (λ (k : ℕ). flushes (take k actions)) more ∙ put_quiet actions (from + n) (puts (from + n) (omega arith) (omega arith)) ∙ quiet_puts actions from n (λ k low high. puts k low (omega (arith, high)))
+    ap (λ (k : ℕ). flushes (take k actions)) more ∙ put_counts actions (from + n) (puts (from + n) (omega arith) (omega arith)) ∙ quiet_puts actions from n (λ k low high. puts k low (omega (arith, high)))
 
 -- no flush is among them
 pub puts_quiet : (actions : List Action) (from to : ℕ) → from ≤ to → ArePuts actions from to → flushes (take to actions) ≡ flushes (take from actions)
@@ -132,14 +113,14 @@ its_plan p house clients s plan other is_known served at =
     let many = served.many.as_clients in
     let here : get_or clients (s - 1) other ≡ client_at clients s = client_there clients s other (is_known.0, omega (arith, high, many)) in
     let own = (served.each s is_known).1 in
-    sym (plan_is p s plan is_known.0 at) ∙ sym own.client.plan ∙ ap (λ (c : ClientData). c.words.plan) (sym here)
+    sym (plan_here p s plan is_known.0 at) ∙ sym own.client.plan ∙ ap (λ (c : ClientData). c.words.plan) (sym here)
 
 -- the same by what the code tells of the plan and the client
 pub has_put : (p : PlansData) (clients : List ClientData) (s : ℕ) (plan : PlanData) (client other now : ClientData) → IsKnown (length p.plans) s → length clients ≡ length p.plans → client ≡ get_or clients (s - 1) other → slice_get p.plans (s - 1) ≡ Some plan → HasPut plan.actions client now → HasPut (plan_of p s).actions (client_at clients s) now
 has_put p clients s plan client other now is_known many read at has =
     let high = is_known.1 in
     let here : client ≡ client_at clients s = read ∙ client_there clients s other (is_known.0, omega (arith, high, many)) in
-    subst (λ (c : ClientData). HasPut (plan_of p s).actions c now) here (subst (λ (q : PlanData). HasPut q.actions client now) (sym (plan_is p s plan is_known.0 at)) has)
+    subst (λ (c : ClientData). HasPut (plan_of p s).actions c now) here (subst (λ (q : PlanData). HasPut q.actions client now) (sym (plan_here p s plan is_known.0 at)) has)
 
 module _ (p : PlansData) (house : PlainHouse) (clients : List ClientData) (s : ℕ) (now : ClientData) (is_known : IsKnown (length p.plans) s) (stands : Stands (Acting (s - 1)) p house clients) (has : HasPut (plan_of p s).actions (client_at clients s) now) where
   abbrev after : List ClientData

@@ -1,22 +1,20 @@
 -- One action of a client, by the rule.
-use Rattle.std.proofs.Common.{◌≡◌, ℕ, suc, ◌+◌, ◌-◌, ◌≤◌, ◌<◌, true, false, Option, None, Some, List, [], ◌∷◌, length, get_or, set, take, refl, sym, ap, subst, ◌∙◌, arith}
+use Rattle.std.proofs.Common.{◌≡◌, ℕ, suc, ◌+◌, ◌-◌, ◌≤◌, ◌<◌, true, false, Option, Some, List, [], ◌∷◌, length, get_or, set, take, sym, ap, subst, ◌∙◌, arith}
+use Rattle.std.proofs.lemmas.Bool.{both_ways}
 use Rattle.std.proofs.lemmas.List.{set-get_or}
 use Rattle.std.specs.Prelude.{slice_get, unwrap_or, option_map}
-use Rattle.std.specs.Option.{IsSomeAnd}
-use Rattle.gpu_plan.specs.declared.plan.Action.{Action}
-use Rattle.gpu_plan.specs.declared.plan.Action.TheVariants as actions
 use Rattle.gpu_plan.specs.Plans.{PlansData, PlanData, plan_of}
-use Rattle.gpu_plan.specs.Passes.{flushes, passes, bound, greatest, flush_count}
+use Rattle.gpu_plan.specs.Passes.{flushes, passes, bound, greatest}
 use Rattle.gpu_plan.specs.Places.{flush_places, mark_of}
-use Rattle.gpu_plan.proofs.Passing.{bound_one_further, passes_below_bound, flushes_one_further, flushes_all}
+use Rattle.gpu_plan.proofs.Passing.{bound_one_further, passes_below_bound, flushes_all}
 use Rattle.gpu_fetch.specs.Plain.{PlainData, one_further, IsFlush, IsNext}
 use Rattle.sync_core.specs.Standing.{IsKnown}
+use Rattle.gpu_fetch.proofs.Counting.{flush_counts}
 use Rattle.gpu_journal.specs.declared.event.Event.{Event}
 use Rattle.gpu_journal.specs.World.{known}
 use Rattle.gpu_journal.specs.Facts.{reach}
 use Rattle.gpu_journal.specs.Serial.{stays}
 use Rattle.serial_laws.proofs.Flushes.{flushes_grow, flush_placed}
-use Rattle.serial_laws.proofs.Ends.{clash}
 use Rattle.run_laws.proofs.Tokens.{reach_is}
 use Rattle.gpu_run.specs.Clients.{ClientData, client_at, done_at, flushes_to}
 use Rattle.gpu_run.specs.Rounds.{GoesFurther, StandsStill}
@@ -44,7 +42,7 @@ passes_below p h s f t done plan is is_f is_t le passing =
 pub stops_there : (p : PlansData) (h : List Event) (s f t done : ℕ) (plan : PlanData) → plan_of p s ≡ plan → f ≡ (known p h s).finished → t ≡ greatest (known p h s).tokens → done ≤ reach p h s → passes plan.actions done f (t ∷ []) ≡ false → done ≡ reach p h s
 stops_there p h s f t done plan is is_f is_t le stops =
     let far = reach_by p h s f t plan is is_f is_t in
-    let not_below : done < reach p h s → ⊥ = λ lt. clash (passes plan.actions done f (t ∷ [])) (passes_below_bound plan.actions done f (t ∷ []) (omega (arith, far, lt))) stops in
+    let not_below : done < reach p h s → ⊥ = λ lt. both_ways (passes plan.actions done f (t ∷ [])) stops (passes_below_bound plan.actions done f (t ∷ []) (omega (arith, far, lt))) in
     omega (arith, le, not_below)
 
 -- the client stands still, with each of its flushes ordered
@@ -67,21 +65,7 @@ nothing_done clients s other = ap done_at (set-get_or clients (s - 1) other)
 
 -- ---- a flush that is next
 
-pub flush_counts : (xs : List Action) (k : ℕ) → IsNext IsFlush xs k → flushes (take (k + 1) xs) ≡ flushes (take k xs) + 1
-flush_counts xs k next = by (slice_get xs k) refl next
-  where
-    one : (a : Action) → IsFlush a → flush_count a ≡ 1
-    one (actions.Put place value) is = absurd is
-    one (actions.Flush put fences) is = refl
-    one actions.Finish is = absurd is
-    one (actions.Token token) is = absurd is
-    one actions.Close is = absurd is
-
-    by : (o : Option Action) → slice_get xs k ≡ o → IsSomeAnd o IsFlush → flushes (take (k + 1) xs) ≡ flushes (take k xs) + 1
-    by None e is = absurd is
-    by (Some a) e is = let step = flushes_one_further xs k a e in let counted = one a is in omega (arith, step, counted)
-
--- so the note of the flush is that of the stream's next order
+-- its note is that of the stream's next order
 pub note_fits : (p : PlansData) (h : List Event) (s note : ℕ) (words : PlainData) (plan : PlanData) → plan_of p s ≡ plan → stays p h s ≡ true → IsClientOf p h s words → IsNext IsFlush plan.actions words.done → note ≡ words.done + 1 → note ≡ mark_of (plan_of p s) (known p h s).ordered
 note_fits p h s note words plan is o client next e =
     let at : slice_get (flush_places (plan_of p s).actions) (flushes (take words.done (plan_of p s).actions)) ≡ Some words.done = flush_placed (plan_of p s).actions words.done (flush_counts (plan_of p s).actions words.done (subst (λ (q : PlanData). IsNext IsFlush q.actions words.done) (sym is) next)) in

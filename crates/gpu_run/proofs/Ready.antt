@@ -9,10 +9,12 @@ use Rattle.gpu_plan.specs.Places.{mark_of}
 use Rattle.gpu_fetch.specs.Side.{SideData}
 use Rattle.gpu_fetch.specs.Plain.{PlainData, one_further, IsFlush, IsNext, IsBeside, IsNoteBeside}
 use Rattle.sync_core.specs.Standing.{IsKnown}
+use Rattle.gpu_fetch.proofs.Counting.{flush_counts}
 use Rattle.gpu_journal.specs.declared.event.Event.{Event}
 use Rattle.gpu_journal.specs.World.{known}
 use Rattle.gpu_journal.specs.Facts.{reach}
 use Rattle.gpu_journal.specs.Serial.{stays, order_event}
+use Rattle.gpu_journal.proofs.Following.{plan_here}
 use Rattle.house_core.specs.Core.{is_home}
 use Rattle.house_core.specs.Desks.{Out}
 use Rattle.gpu_house.specs.Slots.{SlotData, slot_at}
@@ -21,9 +23,9 @@ use Rattle.gpu_run.specs.declared.acting.Act.TheVariants.{Stays}
 use Rattle.gpu_run.specs.Clients.{ClientData, client_at, done_at, flushes_to}
 use Rattle.gpu_run.specs.Rounds.{ActsAs, GoesFurther, IsRising}
 use Rattle.gpu_run.specs.Served.{PlainHouse, AreAsMany, IsServedAt, IsServed}
-use Rattle.gpu_run.proofs.Rows.{plan_is, client_there, client_same, client_other, slot_same, slot_other}
+use Rattle.gpu_run.proofs.Rows.{client_there, client_same, client_other, slot_same, slot_other}
 use Rattle.gpu_run.proofs.Serving.{Keeps, beside_keeps, beside_noted, client_passed, client_ordered, stays_so, has_event, other_home, served_all}
-use Rattle.gpu_run.proofs.Reaching.{passes_below, stops_there, stands_still, goes_further, flush_counts, note_fits, flush_left, flush_reached}
+use Rattle.gpu_run.proofs.Reaching.{passes_below, stops_there, stands_still, goes_further, note_fits, flush_left, flush_reached}
 
 -- before an action of the client of stream s: what the house tells of its stream, its plan, and the client
 pub record Ready (p : PlansData) (house : PlainHouse) (clients : List ClientData) (s f t : ℕ) (plan : PlanData) (client : ClientData) : Type 0 where
@@ -55,7 +57,7 @@ ready_in p house clients s f t plan client other is_known served rising o is_f i
       is_t = is_t;
       home_f = home_f o;
       home_t = home_t o;
-      its_plan = plan_is p s plan is_known.0 at;
+      its_plan = plan_here p s plan is_known.0 at;
       in_row = row;
       here = read ∙ ap (λ (c : ClientData). c.words) (client_there clients s other row);
     }

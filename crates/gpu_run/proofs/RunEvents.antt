@@ -1,6 +1,6 @@
 -- The event of a run, by what its commands say.
 use Rattle.std.proofs.Common.{◌≡◌, ◌≢◌, ℕ, eqb, Bool, true, cond, Some, Result, Ok, Err, List, [], ◌∷◌, refl, sym, ap, ◌∙◌, IsOk}
-use Rattle.std.proofs.lemmas.Bool.{ne_eqb}
+use Rattle.std.proofs.lemmas.Bool.{ne_eqb, eq-eqb}
 use Rattle.std.specs.List.{All}
 use Rattle.gpu_cmd.specs.declared.command.Command.{Command}
 use Rattle.gpu_cmd.specs.declared.error.CmdError.{CmdError}
@@ -18,7 +18,6 @@ use Rattle.gpu_journal.specs.declared.event.Why.TheVariants.{Error}
 use Rattle.gpu_journal.specs.Waits.{left_of, front}
 use Rattle.gpu_journal.specs.Facts.{facts_at, verdict_at}
 use Rattle.gpu_journal.specs.Serial.{count, judged_event, next_words, run_event}
-use Rattle.serial_laws.proofs.Others.{self}
 
 -- words of the places to be fetched, with the values that the client has put, are those of the rule
 pub next_is_found : (p : PlansData) (h : List Event) (s : ℕ) (w : PlainData) (found : List (ℕ × ℕ)) (facts : StreamFacts) → places_listed found ≡ fetched_places found facts → All (IsHeld w) found → w.plan ≡ plan_of p s → w.done ≡ count p h s → facts ≡ facts_at p h s
@@ -32,7 +31,7 @@ next_is_found p h s w found facts places held plan done is =
 -- where nothing is left of the flush, it is the finish of the first number
 pub event_finish : (p : PlansData) (h : List Event) (s n : ℕ) → first_order (left_of p h s) ≡ Some n → (facts_at p h s).get ≡ (facts_at p h s).put → run_event p h s ≡ Finish s n
 event_finish p h s n first same =
-    let at : eqb (facts_at p h s).get (facts_at p h s).put ≡ true = ap (λ (k : ℕ). eqb k (facts_at p h s).put) same ∙ self (facts_at p h s).put in
+    let at : eqb (facts_at p h s).get (facts_at p h s).put ≡ true = ap (λ (k : ℕ). eqb k (facts_at p h s).put) same ∙ eq-eqb (facts_at p h s).put (facts_at p h s).put refl in
     ap (λ (b : Bool). cond b (Finish s (front p h s)) (judged_event s (next_words p h s) (verdict_at p h s (next_words p h s)))) at ∙ ap (Finish s) (by (left_of p h s) first)
   where
     by : (xs : List Number) → first_order xs ≡ Some n → front_of xs ≡ n

@@ -44,12 +44,12 @@ impl Client {
         ensures beside { IfOk result (λ made. IsBeside made.1 made.0.words) }
     {
         let (words, side) = PlainWords::make(alloc, plan)?;
-        let dumps = Dumps::make(alloc, plan.dumps().len())?;
+        let dumps = Vec::with_capacity(alloc, plan.dumps().len())?;
         let client = Client {
             words,
             position: 0,
             flushed: 0,
-            dumps,
+            dumps: Dumps::of(dumps),
         };
         Ok((client, side))
     }

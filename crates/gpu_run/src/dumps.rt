@@ -1,7 +1,6 @@
-ghost use Rattle.std.specs.Prelude.{◌≡◌, [], ◌∷◌, ◌++◌, IfOk, OnOk, OnErr};
+ghost use Rattle.std.specs.Prelude.{◌≡◌, [], ◌∷◌, ◌++◌, OnOk, OnErr};
 
 use gpu_word::Memory;
-use std::alloc::Global;
 use std::marker::Model;
 
 /// What the client of one stream has read of its results, seen as the list of (action place, result place, value).
@@ -19,19 +18,6 @@ impl Model for Dumps {
 }
 
 impl Dumps {
-    /// No dump, with room for so many.
-    ///
-    /// # Errors
-    ///
-    /// `Memory`: for the room, 12 bytes a dump.
-    pub fn make(alloc: Global, room: usize) -> Result<Dumps, Memory>
-        ensures { IfOk result (λ dumps. dumps ≡ []) }
-    {
-        Ok(Dumps {
-            items: Vec::with_capacity(alloc, room)?,
-        })
-    }
-
     /// These dumps: of each the place of its action, the result place and the value.
     pub fn of(items: Vec<(u32, u32, u32)>) -> Dumps
         ensures { result ≡ items.items }

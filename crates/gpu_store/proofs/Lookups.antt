@@ -1,6 +1,7 @@
 -- What is found among the images after a change, and at a place in their order.
-use Rattle.std.proofs.Common.{◌≡◌, ◌≢◌, ℕ, Bool, true, false, cond, Option, Some, None, [], ◌∷◌, refl, sym, ap, subst, ◌∙◌, arith}
+use Rattle.std.proofs.Common.{◌≡◌, ◌≢◌, ℕ, ◌<◌, Bool, true, false, cond, Option, Some, None, List, [], ◌∷◌, length, get_or, inl, inr, refl, sym, ap, subst, ◌∙◌, arith}
 use Rattle.std.specs.Prelude.{option_map, slice_get}
+use Rattle.std.specs.Iterator.{Yields, YieldsFirstBy}
 use Rattle.std.specs.Map.{keys_of}
 use Rattle.std.specs.BTreeMap.{is_at}
 use Rattle.std.specs.Ordering.{nat_cmp}
@@ -9,7 +10,9 @@ use Rattle.std.specs.List.Sorted.{IsStrictlySortedBy}
 use Rattle.std.proofs.lemmas.Bool.Decides.{nat_tests}
 use Rattle.std.proofs.lemmas.Map.Keys.{IsDistinct-from_sorted}
 use Rattle.std.proofs.lemmas.Map.Entries.{lookup_from_place}
-use Rattle.std.proofs.lemmas.Option.{slice_get-map}
+use Rattle.std.proofs.lemmas.List.{length-map}
+use Rattle.std.proofs.lemmas.Option.{slice_get-map, slice_get-get_or, slice_get_cases}
+use Rattle.std.proofs.lemmas.Iterator.Consumers.{YieldsList-from_first, YieldsList-turn, YieldsList-end}
 use Rattle.gpu_store.specs.Picture.{Picture}
 use Rattle.gpu_store.specs.Images.{Pictures, picture_of, replaced, numbers}
 
@@ -60,3 +63,42 @@ picture_of-number images place number sorted stands =
         let same : entry.0 ≡ number = cc in
         subst (λ (number : ℕ). picture_of images number ≡ Some entry.1) same
         (lookup_from_place (eq_by_cmp_equiv nat_cmp_total) images place entry.0 entry.1 (IsDistinct-from_sorted nat_cmp (keys_of images) sorted) found)
+
+pub length-numbers : (images : Pictures) → length (numbers images) ≡ length images
+length-numbers images = length-map images (λ (entry : ℕ × Picture). entry.0)
+
+-- the entry that stands at this place in the order, whose number this is
+pub record Stands (images : Pictures) (place number : ℕ) : Type 0 where
+  pub within : place < length images
+  pub entry : ℕ × Picture
+  pub shown : picture_of images number ≡ Some entry.1
+  pub same : number ≡ entry.0
+  pub there : get_or images place entry ≡ entry
+
+-- what stands at a place of the images
+pub entry_there : (images : Pictures) (place number : ℕ) → IsStrictlySortedBy nat_cmp (keys_of images) → place < length images → slice_get (numbers images) place ≡ Some number → Stands images place number
+entry_there images place number sorted lt stands =
+    elim ((slice_get_cases images place).1) [
+      | inl here ↦
+          let entry = here.0 in
+          let keyed : slice_get (numbers images) place ≡ Some entry.0 = slice_get-map (λ (e : ℕ × Picture). e.0) images place ∙ ap (option_map (λ (e : ℕ × Picture). e.0)) here.2 in
+          let named : number ≡ entry.0 = cc in
+          let found : picture_of images number ≡ Some entry.1 = picture_of-number images place number sorted stands ∙ ap (option_map (λ (e : ℕ × Picture). e.1)) here.2 in
+          record { within = lt; entry = entry; shown = found; same = named; there = here.3 }
+      | inr past ↦ absurd (omega arith)
+    ]
+
+-- ---- a walk over the numbers of all images
+
+module _ (images : Pictures) (start yielded left : List ℕ) (all : start ≡ numbers images) (walked : Yields (YieldsFirstBy (λ (n : ℕ). n) (λ (s : List ℕ). s)) start yielded left)
+    (next : Option ℕ) (after : List ℕ) (step : YieldsFirstBy (λ (n : ℕ). n) (λ (s : List ℕ). s) left next after) where
+  -- the number at hand is the one at the place that the walk has come to
+  pub number_stands : (number : ℕ) → next ≡ Some number → IsStrictlySortedBy nat_cmp (keys_of images) → Stands images (length yielded) number
+  number_stands number is sorted =
+      let turn = YieldsList-turn (YieldsList-from_first (λ (n : ℕ). n) (λ (s : List ℕ). s) (numbers images) all) yielded left walked next after number is step in
+      let count = length-numbers images in
+      entry_there images (length yielded) number sorted (omega (arith, count, turn.0)) (slice_get-get_or (numbers images) (length yielded) number turn.0 ∙ ap Some (sym turn.1))
+
+  -- at its end it has come past all images
+  pub numbers_end : next ≡ None → length yielded ≡ length images
+  numbers_end is = (YieldsList-end (YieldsList-from_first (λ (n : ℕ). n) (λ (s : List ℕ). s) (numbers images) all) yielded left walked next after is step).1 ∙ length-numbers images

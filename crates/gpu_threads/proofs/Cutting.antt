@@ -6,8 +6,9 @@ use Rattle.std.proofs.lemmas.Bool.Decides.{nat_tests}
 use Rattle.std.proofs.lemmas.List.{take-append-le, take-map, take_all}
 use Rattle.std.proofs.lemmas.List.Kept.{AllPairs-from_increasing}
 use Rattle.std.proofs.Math.Seq.{take-append-add}
-use Rattle.gpu_word.specs.Results.{Written, Write, finishes_in, after_written, last_or, last_written, writes_of, WasLast}
+use Rattle.gpu_word.specs.Results.{Written, Write, finishes_in, last_or, last_written, writes_of, WasLast}
 use Rattle.gpu_word.specs.Results.{Finish as finish}
+use Rattle.gpu_word.proofs.Written.{last_of_both, finishes_of_both}
 use Rattle.gpu_plan.specs.Plans.{PlansData, plan_of, RiseFrom}
 use Rattle.gpu_plan.specs.Passes.{flushes}
 use Rattle.stream_state.specs.Steps.{writes}
@@ -17,14 +18,10 @@ use Rattle.gpu_journal.specs.declared.event.Event.TheVariants.{Order, Step, Fini
 use Rattle.gpu_journal.specs.World.{stream_in, state_of}
 use Rattle.gpu_journal.specs.Written.{written, written_by}
 use Rattle.gpu_journal.specs.Dumps.{MayDump}
-use Rattle.gpu_journal.proofs.Folding.{written_then}
-use Rattle.gpu_house.proofs.Counting.{finishes_append, no_finish, nothing_written, finishes_are}
+use Rattle.gpu_journal.proofs.Folding.{written_then, written_none}
+use Rattle.gpu_house.proofs.Counting.{no_finish, finishes_are}
 
 -- ---- lists of writes and finishes
-
-last_of_both : (i v : ℕ) (xs ys : List Written) → last_or i v (xs ++ ys) ≡ last_or i (last_or i v xs) ys
-last_of_both i v [] ys = refl
-last_of_both i v (x ∷ xs) ys = last_of_both i (after_written i v x) xs ys
 
 abbrev nothing : List Written
 nothing = []
@@ -53,7 +50,7 @@ cut xs ys place least value clean was = by (nat_le n (length xs)) refl
     behind j parts = ⊎_elim before after (clean j place (last_written xs place))
       where
         count : least ≤ finishes_in xs + finishes_in (take j ys)
-        count = let many = was.enough in let e = ap finishes_in parts ∙ finishes_append xs (take j ys) in omega (arith, many, e)
+        count = let many = was.enough in let e = ap finishes_in parts ∙ finishes_of_both xs (take j ys) in omega (arith, many, e)
 
         found : last_or place (last_written xs place) (take j ys) ≡ value
         found = sym (ap (λ (l : List Written). last_written l place) parts ∙ last_of_both place 0 xs (take j ys)) ∙ was.last
@@ -69,7 +66,7 @@ cut xs ys place least value clean was = by (nat_le n (length xs)) refl
 
         after : (finishes_in (take j ys) ≤ finishes_in ys) × (last_or place (last_written xs place) (take j ys) ≡ last_or place (last_written xs place) ys) → WasLast xs place least value ⊎ IsWhole (xs ++ ys) place least value
         after more = inr record {
-          enough = (let few = more.0 in let e = finishes_append xs ys in omega (arith, count, few, e));
+          enough = (let few = more.0 in let e = finishes_of_both xs ys in omega (arith, count, few, e));
           last = last_of_both place 0 xs ys ∙ sym more.1 ∙ found;
         }
 
@@ -166,7 +163,7 @@ module _ (p : PlansData) (s : ℕ) (dump : ℕ × ℕ) (value : ℕ) where
   -- a value that was last in a first part of what was written, behind enough finishes, may be told
   pub may_be_told : (h : List Event) → WasLast (written p h s) dump.1 least value → MayDump p h s dump value
   may_be_told [] was =
-      let none : take was.length (written p [] s) ≡ written p [] s = ap (take was.length) (nothing_written p s) ∙ take_none was.length ∙ sym (nothing_written p s) in
+      let none : take was.length (written p [] s) ≡ written p [] s = ap (take was.length) (written_none p s) ∙ take_none was.length ∙ sym (written_none p s) in
       whole [] record { enough = subst (λ (l : List Written). least ≤ finishes_in l) none was.enough; last = subst (λ (l : List Written). last_written l dump.1 ≡ value) none was.last }
   may_be_told (e ∷ h) was = by (eqb (stream_in e) s) (written_then p e h s) (may_be_told h)
     where

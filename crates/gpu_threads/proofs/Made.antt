@@ -59,7 +59,7 @@ module _ (tables : ℕ → TableId) where
       some_is xs ys same is = cc
 
 -- the writers are as the house wants them
-pub fresh_writers : (p : PlansData) (tables : List TableId) (writers : List WriterData) → AreFreshWriters p.plans tables writers
+fresh_writers : (p : PlansData) (tables : List TableId) (writers : List WriterData) → AreFreshWriters p.plans tables writers
     → AreFreshResults (λ (w : WriterData) (place : ℕ). nat_lt place w.places) (λ (w : WriterData). Some w.written) (λ (w : WriterData) (table : TableId). w.table ≡ table) (table_at tables) 1 p.plans writers
 fresh_writers p tables writers fresh =
     let many : length writers ≡ length p.plans = sym (length-map writers (λ (w : WriterData). w.places)) ∙ ap length fresh.places_are ∙ length-map p.plans (λ (plan : PlanData). words_in plan.areas.results) in
@@ -172,6 +172,13 @@ take_number plans k plan e =
     omega (arith, n)
 
 -- ---- by the names of the words and of the queues
+
+pub writers_named : (p plans : PlansData) (parts : Parts) (results : List TableId) → plans ≡ p → results_in parts.words.items ≡ results → AreFreshFor p.plans parts
+    → AreFreshResults (λ (w : WriterData) (place : ℕ). nat_lt place w.places) (λ (w : WriterData). Some w.written) (λ (w : WriterData) (table : TableId). w.table ≡ table) (table_at results) 1 plans.plans parts.results.items
+writers_named p plans parts results plans_are results_are fresh =
+    fresh_writers plans results parts.results.items
+    (subst (λ (q : PlansData). AreFreshWriters q.plans results parts.results.items) (sym plans_are)
+    (subst (λ (row : List TableId). AreFreshWriters p.plans row parts.results.items) results_are fresh.writers))
 
 pub clients_named : (plans : List PlanData) (parts : Parts) (words results queues : List TableId) → shared_in parts.words.items ≡ words → results_in parts.words.items ≡ results → parts.queues.items ≡ queues → AreFreshFor plans parts → AreClients plans words results queues parts.clients.items
 clients_named plans parts words results queues words_are results_are queues_are fresh =

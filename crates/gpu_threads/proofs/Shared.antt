@@ -7,8 +7,8 @@ use Rattle.atomic_table.specs.Seated.{TableId}
 use Rattle.gpu_plan.specs.Plans.{PlansData}
 use Rattle.gpu_fetch.specs.Side.{no_table}
 use Rattle.sync_core.specs.Standing.{IsKnown}
+use Rattle.sync_core.proofs.Rows.{position_of}
 use Rattle.gpu_house.specs.Names.{table_at}
-use Rattle.gpu_house.proofs.Rows.{position_of}
 use Rattle.gpu_threads.specs.Words.{of_tables}
 use Rattle.gpu_threads.specs.Rows.{AreWordsOf, AreShared}
 

@@ -1,1 +1,4 @@
+pub mod Pieces
+pub mod Seats
 pub mod Words
+pub mod Written

@@ -1,5 +1,6 @@
 -- The dumps of a serial history tell what their clients may have found.
-use Rattle.std.proofs.Common.{◌≡◌, ℕ, zero, suc, ◌+◌, ◌-◌, ◌≤◌, ◌<◌, eqb, Bool, true, false, not, ◌&&◌, cond, nat_le, Option, Some, List, [], ◌∷◌, ◌++◌, length, take, IsTrue, refl, sym, ap, subst, ◌∙◌, arith}
+use Rattle.std.proofs.Common.{◌≡◌, ℕ, zero, suc, ◌+◌, ◌-◌, ◌≤◌, ◌<◌, eqb, Bool, true, false, not, cond, nat_le, Option, Some, List, [], ◌∷◌, ◌++◌, length, take, IsTrue, refl, sym, ap, subst, ◌∙◌, arith}
+use Rattle.std.proofs.lemmas.Bool.{eqb-true, both_ways, ltb-true, and_from, not_from_false}
 use Rattle.std.specs.Prelude.{nat_lt, slice_get, is_some}
 use Rattle.std.specs.List.{All, flat_map, list_all, range_with_len}
 use Rattle.std.proofs.lemmas.Bool.Decides.{nat_tests}
@@ -25,13 +26,13 @@ use Rattle.gpu_journal.proofs.Worlds.{sync_none}
 use Rattle.serial_laws.specs.Scripts.{AreLawfulPlans}
 use Rattle.serial_laws.proofs.First.{first_none}
 use Rattle.serial_laws.proofs.Flushes.{close_is_last, within}
-use Rattle.serial_laws.proofs.Others.{moved_by, standing_own, standing_other, known_own, known_other, along}
+use Rattle.serial_laws.proofs.Others.{moved_by, standing_own, standing_other, known_own, known_other}
 use Rattle.serial_laws.proofs.Counts.{reach_grows, count_reach, count_begun}
-use Rattle.serial_laws.proofs.Passed.{lt_of, lawful_of}
+use Rattle.serial_laws.proofs.Passed.{lawful_of}
 use Rattle.serial_laws.proofs.Obeying.{close_of}
 use Rattle.serial_laws.proofs.Least.{none_runs}
 use Rattle.serial_laws.proofs.Spent.{asked_same}
-use Rattle.serial_laws.proofs.Ends.{clash, bound_end, complete_idle}
+use Rattle.serial_laws.proofs.Ends.{bound_end, complete_idle}
 use Rattle.serial_laws.proofs.Bounded.{serial_is_legal, serial_is_complete}
 use Rattle.history_laws.specs.Laws.{DumpsMayBeTold, LaterMayBeTold}
 
@@ -55,7 +56,7 @@ module _ (p : PlansData) (s : ℕ) (at : ℕ) (is : slice_get (plan_of p s).acti
   far (e ∷ h) lt = by (nat_lt at (count p h s)) refl (λ less. far h less)
     where
       by : (b : Bool) → nat_lt at (count p h s) ≡ b → (at < count p h s → at < count p (passed_at p h s at) s) → at < count p (cond b (passed_at p h s at) (e ∷ h)) s
-      by true q rest = rest (lt_of at (count p h s) q)
+      by true q rest = rest (ltb-true at (count p h s) q)
       by false q rest = lt
 
   -- after a history whose client has passed it
@@ -104,7 +105,7 @@ closed_own p h (Close s) at lawful o is before closed =
     before_close (plan_of p s).actions (reach p h s) at (lawful_of p s lawful may.still_open.known).closes_last may.reached is
 
 closed_far : (p : PlansData) (h : List Event) (s at : ℕ) → AreLawfulPlans p → IsLegal p h → slice_get (plan_of p s).actions at ≡ Some actions.Finish → (standing_of p h s).closed ≡ true → at < reach p h s
-closed_far p [] s at lawful legal is closed = absurd (clash (standing_of p [] s).closed closed (ap (λ (g : List sync.SyncEvent). (sync.standing g s).closed) (sync_none p)))
+closed_far p [] s at lawful legal is closed = absurd (both_ways (standing_of p [] s).closed (ap (λ (g : List sync.SyncEvent). (sync.standing g s).closed) (sync_none p)) closed)
 closed_far p (e ∷ h) s at lawful legal is closed = by (λ c. closed_far p h s at lawful legal.1 is c) (eqb (stream_in e) s) refl
   where
     own : slice_get (plan_of p (stream_in e)).actions at ≡ Some actions.Finish → (standing_of p (e ∷ h) (stream_in e)).closed ≡ true → ((standing_of p h (stream_in e)).closed ≡ true → at < reach p h (stream_in e)) → at < reach p (e ∷ h) (stream_in e)
@@ -115,16 +116,11 @@ closed_far p (e ∷ h) s at lawful legal is closed = by (λ c. closed_far p h s 
 
     by : ((standing_of p h s).closed ≡ true → at < reach p h s) → (b : Bool) → eqb (stream_in e) s ≡ b → at < reach p (e ∷ h) s
     by before true q =
-        subst (λ (t : ℕ). slice_get (plan_of p t).actions at ≡ Some actions.Finish → (standing_of p (e ∷ h) t).closed ≡ true → ((standing_of p h t).closed ≡ true → at < reach p h t) → at < reach p (e ∷ h) t) (along (stream_in e) s q) own is closed before
+        subst (λ (t : ℕ). slice_get (plan_of p t).actions at ≡ Some actions.Finish → (standing_of p (e ∷ h) t).closed ≡ true → ((standing_of p h t).closed ≡ true → at < reach p h t) → at < reach p (e ∷ h) t) (eqb-true (stream_in e) s q) own is closed before
     by before false q =
         let less = before (sym (ap (λ (x : Standing). x.closed) (standing_other p e h s q)) ∙ closed) in
         let grows = reach_grows p e h s in
         omega (arith, less, grows)
-
-open_made : (lost closed : Bool) → lost ≡ false → closed ≡ false → (not lost && not closed) ≡ true
-open_made true closed x y = absurd cc
-open_made false true x y = absurd cc
-open_made false false x y = refl
 
 module _ (p : PlansData) (h : List Event) (lawful : AreLawfulPlans p) (legal : IsLegal p h) (complete : IsComplete p h) where
   -- no number is left, so the clients are as far as they can be
@@ -138,7 +134,7 @@ module _ (p : PlansData) (h : List Event) (lawful : AreLawfulPlans p) (legal : I
         by : (b : Bool) → (standing_of p h s).closed ≡ b → at < reach p h s
         by true closed = closed_far p h s at lawful legal is closed
         by false stays =
-            let done = complete s record { known = among; stays = open_made (standing_of p h s).lost (standing_of p h s).closed kept stays } in
+            let done = complete s record { known = among; stays = and_from _ _ (not_from_false _ kept) (not_from_false _ stays) } in
             let k = known p h s in
             let finished = done.finished in
             let few = flushes_all (plan_of p s).actions (reach p h s) in
@@ -196,7 +192,7 @@ finished_grows p e h s = by (eqb (stream_in e) s) refl
     own = subst (λ (k : Known). (known p h (stream_in e)).finished ≤ k.finished) (sym (known_own p e h)) (finished_own p e (world p h) (known p h (stream_in e)))
 
     by : (b : Bool) → eqb (stream_in e) s ≡ b → (known p h s).finished ≤ (known p (e ∷ h) s).finished
-    by true q = subst (λ (t : ℕ). (known p h t).finished ≤ (known p (e ∷ h) t).finished) (along (stream_in e) s q) own
+    by true q = subst (λ (t : ℕ). (known p h t).finished ≤ (known p (e ∷ h) t).finished) (eqb-true (stream_in e) s q) own
     by false q = let same = ap (λ (k : Known). k.finished) (known_other p e h s q) in omega (arith, same)
 
 finished_later : (p : PlansData) (between past : List Event) (s n : ℕ) → n ≤ (known p past s).finished → n ≤ (known p (between ++ past) s).finished

@@ -1,14 +1,13 @@
 -- How many events a serial history has.
-use Rattle.std.proofs.Common.{◌≡◌, ℕ, zero, suc, ◌+◌, ◌*◌, ◌≤◌, cond, Option, Some, None, List, [], ◌∷◌, length, refl, arith}
+use Rattle.std.proofs.Common.{ℕ, zero, suc, ◌+◌, ◌*◌, ◌≤◌, Option, Some, None, List, [], ◌∷◌, length, arith}
 use Rattle.std.specs.List.{All, count_by}
 use Rattle.std.specs.Prelude.{sum_by}
 use Rattle.std.proofs.Math.Nat.{mul-le-mul_left}
 use Rattle.std.proofs.lemmas.List.Elements.{All-head, All-tail}
 use Rattle.std.proofs.lemmas.List.Sums.{sum_by-cons}
-use Rattle.gpu_plan.specs.declared.plan.Action.{Action}
-use Rattle.gpu_plan.specs.declared.plan.Action.TheVariants.{Put, Flush, Finish, Token, Close}
-use Rattle.gpu_plan.specs.Passes.{flush_count, flushes}
+use Rattle.gpu_plan.specs.Passes.{flushes}
 use Rattle.gpu_plan.specs.Plans.{PlansData, PlanData, is_flush, flushes_in}
+use Rattle.gpu_plan.proofs.Counts.{flushes_counted}
 use Rattle.gpu_journal.specs.declared.event.Event.{Event}
 use Rattle.gpu_journal.specs.Serial.{next, grown, events, most_of, most_events, serial}
 use Rattle.serial_laws.specs.Scripts.{IsScriptPlan}
@@ -30,26 +29,11 @@ serial_is_short p = events_short p (most_events p)
 
 -- ---- the greatest number
 
-count_is : (x : Action) → flush_count x ≡ cond (is_flush x) 1 0
-count_is (Put place value) = refl
-count_is (Flush put fences) = refl
-count_is Finish = refl
-count_is (Token token) = refl
-count_is Close = refl
-
-counted : (xs : List Action) → flushes xs ≡ count_by is_flush xs
-counted [] = refl
-counted (x ∷ xs) =
-    let rest = counted xs in
-    let more = sum_by-cons (λ (a : Action). cond (is_flush a) 1 0) x xs in
-    let one = count_is x in
-    omega (arith, rest, more, one)
-
 -- of one plan
 plan_few : (plan : PlanData) → IsScriptPlan plan → most_of plan ≤ count_by is_flush plan.actions * 4098 + 1
 plan_few plan is =
     let ring = is.0.laid_out.ring_most in
-    let same = counted plan.actions in
+    let same = flushes_counted plan.actions in
     let least : flushes plan.actions * (plan.areas.ring + 2) ≤ flushes plan.actions * 4098 = mul-le-mul_left (flushes plan.actions) (omega (arith, ring)) in
     omega (arith, least, same)
 

@@ -1,9 +1,11 @@
 -- The output of a legal history tells it.
 use Rattle.std.proofs.Common.{◌≡◌, ℕ, ◌^◌, ◌<◌, Bool, true, false, not, ◌&&◌, ◌==◌, cond, List, [], ◌∷◌, ◌++◌, length, drop, reverse, IsTrue, refl, sym, ap, subst, ◌∙◌, append_assoc}
+use Rattle.std.proofs.lemmas.Bool.{both_ways}
 use Rattle.std.specs.Prelude.{codes}
 use Rattle.std.specs.List.{All, flat_map}
 use Rattle.std.proofs.lemmas.List.{append-nil, reverse-reverse, reverse-append}
 use Rattle.std.proofs.lemmas.List.Elements.{All-nil, All-push, All-weaker}
+use Rattle.gpu_word.proofs.Pieces.{four_pieces, five_pieces}
 use Rattle.gpu_cmd.specs.declared.name.Name.{Name}
 use Rattle.gpu_store.specs.Images.{Pictures}
 use Rattle.gpu_plan.specs.Plans.{PlansData, plan_of}
@@ -32,7 +34,6 @@ use Rattle.gpu_journal.proofs.Telling.{output_tells}
 use Rattle.serial_laws.specs.Scripts.{AreLawfulPlans}
 use Rattle.serial_laws.proofs.Passed.{lawful_of}
 use Rattle.serial_laws.proofs.Spent.{obeys_known}
-use Rattle.serial_laws.proofs.Ends.{clash}
 use Rattle.history_laws.specs.Laws.{SameOutputIsSameHistory, SameRunIsSameHistory}
 
 -- ---- the words of a legal history have 32 bits
@@ -126,12 +127,9 @@ head_apart p mark h x can = events_apart (reverse h) (behind_journal p mark h x)
 
 -- ---- heads and names
 
-five_flat : (a b c d e : List ℕ) → (((a ++ b) ++ c) ++ d) ++ e ≡ a ++ (b ++ (c ++ (d ++ e)))
-five_flat a b c d e = simp append_assoc
-
 name_flat : (s : ℕ) (name : Name) (x : List ℕ) → name_text s name ++ x ≡ codes "name" ++ (number_text s ++ (number_text name.namespace ++ (number_text name.id ++ (10 ∷ x))))
 unfolding name_text
-name_flat s name x = append_assoc (codes "name" ++ number_text s ++ number_text name.namespace ++ number_text name.id) (codes "\n") x ∙ five_flat (codes "name") (number_text s) (number_text name.namespace) (number_text name.id) (10 ∷ x)
+name_flat s name x = append_assoc (codes "name" ++ number_text s ++ number_text name.namespace ++ number_text name.id) (codes "\n") x ∙ four_pieces (codes "name") (number_text s) (number_text name.namespace) (number_text name.id) (10 ∷ x)
 
 name_cut : (s t : ℕ) (a b : Name) (x y : List ℕ) → name_text s a ++ x ≡ name_text t b ++ y → x ≡ y
 name_cut s t a b x y e =
@@ -145,8 +143,8 @@ name_cut s t a b x y e =
 names_cut : (f g : ℕ → Name) (ss ts : List ℕ) (x y : List ℕ) → is_apart x ≡ true → is_apart y ≡ true → flat_map (λ s. name_text s (f s)) ss ++ x ≡ flat_map (λ s. name_text s (g s)) ts ++ y → x ≡ y
 unfolding name_text
 names_cut f g [] [] x y ax ay e = e
-names_cut f g [] (t ∷ ts) x y ax ay e = absurd (clash (is_apart x) ax (ap is_apart e))
-names_cut f g (s ∷ ss) [] x y ax ay e = absurd (clash (is_apart y) ay (ap is_apart (sym e)))
+names_cut f g [] (t ∷ ts) x y ax ay e = absurd (both_ways (is_apart x) (ap is_apart e) ax)
+names_cut f g (s ∷ ss) [] x y ax ay e = absurd (both_ways (is_apart y) (ap is_apart (sym e)) ay)
 names_cut f g (s ∷ ss) (t ∷ ts) x y ax ay e =
     names_cut f g ss ts x y ax ay
     (name_cut s t (f s) (g t) (flat_map (λ s. name_text s (f s)) ss ++ x) (flat_map (λ s. name_text s (g s)) ts ++ y)
@@ -161,20 +159,17 @@ head_by p b = cond b (journal_head ++ names_text p) []
 
 heads_cut : (p q : PlansData) (b c : Bool) (x y : List ℕ) → is_apart x ≡ true → is_apart y ≡ true → head_by p b ++ x ≡ head_by q c ++ y → x ≡ y
 heads_cut p q false false x y ax ay e = e
-heads_cut p q false true x y ax ay e = absurd (clash (is_apart x) ax (ap is_apart e))
-heads_cut p q true false x y ax ay e = absurd (clash (is_apart y) ay (ap is_apart (sym e)))
+heads_cut p q false true x y ax ay e = absurd (both_ways (is_apart x) (ap is_apart e) ax)
+heads_cut p q true false x y ax ay e = absurd (both_ways (is_apart y) (ap is_apart (sym e)) ay)
 heads_cut p q true true x y ax ay e =
     names_cut (λ s. (plan_of p s).name) (λ s. (plan_of q s).name) (streams_of p) (streams_of q) x y ax ay
     (ap (drop 14) (sym (append_assoc journal_head (names_text p) x) ∙ e ∙ append_assoc journal_head (names_text q) y))
 
 -- ---- the whole output
 
-six_flat : (a b c d e x : List ℕ) → ((((a ++ b) ++ c) ++ d) ++ e) ++ x ≡ a ++ (b ++ (c ++ (d ++ (e ++ x))))
-six_flat a b c d e x = simp append_assoc
-
 output_flat : (p : PlansData) (mark : Ending → ℕ) (h : List Event) (x : List ℕ) → output p mark h ++ x ≡ head_lines p ++ behind_head p mark h x
 unfolding output
-output_flat p mark h x = six_flat (head_lines p) (journal_text (reverse h)) (picture_text (replay p h)) (stream_lines p h) (mark_lines p mark h) x
+output_flat p mark h x = five_pieces (head_lines p) (journal_text (reverse h)) (picture_text (replay p h)) (stream_lines p h) (mark_lines p mark h) x
 
 same_text : (p q : PlansData) (mark other : Ending → ℕ) (g h : List Event) (x y : List ℕ) → AreLawfulPlans p → AreLawfulPlans q → IsLegal p g → IsLegal q h → CanFollow x → CanFollow y → output p mark g ++ x ≡ output q other h ++ y → g ≡ h
 same_text p q mark other g h x y lawful lawful' legal legal' can can' e =

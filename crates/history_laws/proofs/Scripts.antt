@@ -1,5 +1,6 @@
 -- The plans of every script are lawful: each line that is taken up leaves them so.
 use Rattle.std.proofs.Common.{◌≡◌, ℕ, ◌+◌, ◌≤◌, ◌<◌, Bool, true, false, cond, not, nat_le, nat_lt, ◌&&◌, ◌||◌, ◌==◌, List, [], ◌∷◌, ◌++◌, length, map, set, option_to_list, Option, Some, None, Result, Ok, Err, IfOk, refl, sym, ap, subst, ◌∙◌, arith, length-append}
+use Rattle.std.proofs.lemmas.Bool.{and_parts, leb-true, ltb-true, not-true}
 use Rattle.std.specs.Prelude.{IfSome, sum_by, is_none}
 use Rattle.std.specs.List.{All, list_all, list_any, count_by}
 use Rattle.std.specs.Option.{option_map_or}
@@ -18,7 +19,7 @@ use Rattle.script_lines.specs.declared.fault.Kind.{Kind}
 use Rattle.script_lines.specs.declared.fault.Kind.TheVariants.{Word, Number, Order, Double, Place, Limit}
 use Rattle.script_lines.specs.declared.keyword.Keyword.{Keyword}
 use Rattle.script_lines.specs.declared.keyword.Keyword.TheVariants.{StreamLine, MemoryLine, ResultsLine, PutLine, FillLine, FlushLine, FinishLine, TokenLine, CloseLine, DumpLine}
-use Rattle.script_lines.specs.Outcome.{◌>>=◌, or_kind, unless, at_line}
+use Rattle.script_lines.specs.Outcome.{◌>>=◌, or_error, unless, at_line}
 use Rattle.script_lines.specs.Said.{keyword_of, none_said, one_said, two_said, stream_said, put_said, fill_said, flush_said}
 use Rattle.script_lines.specs.Naming.{names_of}
 use Rattle.gpu_plan.specs.declared.plan.Action.{Action}
@@ -33,8 +34,8 @@ use Rattle.gpu_plan.proofs.LawfulNames.{either}
 use Rattle.gpu_plan.proofs.Lawful.{length-puts, lawful_start, lawful_puts, lawful_action, lawful_areas}
 use Rattle.gpu_plan.proofs.Named.{bound, passed, same, found, plain, numbered_lawful}
 use Rattle.gpu_plan.proofs.Tiled.{tiles_grow}
+use Rattle.gpu_plan.proofs.Counts.{none_flushes}
 use Rattle.serial_laws.specs.Scripts.{IsScriptPlan, AreLawfulPlans}
-use Rattle.serial_laws.proofs.First.{not_true}
 use Rattle.history_laws.specs.Laws.{ScriptsAreLawful}
 
 -- ---- what is kept of a draft
@@ -56,21 +57,15 @@ record IsLawfulDraft (d : Draft) : Type 0 where
   within : d.actions ≤ 1000000
   flushed : d.flushes ≤ 100000
 
-le_of : (a b : ℕ) → nat_le a b ≡ true → a ≤ b
-le_of a b e = grind (arith, nat_tests)
-
-lt_of : (a b : ℕ) → nat_lt a b ≡ true → a < b
-lt_of a b e = grind (arith, nat_tests)
-
 -- ---- the stream begun last
 
 acting_is : (d : Draft) (p : PlanData) → acting d ≡ Ok p → (d.last ≡ Some p) × (is_closed p.actions ≡ false)
 unfolding acting
 acting_is d p e =
-    let one = bound (or_kind Order d.last) (λ last. unless (not (is_closed last.actions)) Order >>= λ _. Ok last) p e in
+    let one = bound (or_error Order d.last) (λ last. unless (not (is_closed last.actions)) Order >>= λ _. Ok last) p e in
     let two = passed (not (is_closed one.0.actions)) Order (λ _. Ok one.0) p one.2 in
     let is : one.0 ≡ p = same one.0 p two.1 in
-    (found Order d.last one.0 one.1 ∙ ap Some is, subst (λ (q : PlanData). is_closed q.actions ≡ false) is (not_true (is_closed one.0.actions) two.0))
+    (found Order d.last one.0 one.1 ∙ ap Some is, subst (λ (q : PlanData). is_closed q.actions ≡ false) is (not-true (is_closed one.0.actions) two.0))
 
 none_of : (xs : List Action) → (length xs == 0) ≡ true → xs ≡ []
 none_of [] e = refl
@@ -79,7 +74,7 @@ none_of (x ∷ xs) e = let no : length (x ∷ xs) ≡ 0 = grind (arith, nat_test
 fresh_is : (d : Draft) (p : PlanData) → fresh d ≡ Ok p → (d.last ≡ Some p) × (p.actions ≡ [])
 unfolding fresh
 fresh_is d p e =
-    let one = bound (or_kind Order d.last) (λ last. unless (length last.actions == 0) Order >>= λ _. Ok last) p e in
+    let one = bound (or_error Order d.last) (λ last. unless (length last.actions == 0) Order >>= λ _. Ok last) p e in
     let two = passed (length one.0.actions == 0) Order (λ _. Ok one.0) p one.2 in
     let is : one.0 ≡ p = same one.0 p two.1 in
     (found Order d.last one.0 one.1 ∙ ap Some is, subst (λ (q : PlanData). q.actions ≡ []) is (none_of one.0.actions two.0))
@@ -105,7 +100,7 @@ added_lawful more q p d before e old last done actions flushes fewer as_before k
     let next : Draft = record before { last = Some (record q { actions = q.actions ++ more }); actions = before.actions + length more } in
     let step = passed (nat_le (before.actions + length more) 1000000) Limit (λ _. Ok next) e h in
     let is : next ≡ e = same next e step.1 in
-    let few : before.actions + length more ≤ 1000000 = le_of (before.actions + length more) 1000000 step.0 in
+    let few : before.actions + length more ≤ 1000000 = leb-true (before.actions + length more) 1000000 step.0 in
     let count = last_counted d p old last in
     let count_flushes = last_flushes d p old last in
     let all : actions_in before.done ≡ actions_in d.done = ap actions_in done in
@@ -136,16 +131,12 @@ one_lawful action p d e old acts quiet within fenced h =
       results = kept.results;
     }) h
 
-quiet_puts : (place : ℕ) (values : List ℕ) → count_by is_flush (puts place values) ≡ 0
-quiet_puts place [] = refl
-quiet_puts place (value ∷ values) = quiet_puts (place + 1) values
-
 -- puts at places that there are
 puts_lawful : (place : ℕ) (values : List ℕ) (words : List (List ℕ)) (p : PlanData) (d e : Draft) → IsLawfulDraft d → acting d ≡ Ok p → values ≡ map value_of words → place + length values ≤ places_of p.areas → added (puts place values) p d ≡ Ok e → IsLawfulDraft e
 puts_lawful place values words p d e old acts are fits h =
     let last = acting_is d p acts in
     let kept = last_kept d p old last.0 in
-    let quiet = quiet_puts place values in
+    let quiet = none_flushes place values in
     let fewer = old.flushed in
     let long : length values ≡ length words = ap length are ∙ length-map words value_of in
     let many = length-puts place values in
@@ -165,7 +156,7 @@ unfolding put_said
 put_words [] said e = absurd cc
 put_words (p ∷ []) said e = absurd cc
 put_words (p ∷ v ∷ vs) said e =
-    let place = bound (or_kind Number (decimal_of p)) _ said e in
+    let place = bound (or_error Number (decimal_of p)) _ said e in
     let all = passed (list_all is_value (v ∷ vs)) Number _ said place.2 in
     (v ∷ vs, ap (λ (x : ℕ × List ℕ). x.1) (sym (same (place.0, map value_of (v ∷ vs)) said all.1)))
 
@@ -175,7 +166,7 @@ fill_words [] said e = absurd cc
 fill_words (m ∷ []) said e = absurd cc
 fill_words (m ∷ p ∷ []) said e = absurd cc
 fill_words (m ∷ p ∷ v ∷ vs) said e =
-    let memory = bound (or_kind Number (decimal_of m)) _ said e in
+    let memory = bound (or_error Number (decimal_of m)) _ said e in
     let put = bound (put_said (p ∷ v ∷ vs)) _ said memory.2 in
     let ws = put_words (p ∷ v ∷ vs) put.0 put.1 in
     (ws.0, ap (λ (x : ℕ × ℕ × List ℕ). x.2) (sym (same (memory.0, put.0.0, put.0.1) said put.2)) ∙ ws.1)
@@ -186,7 +177,7 @@ put_lawful words d e h old =
     let said = bound (put_said words) _ e h in
     let last = bound (acting d) _ e said.2 in
     let fits = passed (nat_le (said.0.0 + length said.0.1) last.0.areas.ring) Place _ e last.2 in
-    let low = le_of (said.0.0 + length said.0.1) last.0.areas.ring fits.0 in
+    let low = leb-true (said.0.0 + length said.0.1) last.0.areas.ring fits.0 in
     let ws = put_words words said.0 said.1 in
     puts_lawful said.0.0 said.0.1 ws.0 last.0 d e old last.1 ws.1 (omega (arith, low)) fits.1
 
@@ -195,17 +186,13 @@ unfolding with_fill
 fill_lawful words d e h old =
     let said = bound (fill_said words) _ e h in
     let last = bound (acting d) _ e said.2 in
-    let span = bound (or_kind Place (span_at last.0.areas.memories said.0.0)) _ e last.2 in
+    let span = bound (or_error Place (span_at last.0.areas.memories said.0.0)) _ e last.2 in
     let fits = passed (nat_le (said.0.1 + length said.0.2) span.0.words) Place _ e span.2 in
-    let low = le_of (said.0.1 + length said.0.2) span.0.words fits.0 in
+    let low = leb-true (said.0.1 + length said.0.2) span.0.words fits.0 in
     let ws = fill_words words said.0 said.1 in
     let kept = last_kept d last.0 old (acting_is d last.0 last.1).0 in
     let inside = kept.lawful.laid_out.memories.ended said.0.0 span.0 (found Place (span_at last.0.areas.memories said.0.0) span.0 span.1) in
     puts_lawful (span.0.base + said.0.1) said.0.2 ws.0 last.0 d e old last.1 ws.1 (omega (arith, low, inside)) fits.1
-
-both_true : (a b : Bool) → (a && b) ≡ true → (a ≡ true) × (b ≡ true)
-both_true true b e = (refl, e)
-both_true false b e = absurd cc
 
 flush_lawful : (version : ℕ) (names : List Name) (words : List (List ℕ)) (d e : Draft) → with_flush version names words d ≡ Ok e → IsLawfulDraft d → IsLawfulDraft e
 unfolding with_flush
@@ -213,9 +200,9 @@ flush_lawful version names words d e h old =
     let said = bound (flush_said version names words) _ e h in
     let p = bound (acting d) _ e said.2 in
     let fits = passed (nat_le (d.flushes + 1) 100000 && nat_le (length said.0.1) 16) Limit _ e p.2 in
-    let both = both_true (nat_le (d.flushes + 1) 100000) (nat_le (length said.0.1) 16) fits.0 in
-    let fewer = le_of (d.flushes + 1) 100000 both.0 in
-    let fenced = le_of (length said.0.1) 16 both.1 in
+    let both = and_parts (nat_le (d.flushes + 1) 100000) (nat_le (length said.0.1) 16) fits.0 in
+    let fewer = leb-true (d.flushes + 1) 100000 both.0 in
+    let fenced = leb-true (length said.0.1) 16 both.1 in
     let last = acting_is d p.0 p.1 in
     let kept = last_kept d p.0 old last.0 in
     let action = Flush said.0.0 said.0.1 in
@@ -253,9 +240,9 @@ unfolding with_dump
 dump_lawful words d e h old =
     let said = bound (two_said words) _ e h in
     let p = bound (acting d) _ e said.2 in
-    let span = bound (or_kind Place (span_at p.0.areas.results said.0.0)) _ e p.2 in
+    let span = bound (or_error Place (span_at p.0.areas.results said.0.0)) _ e p.2 in
     let fits = passed (nat_lt said.0.1 span.0.words) Place _ e span.2 in
-    let low = lt_of said.0.1 span.0.words fits.0 in
+    let low = ltb-true said.0.1 span.0.words fits.0 in
     let last = acting_is d p.0 p.1 in
     let kept = last_kept d p.0 old last.0 in
     let inside = kept.lawful.laid_out.results.ended said.0.0 span.0 (found Place (span_at p.0.areas.results said.0.0) span.0 span.1) in
@@ -291,7 +278,7 @@ spans_kept first spans new memory words tiles long h =
     let span : Span = record { base = first + words_in spans; words = words } in
     let is : set spans memory (Some span) ≡ new = same (set spans memory (Some span)) new fits.1 in
     subst (λ (xs : List (Option Span)). AreTiles first xs × (length xs ≡ 16)) is
-    (tiles_grow first spans memory span tiles long (le_of memory 15 three.0) (none_there (span_at spans memory) none.0) refl (le_of 1 words three.1) (le_of (words_in spans + words) 65536 three.2), length-set spans memory (Some span) ∙ long)
+    (tiles_grow first spans memory span tiles long (leb-true memory 15 three.0) (none_there (span_at spans memory) none.0) refl (leb-true 1 words three.1) (leb-true (words_in spans + words) 65536 three.2), length-set spans memory (Some span) ∙ long)
 
 -- another plan of a stream that has not acted
 declared : (d : Draft) (p q : PlanData) → IsLawfulDraft d → d.last ≡ Some p → q.actions ≡ p.actions → IsKept q → IsLawfulDraft (record d { last = Some q })
@@ -391,7 +378,7 @@ follows version before name ring h =
     let order = passed (version == 2 || name.id == length before + 1) Order _ tt h in
     let new = passed (not (list_any (is_of name) before)) Double _ tt order.1 in
     let all = four_true (nat_le 16 ring) (nat_le ring 4096) (nat_le name.namespace 255) (nat_lt (length before) 16) (holds _ Limit tt new.1) in
-    (le_of 16 ring all.0, le_of ring 4096 all.1, lt_of (length before) 16 all.2)
+    (leb-true 16 ring all.0, leb-true ring 4096 all.1, ltb-true (length before) 16 all.2)
 
 stream_lawful : (version : ℕ) (words : List (List ℕ)) (d e : Draft) → with_stream version words d ≡ Ok e → IsLawfulDraft d → IsLawfulDraft e
 unfolding with_stream
@@ -435,7 +422,7 @@ keyword_lawful version names DumpLine words d e h old = dump_lawful words d e h 
 
 line_lawful : (version : ℕ) (names : List Name) (name : List ℕ) (words : List (List ℕ)) (d e : Draft) → with_line version names name words d ≡ Ok e → IsLawfulDraft d → IsLawfulDraft e
 unfolding with_line
-line_lawful version names name words d e h old = let keyword = bound (or_kind Word (keyword_of name)) _ e h in keyword_lawful version names keyword.0 words d e keyword.2 old
+line_lawful version names name words d e h old = let keyword = bound (or_error Word (keyword_of name)) _ e h in keyword_lawful version names keyword.0 words d e keyword.2 old
 
 by_remark : (remark : Bool) (n : ℕ) (d e : Draft) (r : Result Draft Kind) → cond remark (Ok d) (at_line n r) ≡ Ok e → IsLawfulDraft d → (r ≡ Ok e → IsLawfulDraft e) → IsLawfulDraft e
 by_remark true n d e r h old taken = let s : d ≡ e = cc in subst IsLawfulDraft s old

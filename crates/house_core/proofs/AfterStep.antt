@@ -7,7 +7,6 @@ use Rattle.gpu_store.specs.declared.op.Answer.{Answer}
 use Rattle.gpu_plan.specs.Plans.{PlansData, plan_of}
 use Rattle.gpu_plan.specs.Places.{flush_places}
 use Rattle.stream_state.specs.declared.effect.Effect.{Effect}
-use Rattle.stream_state.specs.declared.effect.Effect.TheVariants.{Nothing, Token, Release, Wait, WaitName, Pixels, Results}
 use Rattle.stream_state.specs.State.{State, noted}
 use Rattle.stream_state.specs.Steps.{header_in, stepped}
 use Rattle.stream_state.proofs.Runs.{stepped_entries, stepped_fetched}
@@ -15,14 +14,15 @@ use Rattle.sync_core.specs.Standing.{Standing}
 use Rattle.gpu_journal.specs.declared.event.Event.{Event}
 use Rattle.gpu_journal.specs.declared.event.Event.TheVariants.{Step}
 use Rattle.gpu_journal.specs.World.{world, asked_by, drawn_by, state_of, replay}
-use Rattle.gpu_journal.specs.Waits.{deed_asked, standing_of, drawn}
+use Rattle.gpu_journal.specs.Waits.{standing_of, drawn}
 use Rattle.gpu_journal.specs.Facts.{facts_at}
 use Rattle.gpu_journal.specs.Legal.{Obeys}
 use Rattle.gpu_journal.proofs.Worlds.{states_within}
-use Rattle.serial_laws.proofs.Others.{standing_own, moved_by}
+use Rattle.serial_laws.proofs.Others.{standing_own}
 use Rattle.serial_laws.proofs.Rooms.{step_consumes}
+use Rattle.serial_laws.proofs.Spent.{asked_same}
 use Rattle.run_laws.specs.Going.{MayGoOn, keeps}
-use Rattle.run_laws.specs.Tokens.{greatest_after}
+use Rattle.gpu_journal.specs.World.{greatest_after}
 use Rattle.run_laws.proofs.Going.{step_goes_on}
 use Rattle.run_laws.proofs.Runs.{step_open}
 use Rattle.run_laws.proofs.Fronts.{left_open}
@@ -42,16 +42,6 @@ use Rattle.house_core.proofs.Moving.{moves_further}
 use Rattle.house_core.proofs.Executing.{laid_out}
 use Rattle.house_core.proofs.Walking.{walked_on, greatest_grows}
 
--- what a step asks neither loses nor closes its stream
-asked_stays : (p : PlansData) (effect : Effect) (n : ℕ) (x : Standing) → ((moved_by (deed_asked p effect) n x).lost ≡ x.lost) × ((moved_by (deed_asked p effect) n x).closed ≡ x.closed)
-asked_stays p Nothing n x = (refl, refl)
-asked_stays p (Token token) n x = (refl, refl)
-asked_stays p (Release release) n x = (refl, refl)
-asked_stays p (Wait stream release) n x = (refl, refl)
-asked_stays p (WaitName name release) n x = (refl, refl)
-asked_stays p (Pixels op) n x = (refl, refl)
-asked_stays p (Results write) n x = (refl, refl)
-
 -- the desk of stream s after a step on these words
 abbrev pub desk_after : PlansData → ℕ → List (ℕ × ℕ) → Acted → DeskData → DeskData
 desk_after p s words acted desk = stepped_desk (noted acted.answer (stepped (plan_of p s).areas words desk.state)) acted desk
@@ -62,7 +52,7 @@ pub fits_step : (p : PlansData) (h : List Event) (s : ℕ) (words : List (ℕ ×
 fits_step p h s words acted desk was told may =
     let asked = asked_by p s words (world p h) in
     let own = standing_own p (Step s words) h in
-    let ends = asked_stays p asked (drawn p h + 1) (standing_of p h s) in
+    let ends = asked_same p asked (drawn p h + 1) (standing_of p h s) in
     let answer = told.answer ∙ ap (λ (effect : Effect). (drawn_by effect (replay p h)).answer) told.effect in
     let areas = (plan_of p s).areas in
     record {

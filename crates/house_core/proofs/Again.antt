@@ -1,10 +1,12 @@
 -- An event keeps the invariant of the core, and so does a run that leaves or comes back.
-use Rattle.std.proofs.Common.{◌≡◌, ℕ, suc, ◌+◌, ◌-◌, ◌<◌, ◌≤◌, eqb, Bool, true, false, List, ◌∷◌, length, get_or, set, refl, sym, ap, subst, ◌∙◌, arith, get_or-set_same, get_or-set_other}
+use Rattle.std.proofs.Common.{◌≡◌, ℕ, suc, ◌+◌, ◌-◌, ◌≤◌, eqb, Bool, true, false, List, ◌∷◌, length, get_or, set, refl, sym, ap, subst, ◌∙◌, arith}
+use Rattle.std.proofs.lemmas.Bool.{eqb-true}
 use Rattle.std.proofs.lemmas.List.{length-set}
 use Rattle.gpu_plan.specs.Plans.{plan_of}
 use Rattle.sync_core.specs.Standing.{IsKnown}
 use Rattle.sync_core.specs.Events.{noted}
 use Rattle.sync_core.specs.Core.{StandsFor, HasRoom}
+use Rattle.sync_core.proofs.Rows.{position_of}
 use Rattle.sync_core.proofs.Targets.{waits_go_down}
 use Rattle.seq_sched.specs.declared.seat.Seat.{Seat}
 use Rattle.seq_sched.specs.Seats.{seat_of, with_home}
@@ -14,7 +16,6 @@ use Rattle.gpu_journal.specs.Waits.{deed, sync_of}
 use Rattle.gpu_journal.specs.Legal.{Obeys}
 use Rattle.gpu_journal.specs.Serial.{rank}
 use Rattle.gpu_journal.proofs.Worlds.{sync_then}
-use Rattle.serial_laws.proofs.Others.{along}
 use Rattle.run_laws.specs.Needs.{need}
 use Rattle.run_laws.specs.Choosing.{IsCoreOf}
 use Rattle.run_laws.proofs.Needs.{needs_event, need_within}
@@ -22,7 +23,7 @@ use Rattle.house_core.specs.Desks.{DeskData, desk_at, no_desk}
 use Rattle.house_core.proofs.Books.{books_told}
 use Rattle.house_core.specs.Invariant.{Parts, DeskFits, CoreInvariant, seat_for}
 use Rattle.house_core.proofs.Fits.{fits_other}
-use Rattle.house_core.proofs.Rows.{position_of, apart, desk_there, desk_set_here, desk_set_other, seat_set_here, seat_set_other}
+use Rattle.house_core.proofs.Rows.{each_set, desk_there, desk_set_here, desk_set_other, seat_set_here, seat_set_other}
 
 -- ---- the place of a stream
 
@@ -85,21 +86,6 @@ seats_move c now s desk home place moved same = record {
 
 -- ---- what holds of every stream
 
--- what holds of each desk, where one was set
-desks_again : (P Q : ℕ → DeskData → Type 0) (desks : List DeskData) (s : ℕ) (desk : DeskData) → IsKnown (length desks) s → Q s desk → ((t : ℕ) (other : DeskData) → eqb s t ≡ false → P t other → Q t other)
-    → ((k : ℕ) (other : DeskData) → k < length desks → P (suc k) (get_or desks k other)) → (k : ℕ) (other : DeskData) → k < length (set desks (s - 1) desk) → Q (suc k) (get_or (set desks (s - 1) desk) k other)
-desks_again P Q desks s desk is here others was k other low = by (eqb s (suc k)) refl
-  where
-    by : (b : Bool) → eqb s (suc k) ≡ b → Q (suc k) (get_or (set desks (s - 1) desk) k other)
-    by true q =
-        let same = along s (suc k) q in
-        let at : k ≡ s - 1 = omega (arith, same) in
-        let read = ap (λ (i : ℕ). get_or (set desks (s - 1) desk) i other) at ∙ get_or-set_same desks (s - 1) desk other (position_of (length desks) s is).1 in
-        subst (Q (suc k)) (sym read) (subst (λ (t : ℕ). Q t desk) same here)
-    by false q =
-        let count = length-set desks (s - 1) desk in
-        subst (Q (suc k)) (sym (get_or-set_other desks (s - 1) k desk other (apart s k is.0 q))) (others (suc k) (get_or desks k other) q (was k other (omega arith)))
-
 -- each seat is that of its desk, where one was set
 homes_again : (c : Parts) (now : List Seat) (s : ℕ) (desk : DeskData) → Place c s → AreSeated c now s desk → ((t : ℕ) → IsKnown (length c.plans.plans) t → seat_of c.seats t ≡ seat_for c.plans c.desks t)
     → (t : ℕ) → IsKnown (length c.plans.plans) t → seat_of now t ≡ seat_for c.plans (set c.desks (s - 1) desk) t
@@ -111,7 +97,7 @@ homes_again c now s desk place seated was t is = by (eqb s t) refl
     by : (b : Bool) → eqb s t ≡ b → seat_of now t ≡ seat_for c.plans (set c.desks (s - 1) desk) t
     by true q =
         let here = seated.here ∙ ap (with_desk s) (sym (desk_set_here c.desks s desk place.desk)) in
-        subst (λ (t : ℕ). seat_of now t ≡ seat_for c.plans (set c.desks (s - 1) desk) t) (along s t q) here
+        subst (λ (t : ℕ). seat_of now t ≡ seat_for c.plans (set c.desks (s - 1) desk) t) (eqb-true s t q) here
     by false q = seated.others t q ∙ was t is ∙ ap (with_desk t) (sym (desk_set_other c.desks s t desk place.plan.0 q))
 
 -- ---- the invariant
@@ -140,7 +126,7 @@ goes_on c now event desk was place turn =
     let plans = sym turn.plans in
     let past = sym turn.past in
     let desks = sym turn.desks in
-    let states = desks_again (DeskFits p h) (DeskFits p (event ∷ h)) c.desks s desk place.desk turn.fits (λ t other off fit. fits_other p event h t other off fit) was.states in
+    let states = each_set (DeskFits p h) (DeskFits p (event ∷ h)) c.desks s desk place.desk turn.fits (λ t other off fit. fits_other p event h t other off fit) was.states in
     subst CoreInvariant (λ j. record now { plans = plans j; past = past j; desks = desks j }) record {
       lawful = was.lawful;
       legal = (turn.obeys, was.legal);
@@ -164,7 +150,7 @@ goes_on c now event desk was place turn =
 pub stays : (c : Parts) (seats : List Seat) (s : ℕ) (desk : DeskData) → CoreInvariant c → Place c s → AreSeated c seats s desk → DeskFits c.plans c.past s desk
     → CoreInvariant record c { seats = seats; desks = set c.desks (s - 1) desk }
 stays c seats s desk was place seated fits =
-    let states = desks_again (DeskFits c.plans c.past) (DeskFits c.plans c.past) c.desks s desk place.desk fits (λ t other off fit. fit) was.states in
+    let states = each_set (DeskFits c.plans c.past) (DeskFits c.plans c.past) c.desks s desk place.desk fits (λ t other off fit. fit) was.states in
     record {
       lawful = was.lawful;
       legal = was.legal;

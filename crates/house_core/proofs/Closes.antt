@@ -1,11 +1,11 @@
 -- Whether a client has come to its Close, as its desk tells it.
-use Rattle.std.proofs.Common.{◌≡◌, ◌↔◌, ℕ, ◌+◌, ◌-◌, true, false, eqb, Bool, Some, List, [], ◌∷◌, length, get_or, refl, sym, ap, ◌∙◌, arith, IsTrue}
+use Rattle.std.proofs.Common.{◌≡◌, ◌↔◌, ℕ, ◌-◌, true, false, eqb, Bool, Some, List, [], ◌∷◌, length, get_or, refl, sym, ap, ◌∙◌, IsTrue}
 use Rattle.std.specs.Prelude.{slice_get, not, ◌&&◌}
 use Rattle.gpu_plan.specs.declared.plan.Action.{Action}
 use Rattle.gpu_plan.specs.declared.plan.Action.TheVariants as actions
 use Rattle.gpu_plan.specs.Plans.{plan_of, is_closed}
 use Rattle.gpu_plan.specs.Passes.{bound, flushes}
-use Rattle.gpu_plan.specs.Places.{flush_places_from}
+use Rattle.gpu_plan.proofs.Counts.{places_count}
 use Rattle.sync_core.specs.Standing.{is_open}
 use Rattle.gpu_journal.specs.World.{known}
 use Rattle.gpu_journal.specs.Waits.{standing_of}
@@ -17,21 +17,12 @@ use Rattle.house_core.specs.Desks.{DeskData, desk_at}
 use Rattle.house_core.specs.Invariant.{Parts}
 use Rattle.house_core.proofs.Again.{Place}
 
--- there are as many places as flushes
-places_from : (i : ℕ) (xs : List Action) → length (flush_places_from i xs) ≡ flushes xs
-places_from i [] = refl
-places_from i (actions.Put place value ∷ xs) = let rest = places_from (i + 1) xs in omega (arith, rest)
-places_from i (actions.Flush put fences ∷ xs) = let rest = places_from (i + 1) xs in omega (arith, rest)
-places_from i (actions.Finish ∷ xs) = let rest = places_from (i + 1) xs in omega (arith, rest)
-places_from i (actions.Token token ∷ xs) = let rest = places_from (i + 1) xs in omega (arith, rest)
-places_from i (actions.Close ∷ xs) = let rest = places_from (i + 1) xs in omega (arith, rest)
-
 module _ (c : Parts) (s : ℕ) (place : Place c s) (desk other : DeskData) (found : desk ≡ get_or c.desks (s - 1) other) where
   read : desk ≡ desk_at c.desks s
   read = found ∙ place.there other
 
   places : length desk.places ≡ flushes (plan_of c.plans s).actions
-  places = ap (λ (desk : DeskData). length desk.places) read ∙ ap length place.fits.places ∙ places_from 0 (plan_of c.plans s).actions
+  places = ap (λ (desk : DeskData). length desk.places) read ∙ ap length place.fits.places ∙ places_count 0 (plan_of c.plans s).actions
 
   ordered : desk.ordered ≡ (known c.plans c.past s).ordered
   ordered = ap (λ (desk : DeskData). desk.ordered) read ∙ place.fits.ordered

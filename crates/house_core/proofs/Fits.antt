@@ -14,7 +14,7 @@ use Rattle.run_laws.specs.Going.{MayGoOn}
 use Rattle.run_laws.proofs.Going.{other_goes_on, order_goes_on, lost_goes_on, close_goes_on}
 use Rattle.house_core.specs.declared.walk.Walk.{Walk}
 use Rattle.house_core.specs.Walks.{HasWalked}
-use Rattle.house_core.specs.Desks.{DeskData, at_home}
+use Rattle.house_core.specs.Desks.{Out, DeskData, at_home}
 use Rattle.house_core.specs.Invariant.{DeskFits}
 use Rattle.house_core.proofs.Walking.{walked_on}
 
@@ -51,19 +51,11 @@ fits_other p event h t desk off was =
     fits_so p (event ∷ h) t desk (known p h t) (standing_of p h t) (known_other p event h t off) (standing_other p event h t off) (says_of p h t desk was) was.places was.walked
     (λ out. other_goes_on p event h t desk.out.order desk.out.paused off (was.runs out))
 
--- so does a run that comes back
-pub fits_home : (p : PlansData) (h : List Event) (s : ℕ) (desk : DeskData) → DeskFits p h s desk → DeskFits p h s (record desk { out = at_home })
-fits_home p h s desk was = record {
-  places = was.places;
-  state = was.state;
-  ordered = was.ordered;
-  finished = was.finished;
-  greatest = was.greatest;
-  lost = was.lost;
-  closed = was.closed;
-  walked = was.walked;
-  runs = λ out. absurd (omega arith);
-}
+-- so does another run of it that may go on, or none
+pub fits_out : (p : PlansData) (h : List Event) (s : ℕ) (desk : DeskData) (out : Out) → (0 < out.order → MayGoOn p h s out.order out.paused) → DeskFits p h s desk → DeskFits p h s (record desk { out = out })
+fits_out p h s desk out runs was =
+    fits_so p h s (record desk { out = out }) (known p h s) (standing_of p h s) refl refl
+    (record { state = was.state; ordered = was.ordered; finished = was.finished; greatest = was.greatest; lost = was.lost; closed = was.closed }) was.places was.walked runs
 
 -- an order
 pub fits_order : (p : PlansData) (h : List Event) (s n c : ℕ) (desk : DeskData) → DeskFits p h s desk → DeskFits p (Order s n c ∷ h) s (record desk { ordered = desk.ordered + 1 })
@@ -96,14 +88,6 @@ fits_close p h s desk was =
 
 -- a walk on over the client's actions
 pub fits_walk : (p : PlansData) (h : List Event) (s : ℕ) (desk : DeskData) (walk : Walk) → HasWalked (plan_of p s).actions desk.finished desk.greatest walk → DeskFits p h s desk → DeskFits p h s (record desk { walk = walk })
-fits_walk p h s desk walk walked was = record {
-  places = was.places;
-  state = was.state;
-  ordered = was.ordered;
-  finished = was.finished;
-  greatest = was.greatest;
-  lost = was.lost;
-  closed = was.closed;
-  walked = walked;
-  runs = was.runs;
-}
+fits_walk p h s desk walk walked was =
+    fits_so p h s (record desk { walk = walk }) (known p h s) (standing_of p h s) refl refl
+    (record { state = was.state; ordered = was.ordered; finished = was.finished; greatest = was.greatest; lost = was.lost; closed = was.closed }) was.places walked was.runs

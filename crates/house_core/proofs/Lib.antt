@@ -1,4 +1,4 @@
-mod Rows
+pub mod Rows
 mod Walking
 mod Fits
 mod Again

@@ -1,10 +1,12 @@
 -- Rows that begin with stream 1: what is at a stream, also after another one was set there.
-use Rattle.std.proofs.Common.{◌≡◌, ◌≢◌, ℕ, zero, suc, ◌-◌, ◌<◌, eqb, false, List, length, get_or, set, refl, sym, ap, ◌∙◌, arith, get_or-set_same, get_or-set_other}
+use Rattle.std.proofs.Common.{◌≡◌, ◌≢◌, ℕ, zero, suc, ◌-◌, ◌<◌, eqb, Bool, true, false, List, length, get_or, set, refl, sym, ap, subst, ◌∙◌, arith, get_or-set_same, get_or-set_other}
+use Rattle.std.proofs.lemmas.Bool.{eqb-false}
 use Rattle.std.proofs.lemmas.Bool.Decides.{nat_tests}
-use Rattle.std.proofs.lemmas.List.{get_or_default, length-set, map-set}
+use Rattle.std.proofs.lemmas.List.{length-set, map-set}
 use Rattle.std.proofs.Math.ListN.{get_or-map}
 use Rattle.std.proofs.Math.Seq.{map-set_same}
 use Rattle.sync_core.specs.Standing.{IsKnown}
+use Rattle.sync_core.proofs.Rows.{position_of, apart, row, row_is, row_same, row_other, row_there}
 use Rattle.seq_sched.specs.declared.seat.Seat.{Seat}
 use Rattle.seq_sched.specs.Seats.{nobody, seat_of}
 use Rattle.house_core.specs.Desks.{DeskData, no_desk, desk_at}
@@ -12,50 +14,63 @@ use Rattle.house_core.specs.Core.{book_at, out_at, with_out, books_of, outs_of}
 
 -- ---- of any kind
 
--- where stream s stands
-pub position_of : (n s : ℕ) → IsKnown n s → (suc (s - 1) ≡ s) × (s - 1 < n)
-position_of n s known = let low = known.0 in let high = known.1 in (omega arith, omega arith)
+pub other_than : (s t : ℕ) → eqb s t ≡ false → t ≢ s
+other_than s t off same = eqb-false s t off (sym same)
 
-pub apart : (s k : ℕ) → 0 < s → eqb s (suc k) ≡ false → k ≢ s - 1
-apart s k low off same = let is : s ≡ suc k = omega (arith, same) in absurd (grind (arith, nat_tests))
+module _ {X : Type 0} (P Q : ℕ → X → Type 0) where
+  -- in a row of such values one may be replaced
+  pub each_set : (row : List X) (s : ℕ) (x : X) → IsKnown (length row) s → Q s x → ((t : ℕ) (y : X) → eqb s t ≡ false → P t y → Q t y)
+      → ((k : ℕ) (other : X) → k < length row → P (suc k) (get_or row k other)) → (k : ℕ) (other : X) → k < length (set row (s - 1) x) → Q (suc k) (get_or (set row (s - 1) x) k other)
+  each_set row s x known here others was k other low = by (eqb s (suc k)) refl
+    where
+      count : length (set row (s - 1) x) ≡ length row
+      count = length-set row (s - 1) x
+
+      at : (suc (s - 1) ≡ s) × (s - 1 < length row)
+      at = position_of (length row) s known
+
+      by : (b : Bool) → eqb s (suc k) ≡ b → Q (suc k) (get_or (set row (s - 1) x) k other)
+      by true q =
+          let is : s ≡ suc k = grind (arith, nat_tests) in
+          let place : s - 1 ≡ k = omega (arith, is) in
+          subst (λ (i : ℕ). Q (suc i) (get_or (set row (s - 1) x) i other)) place
+          (subst (λ (t : ℕ). Q t (get_or (set row (s - 1) x) (s - 1) other)) (sym at.0)
+          (subst (Q s) (sym (get_or-set_same row (s - 1) x other at.1)) here))
+      by false q = subst (Q (suc k)) (sym (get_or-set_other row (s - 1) k x other (apart s k known.0 q))) (others (suc k) (get_or row k other) q (was k other (omega (arith, low, count))))
+
+  -- and with none replaced
+  pub each_kept : (row : List X) (s : ℕ) → ((y : X) → P s y → Q s y) → ((t : ℕ) (y : X) → eqb s t ≡ false → P t y → Q t y)
+      → ((k : ℕ) (other : X) → k < length row → P (suc k) (get_or row k other)) → (k : ℕ) (other : X) → k < length row → Q (suc k) (get_or row k other)
+  each_kept row s own others was k other low = by (eqb s (suc k)) refl
+    where
+      by : (b : Bool) → eqb s (suc k) ≡ b → Q (suc k) (get_or row k other)
+      by true q = let is : s ≡ suc k = grind (arith, nat_tests) in subst (λ (t : ℕ). P t (get_or row k other) → Q t (get_or row k other)) is (own (get_or row k other)) (was k other low)
+      by false q = others (suc k) (get_or row k other) q (was k other low)
 
 -- ---- desks
 
+desk_row : (desks : List DeskData) (s : ℕ) → desk_at desks s ≡ row no_desk desks s
+desk_row = row_is no_desk desk_at (λ desks. refl) (λ desks k. refl)
+
 pub desk_there : (desks : List DeskData) (s : ℕ) (other : DeskData) → IsKnown (length desks) s → get_or desks (s - 1) other ≡ desk_at desks s
-desk_there desks zero other known = absurd (let low = known.0 in omega arith)
-desk_there desks (suc k) other known =
-    let high = known.1 in
-    let same : suc k - 1 ≡ k = omega arith in
-    get_or_default desks (suc k - 1) other no_desk (omega arith) ∙ ap (λ (i : ℕ). get_or desks i no_desk) same
+desk_there desks s other known = row_there no_desk desks s other known ∙ sym (desk_row desks s)
 
 pub desk_set_here : (desks : List DeskData) (s : ℕ) (desk : DeskData) → IsKnown (length desks) s → desk_at (set desks (s - 1) desk) s ≡ desk
-desk_set_here desks s desk known =
-    let at = position_of (length desks) s known in
-    let count = length-set desks (s - 1) desk in
-    sym (desk_there (set desks (s - 1) desk) s desk (known.0, (let high = known.1 in omega arith))) ∙ get_or-set_same desks (s - 1) desk desk at.1
+desk_set_here desks s desk known = desk_row (set desks (s - 1) desk) s ∙ row_same no_desk desks s desk known
 
 pub desk_set_other : (desks : List DeskData) (s t : ℕ) (desk : DeskData) → 0 < s → eqb s t ≡ false → desk_at (set desks (s - 1) desk) t ≡ desk_at desks t
-desk_set_other desks s zero desk low off = refl
-desk_set_other desks s (suc k) desk low off = get_or-set_other desks (s - 1) k desk no_desk (apart s k low off)
+desk_set_other desks s t desk low off = desk_row (set desks (s - 1) desk) t ∙ row_other no_desk desks s t desk low (other_than s t off) ∙ sym (desk_row desks t)
 
 -- ---- seats
 
-pub seat_there : (seats : List Seat) (s : ℕ) (other : Seat) → IsKnown (length seats) s → get_or seats (s - 1) other ≡ seat_of seats s
-seat_there seats zero other known = absurd (let low = known.0 in omega arith)
-seat_there seats (suc k) other known =
-    let high = known.1 in
-    let same : suc k - 1 ≡ k = omega arith in
-    get_or_default seats (suc k - 1) other nobody (omega arith) ∙ ap (λ (i : ℕ). get_or seats i nobody) same
+seat_row : (seats : List Seat) (s : ℕ) → seat_of seats s ≡ row nobody seats s
+seat_row = row_is nobody seat_of (λ seats. refl) (λ seats k. refl)
 
 pub seat_set_here : (seats : List Seat) (s : ℕ) (seat : Seat) → IsKnown (length seats) s → seat_of (set seats (s - 1) seat) s ≡ seat
-seat_set_here seats s seat known =
-    let at = position_of (length seats) s known in
-    let count = length-set seats (s - 1) seat in
-    sym (seat_there (set seats (s - 1) seat) s seat (known.0, (let high = known.1 in omega arith))) ∙ get_or-set_same seats (s - 1) seat seat at.1
+seat_set_here seats s seat known = seat_row (set seats (s - 1) seat) s ∙ row_same nobody seats s seat known
 
 pub seat_set_other : (seats : List Seat) (s t : ℕ) (seat : Seat) → 0 < s → eqb s t ≡ false → seat_of (set seats (s - 1) seat) t ≡ seat_of seats t
-seat_set_other seats s zero seat low off = refl
-seat_set_other seats s (suc k) seat low off = get_or-set_other seats (s - 1) k seat nobody (apart s k low off)
+seat_set_other seats s t seat low off = seat_row (set seats (s - 1) seat) t ∙ row_other nobody seats s t seat low (other_than s t off) ∙ sym (seat_row seats t)
 
 -- ---- what contracts see of the desks
 

@@ -18,14 +18,13 @@ use Rattle.gpu_journal.specs.World.{known}
 use Rattle.gpu_journal.specs.Waits.{sync_of, left_of}
 use Rattle.gpu_journal.specs.Facts.{flush_of, put_in, put_of}
 use Rattle.serial_laws.proofs.Obeying.{CanRun, can_run}
-use Rattle.run_laws.specs.Going.{MayGoOn}
 use Rattle.run_laws.specs.Choosing.{choice_at_home, AreSeats}
 use Rattle.run_laws.proofs.Choosing.{scheduler_chooses, chosen_runs}
 use Rattle.run_laws.proofs.Cores.{core_left}
 use Rattle.run_laws.proofs.Fronts.{front_placed}
 use Rattle.house_core.specs.Desks.{Out, DeskData, desk_at, run_of}
 use Rattle.house_core.specs.Core.{is_home, outs_of, IsOfPlans, IsRunOf}
-use Rattle.house_core.specs.Invariant.{Parts, DeskFits, CoreInvariant}
+use Rattle.house_core.specs.Invariant.{Parts, CoreInvariant}
 use Rattle.house_core.proofs.Rows.{out_at_desk}
 use Rattle.house_core.proofs.Again.{Place, place_of}
 
@@ -81,20 +80,6 @@ not_none n some = grind (arith, nat_tests)
 pub plan_there : (p : PlansData) (s : ℕ) (plan : PlanData) → IsKnown (length p.plans) s → slice_get p.plans (s - 1) ≡ Some plan → plan ≡ plan_of p s
 plan_there p zero plan known e = absurd (let low = known.0 in omega arith)
 plan_there p (suc k) plan known e = let same : suc k - 1 ≡ k = omega arith in sym (get_or_from_slice_get p.plans (suc k - 1) plan no_plan e) ∙ ap (λ (i : ℕ). get_or p.plans i no_plan) same
-
--- a desk whose run leaves fits
-pub fits_away : (p : PlansData) (h : List Event) (s n : ℕ) (desk : DeskData) → DeskFits p h s desk → MayGoOn p h s n false → DeskFits p h s (record desk { out = record { order = n; paused = false } })
-fits_away p h s n desk was may = record {
-  places = was.places;
-  state = was.state;
-  ordered = was.ordered;
-  finished = was.finished;
-  greatest = was.greatest;
-  lost = was.lost;
-  closed = was.closed;
-  walked = was.walked;
-  runs = λ out. may;
-}
 
 -- the run of the first number, from the flush that the desk finds and up to its put
 pub record HasLeft (p : PlansData) (h : List Event) (s : ℕ) (desk : DeskData) (place put : ℕ) : Type 0 where

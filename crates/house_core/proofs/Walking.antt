@@ -4,13 +4,12 @@ use Rattle.std.specs.Prelude.{slice_get}
 use Rattle.std.proofs.Math.Nat.{le-max_right}
 use Rattle.std.proofs.lemmas.Option.{slice_get_within}
 use Rattle.gpu_plan.specs.declared.plan.Action.{Action}
-use Rattle.gpu_plan.specs.declared.plan.Action.TheVariants.{Put, Flush, Finish, Close}
-use Rattle.gpu_plan.specs.declared.plan.Action.TheVariants as acts
+use Rattle.gpu_plan.specs.declared.plan.Action.TheVariants.{Close}
 use Rattle.gpu_plan.specs.Passes.{flush_count, flushes, passes, passes_behind, passes_if_there, bound}
 use Rattle.gpu_plan.proofs.Passing.{flushes_one_further, flushes_within, bound_one_further, passes_below_bound, bound_within, bound_grows_by_greatest}
 use Rattle.stream_state.specs.declared.effect.Effect.{Effect}
 use Rattle.stream_state.specs.declared.effect.Effect.TheVariants.{Nothing, Token, Release, Wait, WaitName, Pixels, Results}
-use Rattle.run_laws.specs.Tokens.{greatest_after}
+use Rattle.gpu_journal.specs.World.{greatest_after}
 use Rattle.house_core.specs.declared.walk.Walk.{Walk}
 use Rattle.house_core.specs.Walks.{HasWalked}
 
@@ -29,13 +28,6 @@ greatest_grows (Wait t r) g = omega arith
 greatest_grows (WaitName name r) g = omega arith
 greatest_grows (Pixels op) g = omega arith
 greatest_grows (Results write) g = omega arith
-
-pub one_flush : (action : Action) → flush_count action ≤ 1
-one_flush (Put place value) = omega arith
-one_flush (Flush put fences) = omega arith
-one_flush Finish = omega arith
-one_flush (acts.Token token) = omega arith
-one_flush Close = omega arith
 
 module _ (actions : List Action) (finished greatest : ℕ) (walk : Walk) (was : HasWalked actions finished greatest walk) where
   pub few_behind : walk.behind ≤ walk.upto

@@ -1,7 +1,7 @@
 -- A step, as the desk of its stream sees it.
 use Rattle.stream_state.specs.State.{State}
 use Rattle.step_parts.specs.declared.acted.Acted.{Acted}
-use Rattle.run_laws.specs.Tokens.{greatest_after}
+use Rattle.gpu_journal.specs.World.{greatest_after}
 use Rattle.house_core.specs.Desks.{DeskData}
 
 -- the desk after a step that left its stream in this state

@@ -14,11 +14,12 @@ use Rattle.gpu_fetch.specs.Shared.{IsOf, IsNoteOf}
 use Rattle.shm_words.specs.declared.client.Acted.{Acted}
 use Rattle.shm_words.specs.Seen.{ClientData, ServiceData, NoteData, next_action, flushes_before}
 use Rattle.shm_words.specs.Acts.{Acts, IsAtFlush, answer_for, counts}
+use Rattle.gpu_fetch.proofs.Counting.{flush_counts}
 use Rattle.gpu_journal.specs.declared.event.Event.{Event}
 use Rattle.gpu_house.specs.Slots.{slot_at}
 use Rattle.gpu_house.specs.House.{HouseData}
 use Rattle.house_tests.specs.Alone.{ordered, AllBelong, IsHome, IsClientOf}
-use Rattle.house_tests.proofs.Flushing.{flush_counts, flush_left, flush_mark}
+use Rattle.house_tests.proofs.Flushing.{flush_left, flush_mark}
 
 -- an action that the client does by itself is no flush
 quiet : (xs : List Action) (done : ℕ) (passes : Bool) (o : Option Action) → slice_get xs done ≡ o → flushes (take (done + counts (answer_for passes o)) xs) ≡ flushes (take done xs)

@@ -1,15 +1,16 @@
 -- Where the flush stands that a client makes next.
-use Rattle.std.proofs.Common.{◌≡◌, ℕ, suc, ◌+◌, ◌<◌, Option, Some, None, List, [], ◌∷◌, length, take, refl, sym, ap, subst, ◌∙◌, arith, option_map, unwrap_or}
+use Rattle.std.proofs.Common.{◌≡◌, ℕ, suc, ◌+◌, ◌<◌, Option, Some, List, [], ◌∷◌, length, take, refl, sym, ap, subst, ◌∙◌, arith, option_map, unwrap_or}
 use Rattle.std.specs.Prelude.{slice_get}
 use Rattle.std.specs.Option.{IsSomeAnd}
 use Rattle.gpu_plan.specs.declared.plan.Action.{Action}
 use Rattle.gpu_plan.specs.declared.plan.Action.TheVariants.{Put, Flush, Finish, Token, Close}
 use Rattle.gpu_plan.specs.Plans.{PlansData, PlanData, plan_of}
-use Rattle.gpu_plan.specs.Passes.{flush_count, flushes}
+use Rattle.gpu_plan.specs.Passes.{flushes}
 use Rattle.gpu_plan.specs.Places.{flush_places, mark_of}
-use Rattle.gpu_plan.proofs.Passing.{flushes_one_further, flushes_all}
+use Rattle.gpu_plan.proofs.Passing.{flushes_all}
 use Rattle.gpu_fetch.specs.Plain.{IsNext, IsPut, IsFlush}
 use Rattle.gpu_fetch.specs.Stirred.{ComesToFlush, puts_ahead}
+use Rattle.gpu_fetch.proofs.Counting.{flush_counts}
 use Rattle.serial_laws.proofs.Flushes.{flush_placed}
 
 -- ---- a flush that is next
@@ -19,36 +20,6 @@ next_flush xs k a put fences got is = subst (λ (o : Option Action). IsSomeAnd o
 
 pub next_put : (xs : List Action) (k : ℕ) (a : Action) (place value : ℕ) → slice_get xs k ≡ Some a → a ≡ Put place value → IsNext IsPut xs k
 next_put xs k a place value got is = subst (λ (o : Option Action). IsSomeAnd o IsPut) (sym got) (subst IsPut (sym is) tt)
-
-one_flush : (a : Action) → IsFlush a → flush_count a ≡ 1
-one_flush (Put place value) is = absurd is
-one_flush (Flush put fences) is = refl
-one_flush Finish is = absurd is
-one_flush (Token token) is = absurd is
-one_flush Close is = absurd is
-
--- it is one flush more
-pub flush_counts : (xs : List Action) (k : ℕ) → IsNext IsFlush xs k → flushes (take (k + 1) xs) ≡ flushes (take k xs) + 1
-flush_counts xs k next = by (slice_get xs k) refl next
-  where
-    by : (o : Option Action) → slice_get xs k ≡ o → IsSomeAnd o IsFlush → flushes (take (k + 1) xs) ≡ flushes (take k xs) + 1
-    by None e is = absurd is
-    by (Some a) e is = let step = flushes_one_further xs k a e in let counted = one_flush a is in omega (arith, step, counted)
-
--- a put is none
-pub put_counts : (xs : List Action) (k : ℕ) → IsNext IsPut xs k → flushes (take (k + 1) xs) ≡ flushes (take k xs)
-put_counts xs k next = by (slice_get xs k) refl next
-  where
-    counted : (a : Action) → IsPut a → flush_count a ≡ 0
-    counted (Put place value) is = refl
-    counted (Flush put fences) is = absurd is
-    counted Finish is = absurd is
-    counted (Token token) is = absurd is
-    counted Close is = absurd is
-
-    by : (o : Option Action) → slice_get xs k ≡ o → IsSomeAnd o IsPut → flushes (take (k + 1) xs) ≡ flushes (take k xs)
-    by None e is = absurd is
-    by (Some a) e is = let step = flushes_one_further xs k a e in let none = counted a is in omega (arith, step, none)
 
 -- there is a flush behind those before it
 pub flush_left : (plan : PlanData) (done n : ℕ) → n ≡ flushes (take done plan.actions) → IsNext IsFlush plan.actions done → n < flushes plan.actions

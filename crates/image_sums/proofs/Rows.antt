@@ -1,12 +1,12 @@
 -- Sums modulo 2^32 of texels, row by row and image by image.
-use Rattle.std.proofs.Common.{◌≡◌, ℕ, ◌+◌, ◌*◌, ◌%◌, ◌^◌, ◌<◌, List, ◌++◌, length, get_or, take, Option, Some, None, inl, inr, sym, ap, subst, ◌∙◌, arith}
-use Rattle.std.specs.Prelude.{IfSome, option_map, slice_get, unwrap_or}
+use Rattle.std.proofs.Common.{◌≡◌, ℕ, ◌+◌, ◌*◌, ◌%◌, ◌^◌, ◌<◌, List, ◌++◌, length, get_or, take, Option, Some, None, sym, ap, subst, ◌∙◌, arith}
+use Rattle.std.specs.Prelude.{IfSome, option_map, unwrap_or}
 use Rattle.std.specs.List.{sum, sum_by}
 use Rattle.std.proofs.Math.Seq.{take-add, take-length}
 use Rattle.std.proofs.lemmas.List.Sums.{sum_by-append, sum_by_more}
-use Rattle.std.proofs.lemmas.Option.{slice_get_cases}
 use Rattle.gpu_store.specs.Picture.{Picture, row_of, IsWhole}
-use Rattle.gpu_store.specs.Images.{Pictures, picture_of, numbers}
+use Rattle.gpu_store.specs.Images.{Pictures, picture_of}
+use Rattle.gpu_store.proofs.Lookups.{Stands}
 
 -- the texels of an image of this number
 abbrev pub texels_in : ℕ × Picture → ℕ
@@ -41,17 +41,11 @@ image_done (Some picture) before total width height y whole size end so_far =
     so_far ∙ ap (λ n. (before + sum (take n picture.texels)) % 2 ^ 32) count ∙ ap (λ (texels : List ℕ). (before + sum texels) % 2 ^ 32) (take-length picture.texels)
 
 -- the sum of the first images, and of one image more
-pub images_more : (images : Pictures) (index image total new : ℕ) → index < length images → slice_get (numbers images) index ≡ Some image
-    → picture_of images image ≡ option_map (λ (entry : ℕ × Picture). entry.1) (slice_get images index)
+pub images_more : (images : Pictures) (index image total new : ℕ) → Stands images index image
     → IfSome (picture_of images image) (λ picture. new ≡ (total + sum picture.texels) % 2 ^ 32) → total ≡ sum_by texels_in (take index images) % 2 ^ 32 → new ≡ sum_by texels_in (take (index + 1) images) % 2 ^ 32
-images_more images index image total new lt number found added so_far =
-    elim ((slice_get_cases images index).1) [
-      | inl here ↦
-          let entry = here.0 in
-          let shown : picture_of images image ≡ Some entry.1 = found ∙ ap (option_map (λ (e : ℕ × Picture). e.1)) here.2 in
-          let more : new ≡ (total + sum entry.1.texels) % 2 ^ 32 = subst (λ (o : Option Picture). IfSome o (λ picture. new ≡ (total + sum picture.texels) % 2 ^ 32)) shown added in
-          let step : sum_by texels_in (take (index + 1) images) ≡ sum_by texels_in (take index images) + texels_in (get_or images index entry) = sum_by_more texels_in images index entry lt in
-          let same : texels_in (get_or images index entry) ≡ sum entry.1.texels = ap texels_in here.3 in
-          omega (arith, more, so_far, step, same)
-      | inr past ↦ absurd (omega arith)
-    ]
+images_more images index image total new stands added so_far =
+    let entry = stands.entry in
+    let more : new ≡ (total + sum entry.1.texels) % 2 ^ 32 = subst (λ (o : Option Picture). IfSome o (λ picture. new ≡ (total + sum picture.texels) % 2 ^ 32)) stands.shown added in
+    let step : sum_by texels_in (take (index + 1) images) ≡ sum_by texels_in (take index images) + texels_in (get_or images index entry) = sum_by_more texels_in images index entry stands.within in
+    let same : texels_in (get_or images index entry) ≡ sum entry.1.texels = ap texels_in stands.there in
+    omega (arith, more, so_far, step, same)

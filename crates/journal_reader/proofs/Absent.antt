@@ -1,13 +1,10 @@
 -- Where nothing is found.
-use Rattle.std.proofs.Common.{◌≡◌, ℕ, ◌<◌, ◌≤◌, Bool, true, false, cond, ltb, Some, None, List, length, get_or, refl, arith}
+use Rattle.std.proofs.Common.{◌≡◌, ℕ, ◌<◌, ◌≤◌, Bool, false, ltb, None, List, length, get_or, arith}
 use Rattle.std.specs.Prelude.{position}
 use Rattle.std.specs.List.{position_or_len}
 use Rattle.std.proofs.lemmas.Bool.{ltb-false}
 use Rattle.std.proofs.lemmas.List.Sums.{fails_before_first}
-
-pub not_found : (b : Bool) (n : ℕ) → cond b (Some n) None ≡ None → b ≡ false
-not_found true n e = absurd cc
-not_found false n e = refl
+use Rattle.script_words.proofs.Cuts.{not_found}
 
 -- no byte passes where none is found
 pub none_before : (p : ℕ → Bool) (text : List ℕ) → position p text ≡ None → (k : ℕ) → k < length text → p (get_or text k 0) ≡ false

@@ -1,28 +1,14 @@
 -- A line, cut at its spaces.
-use Rattle.std.proofs.Common.{◌≡◌, ℕ, ◌+◌, ◌≤◌, ltb, List, [], ◌∷◌, length, take, drop, get_or, Some, None, sym, ap, subst, ◌∙◌, arith}
+use Rattle.std.proofs.Common.{◌≡◌, ℕ, ◌+◌, List, [], ◌∷◌, take, drop, get_or, Some, None, sym, ap, subst, ◌∙◌, arith}
 use Rattle.std.specs.Prelude.{position}
-use Rattle.std.specs.List.{slice_split, position_or_len}
-use Rattle.std.proofs.lemmas.Bool.{ltb-true, ltb-false}
+use Rattle.std.specs.List.{slice_split}
 use Rattle.std.proofs.lemmas.Bool.Decides.{nat_tests}
-use Rattle.std.proofs.lemmas.Option.{cond_some}
 use Rattle.std.proofs.lemmas.List.{drop_more}
 use Rattle.std.proofs.lemmas.List.Quantifiers.{position-Some}
-use Rattle.std.proofs.lemmas.List.Sums.{fails_before_first}
-use Rattle.std.proofs.lemmas.List.Splits.{slice_split_first, slice_split_none, slice_split-cons_yes}
-use Rattle.journal_reader.proofs.Absent.{not_found}
+use Rattle.std.proofs.lemmas.List.Splits.{slice_split-cons_yes}
+use Rattle.script_words.proofs.Cuts.{split_found, none_passes}
 use Rattle.journal_reader.specs.Said.{is_space, pieces_of}
 use Rattle.journal_reader.specs.Fronts.{IsCut}
-
--- what stands before the first space, and the pieces behind it
-pub split_found : (text : List ℕ) (at : ℕ) → position is_space text ≡ Some at → slice_split is_space text ≡ take at text ∷ slice_split is_space (drop (at + 1) text)
-split_found text at e =
-    let f = cond_some (ltb (position_or_len is_space text) (length text)) (position_or_len is_space text) at e in
-    slice_split_first is_space text 0 (ltb-true _ _ f.0) ∙ ap (λ n. take n text ∷ slice_split is_space (drop (n + 1) text)) f.1
-
-pub split_none : (text : List ℕ) → position is_space text ≡ None → slice_split is_space text ≡ text ∷ []
-split_none text e =
-    let far : length text ≤ position_or_len is_space text = ltb-false _ _ (not_found (ltb (position_or_len is_space text) (length text)) (position_or_len is_space text) e) in
-    slice_split_none is_space text (λ k d lt. fails_before_first is_space text k d (omega arith))
 
 -- a space is what stands at its place
 pub at_space : (text : List ℕ) (at : ℕ) → position is_space text ≡ Some at → slice_split is_space (drop at text) ≡ [] ∷ slice_split is_space (drop (at + 1) text)
@@ -31,16 +17,16 @@ at_space text at e =
     rw (drop_more text at 0 found.0) (slice_split-cons_yes is_space (get_or text at 0) (drop (at + 1) text) found.1)
 
 pub cut_found : (text piece rest : List ℕ) (at : ℕ) → position is_space text ≡ Some at → piece ≡ take at text → rest ≡ drop at text → slice_split is_space text ≡ piece ∷ pieces_of rest
-cut_found text piece rest at e p r = rw (p, r) (split_found text at e ∙ ap (λ (parts : List (List ℕ)). take at text ∷ drop 1 parts) (sym (at_space text at e)))
+cut_found text piece rest at e p r = rw (p, r) (split_found is_space text at e ∙ ap (λ (parts : List (List ℕ)). take at text ∷ drop 1 parts) (sym (at_space text at e)))
 
 pub cut_none : (text : List ℕ) → position is_space text ≡ None → slice_split is_space text ≡ text ∷ pieces_of []
-cut_none text e = split_none text e
+cut_none text e = none_passes is_space text e
 
 pub next_found : (text behind piece : List ℕ) (more : List (List ℕ)) (at : ℕ) → position is_space text ≡ Some at → behind ≡ drop (at + 1) text → slice_split is_space behind ≡ piece ∷ more → pieces_of text ≡ piece ∷ more
-next_found text behind piece more at e b s = ap (drop 1) (split_found text at e) ∙ ap (slice_split is_space) (sym b) ∙ s
+next_found text behind piece more at e b s = ap (drop 1) (split_found is_space text at e) ∙ ap (slice_split is_space) (sym b) ∙ s
 
 pub next_none : (text : List ℕ) → position is_space text ≡ None → pieces_of text ≡ []
-next_none text e = ap (drop 1) (split_none text e)
+next_none text e = ap (drop 1) (none_passes is_space text e)
 
 -- what stands from the first space on
 pub space_cut : (text : List ℕ) (at : ℕ) → position is_space text ≡ Some at → IsCut (drop at text)
@@ -50,4 +36,4 @@ space_cut text at e =
     subst IsCut (sym (drop_more text at 0 found.0)) byte
 
 pub space_pieces : (text : List ℕ) (at : ℕ) → position is_space text ≡ Some at → pieces_of (drop at text) ≡ pieces_of text
-space_pieces text at e = ap (drop 1) (at_space text at e) ∙ sym (ap (drop 1) (split_found text at e))
+space_pieces text at e = ap (drop 1) (at_space text at e) ∙ sym (ap (drop 1) (split_found is_space text at e))

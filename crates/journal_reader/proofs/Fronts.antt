@@ -17,7 +17,8 @@ use Rattle.gpu_journal.proofs.Lengths.{length-hex8}
 use Rattle.journal_reader.specs.Said.{is_space, pieces_of, own_number, own_value, words_said}
 use Rattle.journal_reader.specs.Reading.{IsWord}
 use Rattle.journal_reader.specs.Fronts.{IsCut, is_colon, HasValue, HasWord, HasNoWord}
-use Rattle.journal_reader.proofs.Cuts.{split_found, split_none, space_cut}
+use Rattle.script_words.proofs.Cuts.{split_found, none_passes}
+use Rattle.journal_reader.proofs.Cuts.{space_cut}
 use Rattle.journal_reader.proofs.Absent.{none_before}
 use Rattle.journal_reader.proofs.Lines.{ink_word, no_space}
 use Rattle.journal_reader.proofs.Numbers.{number_told_own, own_number_there, value_told_own, own_value_there}
@@ -155,9 +156,9 @@ nothing_is_said text never = by (words_said (slice_split is_space text)) (positi
   where
     by : (said : Option (List (ℕ × ℕ))) (place : Option ℕ) → words_said (slice_split is_space text) ≡ said → position is_space text ≡ place → words_said (slice_split is_space text) ≡ None
     by None place e p = e
-    by (Some words) None e p = absurd (word_told_first text text [] [] words (sym (append-nil text)) tt (split_none text p) e never)
+    by (Some words) None e p = absurd (word_told_first text text [] [] words (sym (append-nil text)) tt (none_passes is_space text p) e never)
     by (Some words) (Some at) e p =
-        absurd (word_told_first text (take at text) (drop at text) (slice_split is_space (drop (at + 1) text)) words (sym (take-append-drop at text)) (space_cut text at p) (split_found text at p) e never)
+        absurd (word_told_first text (take at text) (drop at text) (slice_split is_space (drop (at + 1) text)) words (sym (take-append-drop at text)) (space_cut text at p) (split_found is_space text at p) e never)
 
 -- ---- words collected one after the other
 

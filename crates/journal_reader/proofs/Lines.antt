@@ -24,9 +24,9 @@ use Rattle.gpu_journal.specs.Laws.{HasWords}
 use Rattle.gpu_journal.proofs.Numerals.{numeral_decimal}
 use Rattle.gpu_journal.proofs.Telling.{different_texts}
 use Rattle.script_words.specs.Text.{ends_line}
+use Rattle.script_words.proofs.Cuts.{not_found}
 use Rattle.journal_reader.specs.Said.{is_space, pieces_said, line_said}
 use Rattle.journal_reader.specs.Reading.{IsWord, IsWritten, HasNoFeed, IsJournal, whole_lines, IsLineOf, IsFirstBad, RefusedIsNoJournal, JournalIsOne}
-use Rattle.journal_reader.proofs.Absent.{not_found}
 use Rattle.journal_reader.proofs.Numbers.{value_digits}
 use Rattle.journal_reader.proofs.Words.{word_piece}
 use Rattle.journal_reader.proofs.Events.{why_piece, event_pieces, pieces_told, pieces_there}
@@ -155,7 +155,8 @@ joined_no_feed (x ∷ y ∷ ys) ink =
 event_no_feed : (event : Event) → IsWritten event → HasNoFeed (join_with_byte 32 (event_pieces event))
 event_no_feed event is = joined_no_feed (event_pieces event) (ink_event event is)
 
-lines_first : (front rest : List ℕ) → HasNoFeed front → whole_lines (front ++ 10 ∷ rest) ≡ (front ++ 10 ∷ []) ∷ whole_lines rest
+-- the first line of a text
+pub lines_first : (front rest : List ℕ) → HasNoFeed front → whole_lines (front ++ 10 ∷ rest) ≡ (front ++ 10 ∷ []) ∷ whole_lines rest
 lines_first [] rest none = refl
 lines_first (b ∷ front) rest none = rw (All-head (λ byte. ends_line byte ≡ false) b front none, lines_first front rest (All-tail (λ byte. ends_line byte ≡ false) b front none)) refl
 

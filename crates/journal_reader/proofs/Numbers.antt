@@ -16,22 +16,20 @@ use Rattle.std.proofs.lemmas.List.{length-take}
 use Rattle.std.proofs.lemmas.List.Folds.{list_all-append, list_all_at, list_all_more}
 use Rattle.std.proofs.Math.Nat.{pow-le-pow_right}
 use Rattle.script_words.specs.Numbers.{number_of, decimal_of, hex_of}
+use Rattle.script_words.proofs.Digits.{all_digits}
 use Rattle.gpu_journal.specs.Digits.{numeral, hex_digits, hex8}
+use Rattle.gpu_journal.proofs.Lengths.{length-hex8}
 use Rattle.gpu_journal.proofs.Numerals.{numeral_decimal, different_values}
 use Rattle.journal_reader.specs.Said.{is_small, small_digit, own_number, own_value}
 
 -- ---- digits
-
-digits_told : (radix : ℕ) (ds : List ℕ) → list_all (λ c. is_digit c radix) ds ≡ true → AllDigits radix ds
-digits_told radix [] e = tt
-digits_told radix (c ∷ cs) e = let both = and_parts (is_digit c radix) (list_all (λ c. is_digit c radix) cs) e in (ltb-true _ _ both.0, digits_told radix cs both.1)
 
 digits_test : (radix : ℕ) (ds : List ℕ) → AllDigits radix ds → list_all (λ c. is_digit c radix) ds ≡ true
 digits_test radix [] are = refl
 digits_test radix (c ∷ cs) are = and_from _ _ (lt-ltb _ _ are.0) (digits_test radix cs are.1)
 
 own_model : IsNumeralModel (λ ds. list_all (λ c. is_digit c 10) ds ≡ true) (digits_value 10)
-own_model = record { to = digits_told 10; from = digits_test 10; same = λ ds are. refl }
+own_model = record { to = all_digits 10; from = digits_test 10; same = λ ds are. refl }
 
 -- what a word has that says a number
 record IsNumber (radix most limit : ℕ) (word : List ℕ) (n : ℕ) : Type 0 where
@@ -134,7 +132,7 @@ value_told_own word v eight e = by (list_all is_small word) refl e
     by false small e = absurd (cc)
     by true small e =
         let is = number_told 16 8 (2 ^ 32) word v e in
-        let more = digits_more 0 0 word (digits_told 16 word is.digits) small in
+        let more = digits_more 0 0 word (all_digits 16 word is.digits) small in
         let count : length word + 0 ≡ 8 = omega arith in
         (sym (ap (hex_digits 8) (sym is.is) ∙ ap (λ n. hex_digits n (digits_value 16 word)) (sym count) ∙ more), subst (λ m. m < 2 ^ 32) is.is is.small)
 
@@ -185,7 +183,7 @@ no_digits = record { small = refl; digits = refl; is = refl }
 -- at most seven digits leave room for one more
 pub value_room : (word : List ℕ) (value i : ℕ) → i ≤ 7 → IsValueOf (take i word) value → value < 2 ^ 28
 value_room word value i short is =
-    let below = digits_value-lt 16 (take i word) (digits_told 16 (take i word) is.digits) in
+    let below = digits_value-lt 16 (take i word) (all_digits 16 (take i word) is.digits) in
     let n = length (take i word) in
     let most : n ≤ 7 = omega (arith, length-take i word) in
     let far : 16 ^ n ≤ 16 ^ 7 = pow-le-pow_right (lit< tt) most in
@@ -228,28 +226,24 @@ digits_hex (suc count) n =
       small = list_all-append is_small (hex_digits count (n / 16)) (digit_char (n % 16) ∷ []) ∙ and_from _ _ front.small last.small;
     }
 
-eight_digits : (v : ℕ) → length (hex8 v) ≡ 8
-unfolding hex8
-eight_digits v = refl
-
 value_hex : (v : ℕ) → AreHex (hex8 v)
 unfolding hex8
 value_hex v = digits_hex 8 v
 
 value_again : (v : ℕ) → hex8 (digits_value 16 (hex8 v)) ≡ hex8 v
 unfolding hex8
-value_again v = let are = digits_hex 8 v in digits_more 0 0 (hex_digits 8 v) (digits_told 16 (hex_digits 8 v) are.digits) are.small
+value_again v = let are = digits_hex 8 v in digits_more 0 0 (hex_digits 8 v) (all_digits 16 (hex_digits 8 v) are.digits) are.small
 
 pub own_value_there : (v : ℕ) → v < 2 ^ 32 → own_value (hex8 v) ≡ Some v
 unfolding own_value
 own_value_there v small =
     let are = value_hex v in
-    let eight = eight_digits v in
-    let less = digits_value-lt 16 (hex8 v) (digits_told 16 (hex8 v) are.digits) in
+    let eight = length-hex8 v in
+    let less = digits_value-lt 16 (hex8 v) (all_digits 16 (hex8 v) are.digits) in
     let most : 16 ^ length (hex8 v) ≡ 2 ^ 32 = ap (λ n. 16 ^ n) eight in
     let low : digits_value 16 (hex8 v) < 2 ^ 32 = omega arith in
     let is : IsNumber 16 8 (2 ^ 32) (hex8 v) v = record { some = omega arith; short = omega arith; digits = are.digits; small = low; is = different_values (digits_value 16 (hex8 v)) v low small (value_again v) } in
     rw (are.small) (number_there 16 8 (2 ^ 32) (hex8 v) v is)
 
 pub value_digits : (v : ℕ) → AllDigits 16 (hex8 v)
-value_digits v = digits_told 16 (hex8 v) (value_hex v).digits
+value_digits v = all_digits 16 (hex8 v) (value_hex v).digits

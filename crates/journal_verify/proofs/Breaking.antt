@@ -5,24 +5,23 @@ use Rattle.std.specs.Bool.{Decides}
 use Rattle.std.specs.Option.{option_map_or}
 use Rattle.std.specs.List.{All}
 use Rattle.std.proofs.lemmas.Bool.Decides.{nat_tests}
-use Rattle.std.proofs.lemmas.Bool.{and_parts, and_from}
+use Rattle.std.proofs.lemmas.Bool.{and_parts, and_from, both_ways}
 use Rattle.std.proofs.lemmas.List.{nil_from_length}
 use Rattle.gpu_cmd.specs.declared.command.Command.{Command}
 use Rattle.gpu_cmd.specs.declared.error.CmdError.{CmdError}
 use Rattle.gpu_cmd.specs.declared.facts.StreamFacts.{StreamFacts}
 use Rattle.gpu_cmd.specs.Errors.{code_of}
 use Rattle.gpu_cmd.specs.Copied.{places_listed, fetched_places, copied, IsCopy}
-use Rattle.gpu_plan.specs.declared.plan.Action.{Action}
-use Rattle.gpu_plan.specs.declared.plan.Action.TheVariants as actions
 use Rattle.gpu_plan.specs.Plans.{PlansData, plan_of}
 use Rattle.gpu_plan.specs.Passes.{flushes}
-use Rattle.gpu_plan.specs.Places.{flush_places_from, flush_places}
+use Rattle.gpu_plan.specs.Places.{flush_places}
 use Rattle.stream_state.specs.State.{State}
 use Rattle.stream_state.specs.Verdict.{checked_state}
 use Rattle.stream_state.proofs.Telling.{copy_refuses, state_refuses, command_passes}
 use Rattle.sync_core.specs.Standing.{first_order}
 use Rattle.sync_core.specs.Pending.{is_blocked}
 use Rattle.sync_core.specs.Core as core
+use Rattle.gpu_plan.proofs.Counts.{places_count}
 use Rattle.gpu_journal.specs.declared.event.Event.{Event}
 use Rattle.gpu_journal.specs.declared.event.Event.TheVariants.{Order, Step, Finish, Lost, Close}
 use Rattle.gpu_journal.specs.declared.event.Why.TheVariants.{Error, Memory}
@@ -107,14 +106,6 @@ IsFound p h s words ninth (Broken rule) = IsFirstFailing (fetch_rules p h s word
 IsFound p h s words ninth (Valid command) = IsFetched p h s words × (verdict_at p h s words ≡ Ok command)
 IsFound p h s words ninth (Refused error) = IsFetched p h s words × (verdict_at p h s words ≡ Err error)
 
-some_is : (o : Option ℕ) → is_some o ≡ true → IsSome o
-some_is None e = absurd (cc)
-some_is (Some n) e = refl
-
-none_is : (o : Option ℕ) → is_some o ≡ false → IsSome o → ⊥
-none_is None e some = cc
-none_is (Some n) e some = cc
-
 checked_found : (p : PlansData) (h : List Event) (s : ℕ) (words : List (ℕ × ℕ)) (ninth : Type 0) (command : Command) (checked : Result (Unit {0}) CmdError) → checked_state command (state_of p h s) ≡ checked → copied words (facts_at p h s) ≡ Ok command → IsFetched p h s words
     → IsFound p h s words ninth (checked_outcome command checked)
 checked_found p h s words ninth command (Ok x) e copy fetched = (fetched, command_passes words (facts_at p h s) (state_of p h s) command copy e)
@@ -144,14 +135,14 @@ fetch_judged p h j s words ninth lawful legal f =
 
     by : (a b c : Bool) (o : Option (Result Command CmdError)) (d : Bool) → is_some (first_order (core.left_of j.core s)) ≡ a → core.blocked j.core s ≡ b → eqb (kept_facts p j s).get (kept_facts p j s).put ≡ c → copy_read words (kept_facts p j s) ≡ o → are_held j s words ≡ d
         → IsFound p h s words ninth (or_broken a 4 (or_broken (not b) 5 (or_broken (not c) 7 (copy_outcome o d (kept_state j s)))))
-    by false b c o d ea eb ec eo ed = (tt, (tt, (tt, λ some. none_is (first_order (left_of p h s)) (ap is_some (sym left) ∙ ea) some)))
+    by false b c o d ea eb ec eo ed = (tt, (tt, (tt, both_ways (is_some (first_order (left_of p h s))) (ap is_some (sym left) ∙ ea))))
     by true true c o d ea eb ec eo ed =
-        let some = some_is (first_order (left_of p h s)) (ap is_some (sym left) ∙ ea) in
+        let some = ap is_some (sym left) ∙ ea in
         (tt, (tt, (tt, (some, λ e. let q = blocked_is p h j s f ∙ e in absurd (cc)))))
     by true false c o d ea eb ec eo ed = further c o d ec eo ed
       where
         some : IsSome (first_order (left_of p h s))
-        some = some_is (first_order (left_of p h s)) (ap is_some (sym left) ∙ ea)
+        some = ap is_some (sym left) ∙ ea
 
         free : is_blocked s (left_of p h s) (pending_in p h) ≡ false
         free = sym (blocked_is p h j s f) ∙ eb
@@ -278,15 +269,6 @@ memory_judged p h j s words f = by (is_open_in j s) (eqb (length words) 0) refl 
         record { rule_1 = tt; rule_2 = tt; rule_3 = tt; rule_4 = tt; rule_5 = tt; rule_6 = tt; rule_7 = tt; rule_8 = tt; rule_9 = tt; rule_10 = tt; rule_11 = ((open_decides p h j s f).0 ea, nil_from_length words none); rule_12 = tt }
     by true false ea eb = (tt, (tt, (tt, (tt, (tt, (tt, (tt, (tt, (tt, (tt, λ both. let none : length words ≡ 0 = ap length both.1 in let t : eqb (length words) 0 ≡ true = grind (arith, nat_tests) in absurd (cc)))))))))))
     by false b ea eb = (tt, (tt, (tt, (tt, (tt, (tt, (tt, (tt, (tt, (tt, λ both. let t = (open_decides p h j s f).1 both.0 in absurd (cc)))))))))))
-
--- there are as many places as flushes
-pub places_count : (i : ℕ) (xs : List Action) → length (flush_places_from i xs) ≡ flushes xs
-places_count i [] = refl
-places_count i (actions.Put place value ∷ xs) = places_count (i + 1) xs ∙ omega arith
-places_count i (actions.Flush put fences ∷ xs) = let r = places_count (i + 1) xs in omega arith
-places_count i (actions.Finish ∷ xs) = places_count (i + 1) xs ∙ omega arith
-places_count i (actions.Token token ∷ xs) = places_count (i + 1) xs ∙ omega arith
-places_count i (actions.Close ∷ xs) = places_count (i + 1) xs ∙ omega arith
 
 close_decides : (p : PlansData) (h : List Event) (j : JudgeData) (s : ℕ) (w : WatchData) → Follows p h j → watch_of j s ≡ Some w → is_open_in j s ≡ w.stays → Decides (may_close (plan_of p s).actions w) (MayClose p h s)
 close_decides p h j s w f at stays = (told_by, told_of)

@@ -16,7 +16,8 @@ use Rattle.gpu_cmd.specs.Copied.{value_in, ring_places, places_decoded, places_h
 use Rattle.gpu_cmd.proofs.Copies.{put_out_of_range, places_in, same_place, values_at, header_stops, header_goes_on}
 use Rattle.gpu_cmd.proofs.Heads.{headed_some}
 use Rattle.stream_state.specs.Steps.{values_of}
-use Rattle.journal_verify.specs.Copy.{is_row, answer_if, transfer_read, entries_read, header_read, copy_read}
+use Rattle.gpu_journal.specs.Serial.{when}
+use Rattle.journal_verify.specs.Copy.{is_row, transfer_read, entries_read, header_read, copy_read}
 
 -- ---- places that follow one another
 
@@ -84,7 +85,7 @@ IsRead words facts None = places_listed words ≡ fetched_places words facts →
 IsRead words facts (Some answer) = IsCopy words facts answer
 
 -- an answer where a test holds
-if_read : (words : List (ℕ × ℕ)) (facts : StreamFacts) (test : Bool) (answer : Result Command CmdError) → (test ≡ true → IsCopy words facts answer) → (places_listed words ≡ fetched_places words facts → test ≡ true) → IsRead words facts (answer_if test answer)
+if_read : (words : List (ℕ × ℕ)) (facts : StreamFacts) (test : Bool) (answer : Result Command CmdError) → (test ≡ true → IsCopy words facts answer) → (places_listed words ≡ fetched_places words facts → test ≡ true) → IsRead words facts (when test answer)
 if_read words facts true answer f g = f refl
 if_read words facts false answer f g = λ e. let t = g e in absurd (cc)
 
@@ -192,7 +193,7 @@ pub copy_is : (words : List (ℕ × ℕ)) (facts : StreamFacts) → IsRead words
 unfolding copy_read
 copy_is words facts = by (ltb facts.put facts.areas.ring) refl
   where
-    by : (b : Bool) → ltb facts.put facts.areas.ring ≡ b → IsRead words facts (cond b (header_read words facts) (answer_if (eqb (length words) 0) (Err OutOfBounds)))
+    by : (b : Bool) → ltb facts.put facts.areas.ring ≡ b → IsRead words facts (cond b (header_read words facts) (when (eqb (length words) 0) (Err OutOfBounds)))
     by true e = header_is words facts (ltb-true _ _ e)
     by false e =
         let out = put_out_of_range words facts (ltb-false _ _ e) in

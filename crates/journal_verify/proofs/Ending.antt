@@ -13,6 +13,7 @@ use Rattle.stream_state.specs.State.{first_state}
 use Rattle.sync_core.specs.Standing.{is_open}
 use Rattle.sync_core.specs.Events as sync
 use Rattle.sync_core.specs.Core.{StandsFor}
+use Rattle.gpu_plan.proofs.Counts.{places_count}
 use Rattle.gpu_journal.specs.declared.event.Event.{Event}
 use Rattle.gpu_journal.specs.World.{World}
 use Rattle.gpu_journal.specs.Waits.{IsOpen, drawn}
@@ -25,7 +26,6 @@ use Rattle.journal_verify.specs.Faults.{is_done, is_settled, AreSettled}
 use Rattle.journal_verify.specs.Entered.{HasCounted, Counts, counts_of}
 use Rattle.journal_verify.specs.Follows.{IsFirst, IsGreatest, Tells, Follows}
 use Rattle.journal_verify.proofs.Following.{told, watched, watch_of_known, open_decides}
-use Rattle.journal_verify.proofs.Breaking.{places_count}
 
 -- ---- before any event
 

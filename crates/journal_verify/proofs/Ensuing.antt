@@ -1,5 +1,6 @@
 -- What is kept after an event that obeys its rules is what the longer history says.
 use Rattle.std.proofs.Common.{◌≡◌, ◌≢◌, ℕ, zero, suc, ◌+◌, ◌-◌, ◌≤◌, max, inl, inr, false, not, eqb, Option, Some, List, [], ◌∷◌, set, refl, sym, ap, subst, ◌∙◌, arith}
+use Rattle.std.proofs.lemmas.Bool.{and_right}
 use Rattle.std.specs.Prelude.{slice_get}
 use Rattle.std.proofs.lemmas.Bool.Decides.{nat_tests}
 use Rattle.gpu_store.specs.Images.{Pictures}
@@ -13,15 +14,15 @@ use Rattle.sync_core.specs.Events as sync
 use Rattle.sync_core.specs.Core.{StandsFor}
 use Rattle.gpu_journal.specs.declared.event.Event.{Event}
 use Rattle.gpu_journal.specs.declared.event.Event.TheVariants.{Order, Step, Finish, Lost, Close}
-use Rattle.gpu_journal.specs.World.{Known, world, stream_in, asked_by, with_token, known, known_after}
+use Rattle.gpu_journal.specs.World.{Known, world, stream_in, asked_by, with_token, greatest_after, known, known_after}
 use Rattle.gpu_journal.specs.Waits.{deed, deed_asked, sync_of, standing_of, drawn}
 use Rattle.gpu_journal.specs.Replaying.{Shows}
 use Rattle.gpu_journal.proofs.Worlds.{sync_then}
 use Rattle.gpu_journal.proofs.Following.{shows_step, shows_other}
 use Rattle.serial_laws.proofs.Others.{moved_by, standing_own, standing_other, known_own, known_other}
-use Rattle.serial_laws.proofs.Spent.{asked_open, closed_now}
+use Rattle.serial_laws.proofs.Spent.{asked_open}
 use Rattle.journal_verify.specs.Kept.{WatchData, JudgeData, watch_of}
-use Rattle.journal_verify.specs.Entered.{FitsPlans, HasCounted, Counts, counts_of, HasTurned, effect_in, applied_in, state_after, token_after, HasEntered}
+use Rattle.journal_verify.specs.Entered.{FitsPlans, HasCounted, Counts, counts_of, HasTurned, effect_in, applied_in, state_after, HasEntered}
 use Rattle.journal_verify.specs.Follows.{IsGreatest, Tells, Follows}
 use Rattle.journal_verify.proofs.Turning.{get_put, known_of_watch}
 use Rattle.journal_verify.proofs.Following.{told}
@@ -112,7 +113,7 @@ greatest_then : (token t : ℕ) (tokens : List ℕ) → IsGreatest tokens t → 
 greatest_then token t [] is = absurd is
 greatest_then token t (first ∷ tokens) is = ap (max token) is
 
-token_told : (effect : Effect) (tokens : List ℕ) (t : ℕ) → IsGreatest tokens t → IsGreatest (with_token effect tokens) (token_after effect t)
+token_told : (effect : Effect) (tokens : List ℕ) (t : ℕ) → IsGreatest tokens t → IsGreatest (with_token effect tokens) (greatest_after effect t)
 token_told (Token token) tokens t is = greatest_then token t tokens is
 token_told Nothing tokens t is = is
 token_told (Release release) tokens t is = is
@@ -121,7 +122,7 @@ token_told (WaitName name release) tokens t is = is
 token_told (Pixels op) tokens t is = is
 token_told (Results writes) tokens t is = is
 
-step_after : (p : PlansData) (h : List Event) (s : ℕ) (words : List (ℕ × ℕ)) (was now : WatchData) → Tells p h s was → counts_of now ≡ record (counts_of was) { token = token_after (asked_by p s words (world p h)) was.token } → TellsAfter p h (Step s words) now
+step_after : (p : PlansData) (h : List Event) (s : ℕ) (words : List (ℕ × ℕ)) (was now : WatchData) → Tells p h s was → counts_of now ≡ record (counts_of was) { token = greatest_after (asked_by p s words (world p h)) was.token } → TellsAfter p h (Step s words) now
 step_after p h s words was now t e = record {
   ordered = ap (λ (k : Counts). k.ordered) e ∙ t.ordered;
   finished = ap (λ (k : Counts). k.finished) e ∙ t.finished;
@@ -141,11 +142,11 @@ follows_entered p h (Lost s why words) old new f turned fits =
     (shows_other p h (Lost s why words) old.images new.images old.states new.states (λ is. is) f.shows turned.images turned.states) (λ was now. gone_after p h (Lost s why words) was now refl refl)
 follows_entered p h (Close s) old new f turned fits =
     follows_turned p h (Close s) _ _ _ _ old new f turned fits
-    (shows_other p h (Close s) old.images new.images old.states new.states (λ is. is) f.shows turned.images turned.states) (λ was now. gone_after p h (Close s) was now refl (closed_now (not (standing_of p h s).lost)))
+    (shows_other p h (Close s) old.images new.images old.states new.states (λ is. is) f.shows turned.images turned.states) (λ was now. gone_after p h (Close s) was now refl (and_right (not (standing_of p h s).lost) false refl))
 follows_entered p h (Step s words) old new f turned fits =
     let told' : effect_in p old s words ≡ asked_by p s words (world p h) = ap (effect (plan_of p s).areas words) (f.shows.each s) in
     let known = known_of_watch p old s turned.was f.fits turned.here in
-    let own = subst (λ (x : Effect). HasTurned s (deed_asked p x) (λ k. record k { token = token_after x k.token }) old.drawn (applied_in p old s words).images (set old.states (s - 1) (state_after p old s words)) old new) told' turned in
+    let own = subst (λ (x : Effect). HasTurned s (deed_asked p x) (λ k. record k { token = greatest_after x k.token }) old.drawn (applied_in p old s words).images (set old.states (s - 1) (state_after p old s words)) old new) told' turned in
     follows_turned p h (Step s words) _ _ _ _ old new f own fits
     (shows_step p h s words old.images new.images old.states new.states (state_after p old s words) known f.shows turned.images refl turned.states) (step_after p h s words)
 

@@ -1,17 +1,16 @@
 -- What an event that obeys all rules changes of what is kept.
-use Rattle.std.specs.Prelude.{◌≡◌, ℕ, ◌+◌, ◌-◌, ◌≤◌, max, Bool, false, Option, Some, List, length, slice_get, slice_set}
+use Rattle.std.specs.Prelude.{◌≡◌, ℕ, ◌+◌, ◌-◌, ◌≤◌, Bool, false, Option, Some, List, length, slice_get, slice_set}
 use Rattle.std.specs.List.{All}
 use Rattle.gpu_store.specs.Images.{Pictures, Applied}
 use Rattle.gpu_plan.specs.Plans.{PlansData, plan_of}
 use Rattle.stream_state.specs.declared.effect.Effect.{Effect}
-use Rattle.stream_state.specs.declared.effect.Effect.TheVariants.{Token}
 use Rattle.stream_state.specs.State.{State, noted}
 use Rattle.stream_state.specs.Steps.{stepped, effect}
 use Rattle.sync_core.specs.Events as sync
 use Rattle.sync_core.specs.Core.{StandsFor}
 use Rattle.gpu_journal.specs.declared.event.Event.{Event}
 use Rattle.gpu_journal.specs.declared.event.Event.TheVariants.{Order, Step, Finish, Lost, Close}
-use Rattle.gpu_journal.specs.World.{drawn_by}
+use Rattle.gpu_journal.specs.World.{drawn_by, greatest_after}
 use Rattle.gpu_journal.specs.Waits.{fences_in, deed_asked}
 use Rattle.gpu_journal.specs.Replaying.{IsWithin}
 use Rattle.journal_verify.specs.Kept.{WatchData, JudgeData, watch_of, AreWatched}
@@ -66,15 +65,10 @@ applied_in p judge s words = drawn_by (effect_in p judge s words) judge.images
 abbrev pub state_after : PlansData → JudgeData → ℕ → List (ℕ × ℕ) → State
 state_after p judge s words = noted (applied_in p judge s words).answer (stepped (plan_of p s).areas words (kept_state judge s))
 
--- the greatest token after an effect
-abbrev pub token_after : Effect → ℕ → ℕ
-token_after (Token token) greatest = max token greatest
-token_after _ greatest = greatest
-
 -- what an event changes
 abbrev pub HasEntered : PlansData → Event → JudgeData → JudgeData → Type 0
 HasEntered p (Order s n c) old new = HasTurned s (Some (sync.Ordered (fences_in (slice_get (plan_of p s).actions c)))) (λ k. record k { ordered = k.ordered + 1 }) (old.drawn + 1) old.images old.states old new
-HasEntered p (Step s words) old new = HasTurned s (deed_asked p (effect_in p old s words)) (λ k. record k { token = token_after (effect_in p old s words) k.token }) old.drawn (applied_in p old s words).images (slice_set old.states (s - 1) (state_after p old s words)) old new
+HasEntered p (Step s words) old new = HasTurned s (deed_asked p (effect_in p old s words)) (λ k. record k { token = greatest_after (effect_in p old s words) k.token }) old.drawn (applied_in p old s words).images (slice_set old.states (s - 1) (state_after p old s words)) old new
 HasEntered p (Finish s n) old new = HasTurned s (Some sync.Finished) (λ k. record k { finished = k.finished + 1 }) old.drawn old.images old.states old new
 HasEntered p (Lost s why words) old new = HasTurned s (Some sync.WasLost) (λ k. record k { stays = false }) old.drawn old.images old.states old new
 HasEntered p (Close s) old new = HasTurned s (Some sync.WasClosed) (λ k. record k { stays = false }) old.drawn old.images old.states old new

@@ -6,7 +6,8 @@ ghost use Rattle.stream_state.specs.Laws.{IsTaken};
 ghost use Rattle.sync_core.specs.Core.{left_of};
 ghost use Rattle.journal_verify.specs.Kept.{IsWatch};
 ghost use Rattle.journal_verify.specs.Faults.{kept_state};
-ghost use Rattle.journal_verify.specs.Entered.{FitsPlans, HasEntered, counts_of, token_after};
+ghost use Rattle.gpu_journal.specs.World.{greatest_after};
+ghost use Rattle.journal_verify.specs.Entered.{FitsPlans, HasEntered, counts_of};
 
 use crate::judge::Judge;
 use crate::watch::Watch;
@@ -21,7 +22,7 @@ use stream_state::Effect;
 fn tell(watch: &mut Watch, plan: &Plan, effect: &Effect) -> Result<(), Memory>
     requires { IsWatch plan.now watch.old }
     ensures counts { OnOk result (counts_of watch.new
-        ≡ record (counts_of watch.old) { token = token_after effect.now watch.old.token }) }
+        ≡ record (counts_of watch.old) { token = greatest_after effect.now watch.old.token }) }
     ensures watch { OnOk result (IsWatch plan.now watch.new) }
 {
     match effect {

@@ -1,22 +1,15 @@
 -- Lists of what was written as they grow, and the words that hold their last values.
-use Rattle.std.proofs.Common.{◌≡◌, ◌≢◌, ℕ, ◌+◌, ◌-◌, ◌<◌, ◌≤◌, ◌^◌, min, Bool, cond, List, [], ◌∷◌, ◌++◌, length, take, set, get_or, refl, sym, ap, ◌∙◌, subst, arith, get_or-set_same, eq-eqb, ne_eqb}
+use Rattle.std.proofs.Common.{◌≡◌, ◌≢◌, ℕ, ◌+◌, ◌-◌, ◌<◌, ◌≤◌, ◌^◌, min, Bool, cond, List, [], ◌∷◌, ◌++◌, length, take, set, get_or, sym, ap, ◌∙◌, subst, arith, get_or-set_same, eq-eqb, ne_eqb}
 use Rattle.std.proofs.lemmas.List.{take_min, take-append-le, get_or-set_other}
 use Rattle.std.proofs.lemmas.List.Elements.{All-weaker, All-push}
-use Rattle.std.proofs.lemmas.List.Sums.{sum_by-append}
 use Rattle.std.proofs.Math.Seq.{take-length}
 use mathlib.Core.Logic.{dite}
 use native.Mathlib.Decide.{ℕ_discrete}
-use Rattle.gpu_word.specs.Results.{Written, Write, Finish, is_finish, finishes_in, after_written, last_or, last_written, WasLast, Settles}
+use Rattle.gpu_word.specs.Results.{Written, Write, Finish, finishes_in, last_written, WasLast, Settles}
+use Rattle.gpu_word.proofs.Written.{last_of_both, finishes_of_both}
 use Rattle.result_words.specs.Rule.{counted}
 
 -- ---- lists
-
-last_of_both : (i v : ℕ) (first second : List Written) → last_or i v (first ++ second) ≡ last_or i (last_or i v first) second
-last_of_both i v [] second = refl
-last_of_both i v (member ∷ first) second = last_of_both i (after_written i v member) first second
-
-finishes_of_both : (first second : List Written) → finishes_in (first ++ second) ≡ finishes_in first + finishes_in second
-finishes_of_both first second = sum_by-append (λ member. cond (is_finish member) 1 0) first second
 
 -- a first part of a list is a first part of a longer one
 front_stays : (n : ℕ) (first second : List Written) → take (min n (length first)) (first ++ second) ≡ take n first

@@ -1,14 +1,15 @@
 -- Which seat is the writer's, and the rule after a seat moves.
-use Rattle.std.proofs.Common.{◌≡◌, ◌≢◌, ℕ, zero, suc, ◌≤◌, List, [], ◌∷◌, ◌++◌, set, get_or, ⊎_elim, refl, sym, ap, ◌∙◌, subst, arith}
+use Rattle.std.proofs.Common.{◌≡◌, ◌≢◌, ℕ, ◌≤◌, List, ◌++◌, set, get_or, ⊎_elim, sym, ap, ◌∙◌, subst, arith}
 use Rattle.std.proofs.lemmas.List.{set-get_or}
 use Rattle.std.proofs.lemmas.List.Elements.{All-weaker}
-use mathlib.Core.Option.{some, some-injective, some-ne-none}
+use mathlib.Core.Option.{some, some-injective}
 use mathlib.Core.Logic.{dite}
 use native.Mathlib.Decide.{ℕ_discrete}
 use lib.ListN.{get_elem?}
 use Rattle.atomic_table.proofs.Lists.{at_set, set_else}
 use Rattle.atomic_table.specs.Table.{keeps, Allows}
 use Rattle.gpu_word.specs.Results.{Written}
+use Rattle.gpu_word.proofs.Seats.{set_there}
 use Rattle.result_words.specs.declared.view.WriterView.{WriterView}
 use Rattle.result_words.specs.declared.view.ReaderView.{ReaderView}
 use Rattle.result_words.specs.declared.view.View.{View}
@@ -17,11 +18,6 @@ use Rattle.result_words.specs.Views.{Sat, writer_of, reader_of}
 use Rattle.result_words.specs.Seen.{IsWriter, IsReader}
 use Rattle.result_words.specs.Rule.{Words, counted, IsSettled, Holds, Keeps}
 use Rattle.result_words.proofs.Lists.{settles_grows, counted_grows}
-
-set_there : (l : List View) (i : ℕ) (a b : View) → get_elem? l i ≡ some a → get_elem? (set l i b) i ≡ some b
-set_there [] i a b e = absurd (some-ne-none a (sym e))
-set_there (x ∷ xs) zero a b e = refl
-set_there (x ∷ xs) (suc i) a b e = set_there xs i a b e
 
 -- a view stays settled while more is written
 pub settled_grows : (first second : List Written) (view : View) → IsSettled first view → IsSettled (first ++ second) view

@@ -1,22 +1,19 @@
 -- A legal history draws no more numbers than its script has flushes.
-use Rattle.std.proofs.Common.{◌≡◌, ℕ, suc, ◌+◌, ◌-◌, ◌≤◌, ◌<◌, ◌⊎◌, inl, inr, eqb, Bool, true, false, cond, List, [], ◌∷◌, length, refl, sym, ap, subst, ◌∙◌, arith}
-use Rattle.std.proofs.lemmas.Bool.{ne_eqb}
-use Rattle.std.proofs.lemmas.List.Sums.{sum_by-cons}
+use Rattle.std.proofs.Common.{◌≡◌, ℕ, suc, ◌+◌, ◌-◌, ◌≤◌, ◌<◌, ◌⊎◌, inl, inr, eqb, Bool, true, false, List, [], ◌∷◌, length, refl, sym, ap, subst, ◌∙◌, arith}
+use Rattle.std.proofs.lemmas.Bool.{ne_eqb, eqb-true}
 use Rattle.std.specs.List.{count_by}
-use Rattle.gpu_plan.specs.declared.plan.Action.{Action}
-use Rattle.gpu_plan.specs.declared.plan.Action.TheVariants as actions
 use Rattle.gpu_plan.specs.Plans.{PlansData, PlanData, plan_of, no_plan, is_flush, flushes_in}
-use Rattle.gpu_plan.specs.Passes.{flushes, flush_count}
 use Rattle.stream_state.specs.declared.effect.Effect.{Effect}
 use Rattle.stream_state.specs.declared.effect.Effect.TheVariants.{Nothing, Token, Release, Wait, WaitName, Pixels, Results}
 use Rattle.sync_core.specs.Events as sync
+use Rattle.gpu_plan.proofs.Counts.{flushes_counted}
 use Rattle.gpu_journal.specs.declared.event.Event.{Event}
 use Rattle.gpu_journal.specs.declared.event.Event.TheVariants.{Order, Step, Finish, Lost, Close}
 use Rattle.gpu_journal.specs.World.{Known, World, world, stream_in, asked_by, known, known_after}
 use Rattle.gpu_journal.specs.Waits.{deed, deed_asked, sync_of, drawn}
 use Rattle.gpu_journal.specs.Legal.{IsLegal}
 use Rattle.gpu_journal.proofs.Worlds.{world_none, sync_none, sync_then}
-use Rattle.serial_laws.proofs.Others.{known_own, known_other, along}
+use Rattle.serial_laws.proofs.Others.{known_own, known_other}
 use Rattle.serial_laws.proofs.Sums.{total, total_zero, total_more, total_within}
 use Rattle.serial_laws.proofs.Spent.{obeys_known}
 use Rattle.run_laws.specs.Laws.{DrawnFew}
@@ -70,7 +67,7 @@ none_more p e h none = λ i. total (length p.plans) (λ k. same (suc k) i)
     same t = by (eqb (stream_in e) t) refl
       where
         by : (b : Bool) → eqb (stream_in e) t ≡ b → (known p (e ∷ h) t).ordered ≡ (known p h t).ordered
-        by true q = subst (λ t. (known p (e ∷ h) t).ordered ≡ (known p h t).ordered) (along (stream_in e) t q) (let own = own_then p e h in omega (arith, own, none))
+        by true q = subst (λ t. (known p (e ∷ h) t).ordered ≡ (known p h t).ordered) (eqb-true (stream_in e) t q) (let own = own_then p e h in omega (arith, own, none))
         by false q = others_then p e h t q
 
 -- an order adds one to it
@@ -99,17 +96,6 @@ all_drawn p (e ∷ h) legal = by (all_drawn p h legal.1) (drawn_then p e h) (one
         let isknown = obeys_known p e h legal.1 legal.0 in
         let sum = one_more p e h isknown.0 isknown.1 is in
         omega (arith, rest, more, is, sum)
-
-flushes_counted : (xs : List Action) → flushes xs ≡ count_by is_flush xs
-flushes_counted [] = refl
-flushes_counted (x ∷ xs) = let rest = flushes_counted xs in let sum = sum_by-cons (λ action. cond (is_flush action) 1 0) x xs in let here = counts x in omega (arith, rest, sum, here)
-  where
-    counts : (x : Action) → flush_count x ≡ cond (is_flush x) 1 0
-    counts (actions.Put place value) = refl
-    counts (actions.Flush put fences) = refl
-    counts actions.Finish = refl
-    counts (actions.Token token) = refl
-    counts actions.Close = refl
 
 -- no more than the script has flushes
 pub drawn_within : (p : PlansData) (h : List Event) → IsLegal p h → drawn p h ≤ flushes_in p.plans

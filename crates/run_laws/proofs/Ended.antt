@@ -1,5 +1,6 @@
 -- A closed stream has ordered all its flushes, and no stream is both lost and closed.
 use Rattle.std.proofs.Common.{◌≡◌, ℕ, ◌+◌, eqb, Bool, true, false, not, ◌&&◌, Some, List, [], ◌∷◌, refl, sym, ap, subst, ◌∙◌, arith}
+use Rattle.std.proofs.lemmas.Bool.{eqb-true, and_from, not_from_false}
 use Rattle.std.specs.Prelude.{slice_get}
 use Rattle.gpu_plan.specs.declared.plan.Action.{Action}
 use Rattle.gpu_plan.specs.Plans.{PlansData, plan_of}
@@ -17,7 +18,7 @@ use Rattle.gpu_journal.specs.Waits.{deed, deed_asked, standing_of, drawn}
 use Rattle.gpu_journal.specs.Legal.{Obeys, IsLegal}
 use Rattle.gpu_journal.proofs.Worlds.{sync_none}
 use Rattle.serial_laws.proofs.Flushes.{flush_of_place}
-use Rattle.serial_laws.proofs.Others.{moved_by, standing_own, standing_other, known_own, known_other, along}
+use Rattle.serial_laws.proofs.Others.{moved_by, standing_own, standing_other, known_own, known_other}
 use Rattle.run_laws.proofs.Fronts.{left_open}
 
 -- where a stream is closed, all its flushes are ordered and it is not lost
@@ -32,11 +33,6 @@ open_parts : (a b : Bool) → (not a && not b) ≡ true → (a ≡ false) × (b 
 open_parts true b e = absurd (cc)
 open_parts false true e = absurd (cc)
 open_parts false false e = (refl, refl)
-
-open_made : (a b : Bool) → a ≡ false → b ≡ false → (not a && not b) ≡ true
-open_made true b x y = absurd (cc)
-open_made false true x y = absurd (cc)
-open_made false false x y = refl
 
 -- a stream that is not closed keeps to both
 not_closed : (actions : List Action) (k : Known) (x : Standing) → x.closed ≡ false → Ends actions k x
@@ -79,7 +75,7 @@ ends_at p (e ∷ h) s legal = by (λ t. ends_at p h t legal.1) (eqb (stream_in e
         (subst (Ends (plan_of p (stream_in e)).actions (known_after p e (world p h) (known p h (stream_in e)))) (sym (standing_own p e h)) (ends_own p h e legal.1 legal.0 was))
 
     by : ((t : ℕ) → EndsAt p h t) → (b : Bool) → eqb (stream_in e) s ≡ b → EndsAt p (e ∷ h) s
-    by was true q = subst (EndsAt p (e ∷ h)) (along (stream_in e) s q) (own (was (stream_in e)))
+    by was true q = subst (EndsAt p (e ∷ h)) (eqb-true (stream_in e) s q) (own (was (stream_in e)))
     by was false q =
         subst (λ (k : Known). Ends (plan_of p s).actions k (standing_of p (e ∷ h) s)) (sym (known_other p e h s q))
         (subst (Ends (plan_of p s).actions (known p h s)) (sym (standing_other p e h s q)) (was s))
@@ -102,7 +98,7 @@ lost_kept p h s legal lost = by (standing_of p h s).closed refl
 
 -- a stream that is not lost and has a flush without an order is open
 pub next_open : (p : PlansData) (h : List Event) (s c : ℕ) → IsLegal p h → slice_get (flush_places (plan_of p s).actions) (known p h s).ordered ≡ Some c → (standing_of p h s).lost ≡ false → is_open (standing_of p h s) ≡ true
-next_open p h s c legal next kept = open_made (standing_of p h s).lost (standing_of p h s).closed kept (by (standing_of p h s).closed refl)
+next_open p h s c legal next kept = and_from _ _ (not_from_false _ kept) (not_from_false _ (by (standing_of p h s).closed refl))
   where
     by : (b : Bool) → (standing_of p h s).closed ≡ b → b ≡ false
     by true q =

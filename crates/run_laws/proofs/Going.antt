@@ -1,6 +1,6 @@
 -- What an event changes of a run that is out.
 use Rattle.std.proofs.Common.{◌≡◌, ℕ, ◌+◌, ◌≤◌, eqb, Bool, true, false, not, cond, Option, Some, None, List, [], ◌∷◌, ◌++◌, length, refl, sym, ap, subst, ◌∙◌, arith}
-use Rattle.std.proofs.lemmas.Bool.{and_right}
+use Rattle.std.proofs.lemmas.Bool.{and_right, eq-eqb}
 use Rattle.std.proofs.lemmas.Bool.Decides.{nat_tests}
 use Rattle.std.proofs.lemmas.List.Elements.{All-head}
 use Rattle.std.specs.Prelude.{slice_get}
@@ -18,7 +18,7 @@ use Rattle.gpu_journal.specs.declared.event.Why.{Why}
 use Rattle.gpu_journal.specs.World.{world, stream_in, asked_by}
 use Rattle.gpu_journal.specs.Waits.{deed, deed_asked, fences_in, sync_of, standing_of, left_of, pending_in}
 use Rattle.gpu_journal.proofs.Worlds.{sync_then}
-use Rattle.serial_laws.proofs.Others.{self, standing_own}
+use Rattle.serial_laws.proofs.Others.{standing_own}
 use Rattle.run_laws.specs.Going.{GoesOn, MayGoOn, keeps}
 use Rattle.run_laws.proofs.Pending.{none_left, none_ordered, none_dropped, none_other, blocked_is}
 
@@ -31,7 +31,7 @@ other_standing s (Some d) g t off = ap (λ (b : Bool). cond b (moved d (orders g
 
 -- of the stream itself
 own_standing : (s : ℕ) (d : Deed) (g : List SyncEvent) → standing ((s, d) ∷ g) s ≡ moved d (orders g + 1) (standing g s)
-own_standing s d g = ap (λ (b : Bool). cond b (moved d (orders g + 1) (standing g s)) (standing g s)) (self s)
+own_standing s d g = ap (λ (b : Bool). cond b (moved d (orders g + 1) (standing g s)) (standing g s)) (eq-eqb s s refl)
 
 -- a run goes on where its stream is as open as it was, its first number is the same, and no wait of that came to a run that is not paused
 goes_on_so : (k : ℕ) (g now : List SyncEvent) (s n : ℕ) (was_paused paused : Bool) → GoesOn k g s n was_paused → is_open (standing now s) ≡ is_open (standing g s)

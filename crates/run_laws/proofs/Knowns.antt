@@ -9,10 +9,9 @@ use Rattle.stream_state.specs.Steps.{stepped}
 use Rattle.gpu_journal.specs.declared.event.Event.{Event}
 use Rattle.gpu_journal.specs.declared.event.Event.TheVariants.{Order, Step, Finish, Lost, Close}
 use Rattle.gpu_journal.specs.declared.event.Why.{Why}
-use Rattle.gpu_journal.specs.World.{Known, world, asked_by, drawn_by, with_token, known, known_after_step, state_of, replay}
+use Rattle.gpu_journal.specs.World.{Known, world, asked_by, drawn_by, with_token, greatest_after, known, known_after_step, state_of, replay}
 use Rattle.gpu_journal.proofs.Worlds.{images_then}
 use Rattle.serial_laws.proofs.Others.{known_own}
-use Rattle.run_laws.specs.Tokens.{greatest_after}
 
 -- one more flush is ordered
 pub known_order : (p : PlansData) (h : List Event) (s n c : ℕ) → known p (Order s n c ∷ h) s ≡ record (known p h s) { ordered = (known p h s).ordered + 1 }

@@ -5,9 +5,8 @@ use Rattle.gpu_plan.specs.Passes.{bound, greatest}
 use Rattle.gpu_journal.specs.declared.event.Event.{Event}
 use Rattle.gpu_journal.specs.declared.event.Event.TheVariants.{Order, Step, Finish, Lost, Close}
 use Rattle.gpu_journal.specs.declared.event.Why.{Why}
-use Rattle.gpu_journal.specs.World.{Known, world, asked_by, known}
+use Rattle.gpu_journal.specs.World.{Known, world, asked_by, greatest_after, known}
 use Rattle.gpu_journal.specs.Facts.{reach}
-use Rattle.run_laws.specs.Tokens.{greatest_after}
 use Rattle.run_laws.proofs.Tokens.{reach_is}
 use Rattle.run_laws.proofs.Knowns.{known_order, known_finish, known_lost, known_close, step_finished, step_greatest}
 

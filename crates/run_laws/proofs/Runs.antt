@@ -1,6 +1,6 @@
 -- After a step its stream can run, unless the step's wait was kept.
 use Rattle.std.proofs.Common.{◌≡◌, ℕ, ◌+◌, ◌<◌, eqb, Bool, true, false, not, ◌&&◌, ◌||◌, cond, Option, Some, List, [], ◌∷◌, length, take, drop, refl, sym, ap, ◌∙◌, arith}
-use Rattle.std.proofs.lemmas.Bool.{or_left, or_right}
+use Rattle.std.proofs.lemmas.Bool.{or_left, or_right, eq-eqb}
 use Rattle.std.proofs.lemmas.List.Folds.{list_any-append}
 use Rattle.std.specs.Prelude.{nat_lt, is_some}
 use Rattle.std.specs.List.{list_any, position_or_len}
@@ -19,7 +19,7 @@ use Rattle.gpu_journal.specs.World.{world, asked_by}
 use Rattle.gpu_journal.specs.Waits.{deed_asked, sync_of, standing_of, left_of, drawn, pending_in, IsOpen}
 use Rattle.gpu_journal.specs.Serial.{is_runnable}
 use Rattle.gpu_journal.proofs.Worlds.{sync_then}
-use Rattle.serial_laws.proofs.Others.{self, standing_own}
+use Rattle.serial_laws.proofs.Others.{standing_own}
 use Rattle.serial_laws.proofs.Spent.{asked_open}
 use Rattle.run_laws.specs.Going.{MayGoOn, keeps}
 use Rattle.run_laws.proofs.Pending.{blocked_is}
@@ -49,7 +49,7 @@ kept_waits_there k s t r g n first kept =
 
     is_its : (xs : List Number) → first_order xs ≡ Some n → (eqb s s && eqb (front_of xs) n) ≡ true
     is_its [] e = absurd (cc)
-    is_its (x ∷ xs) e = let is : x.order ≡ n = cc in ap (λ (b : Bool). b && eqb x.order n) (self s) ∙ ap (λ (m : ℕ). eqb m n) is ∙ self n
+    is_its (x ∷ xs) e = let is : x.order ≡ n = cc in ap (λ (b : Bool). b && eqb x.order n) (eq-eqb s s refl) ∙ ap (λ (m : ℕ). eqb m n) is ∙ eq-eqb n n refl
 
 -- a step whose wait is kept leaves it pending
 kept_pending : (p : PlansData) (h : List Event) (s n : ℕ) → first_order (left_of p h s) ≡ Some n → (effect : Effect) → keeps p h s effect ≡ true → has_wait_of s n (pending (length p.plans) (noted s (deed_asked p effect) (sync_of p h))) ≡ true

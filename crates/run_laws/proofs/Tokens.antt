@@ -1,5 +1,6 @@
 -- Of the tokens of a stream only the greatest counts.
 use Rattle.std.proofs.Common.{◌≡◌, ℕ, eqb, Bool, true, false, List, [], ◌∷◌, refl, sym, subst}
+use Rattle.std.proofs.lemmas.Bool.{eqb-true}
 use Rattle.gpu_plan.specs.declared.plan.Action.{Action}
 use Rattle.gpu_plan.specs.Plans.{PlansData, plan_of}
 use Rattle.gpu_plan.specs.Passes.{bound, greatest}
@@ -11,7 +12,7 @@ use Rattle.gpu_journal.specs.declared.event.Event.TheVariants.{Order, Step, Fini
 use Rattle.gpu_journal.specs.World.{Known, World, world, stream_in, asked_by, with_token, known, known_after}
 use Rattle.gpu_journal.specs.Facts.{reach}
 use Rattle.gpu_journal.proofs.Worlds.{world_none}
-use Rattle.serial_laws.proofs.Others.{known_own, known_other, along}
+use Rattle.serial_laws.proofs.Others.{known_own, known_other}
 
 -- there is a token
 abbrev pub HasToken : List ℕ → Type 0
@@ -43,7 +44,7 @@ has_token p (e ∷ h) s = by (has_token p h) (eqb (stream_in e) s) refl
     own was = subst (λ (k : Known). HasToken k.tokens) (sym (known_own p e h)) (has_after p e (world p h) (known p h (stream_in e)) was)
 
     by : ((t : ℕ) → HasToken (known p h t).tokens) → (b : Bool) → eqb (stream_in e) s ≡ b → HasToken (known p (e ∷ h) s).tokens
-    by was true q = subst (λ t. HasToken (known p (e ∷ h) t).tokens) (along (stream_in e) s q) (own (was (stream_in e)))
+    by was true q = subst (λ t. HasToken (known p (e ∷ h) t).tokens) (eqb-true (stream_in e) s q) (own (was (stream_in e)))
     by was false q = subst (λ (k : Known). HasToken k.tokens) (sym (known_other p e h s q)) (was s)
 
 bound_of_greatest : (actions : List Action) (finished : ℕ) (tokens : List ℕ) → HasToken tokens → bound actions finished tokens ≡ bound actions finished (greatest tokens ∷ [])

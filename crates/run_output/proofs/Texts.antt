@@ -1,14 +1,15 @@
 -- The texts of the parts of the output.
 use Rattle.std.proofs.Common.{◌≡◌, ℕ, zero, suc, List, [], ◌∷◌, ◌++◌, ◌+◌, ◌<◌, Option, Some, map, length, get_or, sym, ap, ◌∙◌, refl, arith}
 use Rattle.std.proofs.lemmas.Bool.{ne_eqb}
-use Rattle.std.specs.Prelude.{◌≢◌, slice_get, slice_index_or, option_map, Vec}
+use Rattle.std.specs.Prelude.{◌≢◌, slice_index_or, Vec}
 use Rattle.std.specs.declared.alloc.Global.{Global}
 use Rattle.std.specs.List.{concat, flat_map, range_with_len}
 use Rattle.std.proofs.lemmas.List.{get_or-map, length-map, append-nil}
 use Rattle.std.proofs.lemmas.List.Folds.{flat_map-map}
 use Rattle.std.proofs.lemmas.List.FromFn.{length-range_with_len}
 use Rattle.gpu_store.specs.Picture.{Picture, row_of}
-use Rattle.gpu_store.specs.Images.{Pictures, picture_of, numbers}
+use Rattle.gpu_store.specs.Images.{Pictures, picture_of}
+use Rattle.gpu_store.proofs.Lookups.{Stands}
 use Rattle.gpu_journal.specs.Picture.{head_text as image_head, row_text, image_text, picture_text}
 use Rattle.gpu_journal.specs.Dumps.{dump_line, dumps_of, dump_lines}
 use Rattle.gpu_run.specs.Dumps.{dump_read, dumps_read, all_dumps}
@@ -21,7 +22,6 @@ use Rattle.gpu_journal.specs.Lines.{journal_head, name_text, mark_text}
 use Rattle.gpu_journal.specs.World.{state_of}
 use Rattle.gpu_journal.specs.Waits.{endings_in}
 use Rattle.gpu_journal.specs.Output.{streams_of, end_of, head_lines, stream_lines, mark_lines, output}
-use Rattle.gpu_journal.proofs.Rows.{entry_there}
 use Rattle.run_output.specs.Runs.{OutputData, behind_text, run_text}
 use Rattle.run_output.specs.Parts.{heads, streams, marks, image_lines, dump_read_text, dump_texts, look_text, view_texts}
 
@@ -56,17 +56,13 @@ no_entry : ℕ × Picture
 no_entry = (0, record { width = 0; height = 0; texels = [] })
 
 -- the lines of the image at a place in the order are the text of what stands there
-pub image_shown : (images : Pictures) (index image : ℕ) → index < length images → slice_get (numbers images) index ≡ Some image
-    → picture_of images image ≡ option_map (λ (entry : ℕ × Picture). entry.1) (slice_get images index)
-    → concat (image_lines image (picture_of images image)) ≡ slice_index_or (map image_text images) index []
-image_shown images index image lt number found =
-    let there = entry_there images index image lt number found in
-    let entry = there.0 in
-    ap (λ (o : Option Picture). concat (image_lines image o)) there.1
-    ∙ shown entry.1 image
-    ∙ ap (λ n. image_text (n, entry.1)) there.2
-    ∙ ap image_text (sym there.3)
-    ∙ sym (get_or-map image_text images index _ [] lt)
+pub image_shown : (images : Pictures) (index image : ℕ) → Stands images index image → concat (image_lines image (picture_of images image)) ≡ slice_index_or (map image_text images) index []
+image_shown images index image stands =
+    ap (λ (o : Option Picture). concat (image_lines image o)) stands.shown
+    ∙ shown stands.entry.1 image
+    ∙ ap (λ n. image_text (n, stands.entry.1)) stands.same
+    ∙ ap image_text (sym stands.there)
+    ∙ sym (get_or-map image_text images index _ [] stands.within)
 
 pub images_text : (images : Pictures) → concat (map image_text images) ≡ picture_text images
 unfolding picture_text

@@ -12,16 +12,7 @@ use Rattle.script_generator.specs.Generator.{number_text, value_text, wait_words
 pub joined : (out one two text behind : List ℕ) → one ≡ out ++ text → two ≡ one ++ behind → two ≡ out ++ (text ++ behind)
 joined out one two text behind first second = second ∙ ap (λ texts. texts ++ behind) first ∙ append_assoc out text behind
 
--- pieces that are written one after the other
-pub three_pieces : (out a b c : List ℕ) → ((out ++ a) ++ b) ++ c ≡ out ++ (a ++ (b ++ c))
-three_pieces out a b c = simp append_assoc
-
-pub four_pieces : (out a b c d : List ℕ) → (((out ++ a) ++ b) ++ c) ++ d ≡ out ++ (a ++ (b ++ (c ++ d)))
-four_pieces out a b c d = simp append_assoc
-
-pub five_pieces : (out a b c d e : List ℕ) → ((((out ++ a) ++ b) ++ c) ++ d) ++ e ≡ out ++ (a ++ (b ++ (c ++ (d ++ e))))
-five_pieces out a b c d e = simp append_assoc
-
+-- six pieces that are written one after the other, and nothing behind them
 pub six_pieces : (out a b c d e f : List ℕ) → (((((out ++ a) ++ b) ++ c) ++ d) ++ e) ++ f ≡ out ++ (a ++ (b ++ (c ++ (d ++ (e ++ (f ++ []))))))
 six_pieces out a b c d e f = simp (append_assoc, append-nil)
 

@@ -8,7 +8,7 @@ use Rattle.script_lines.specs.declared.fault.Kind.{Kind}
 use Rattle.script_lines.specs.declared.fault.Kind.TheVariants.{Number}
 use Rattle.script_lines.specs.declared.fault.LineError.{LineError}
 use Rattle.script_lines.specs.declared.fault.LineError.TheVariants as errors
-use Rattle.script_lines.specs.Outcome.{◌>>=◌, or_kind, Fails}
+use Rattle.script_lines.specs.Outcome.{◌>>=◌, or_error, Fails}
 use Rattle.script_lines.specs.Said.{named_fence}
 use Rattle.script_lines.specs.Mentioned.{fence_said, with_fence, mentioned_by, mentioned_behind}
 
@@ -22,7 +22,7 @@ of_parts namespace id release = (record { namespace = namespace; id = id }, rele
 -- a fence has the number of the name that it mentions
 pub named_is : (names : List Name) (n i r : List ℕ) → named_fence names n i r ≡ (fence_said n i r >>= λ said. Ok (fence_in names said))
 unfolding named_fence fence_said
-named_is names n i r = by_parts (or_kind Number (decimal_of n)) (or_kind Number (long_decimal_of i)) (or_kind Number (long_decimal_of r))
+named_is names n i r = by_parts (or_error Number (decimal_of n)) (or_error Number (long_decimal_of i)) (or_error Number (long_decimal_of r))
   where
     by_parts : (a b c : Result ℕ Kind) → (a >>= λ x. b >>= λ y. c >>= λ z. Ok (fence_in names (of_parts x y z))) ≡ ((a >>= λ x. b >>= λ y. c >>= λ z. Ok (of_parts x y z)) >>= λ said. Ok (fence_in names said))
     by_parts (Ok x) (Ok y) (Ok z) = refl

@@ -7,7 +7,7 @@ use Rattle.script_lines.proofs.Numbers.{Keeps, keeps_all, mentioned}
 use Rattle.script_words.specs.Numbers.{decimal_of}
 use Rattle.script_lines.specs.declared.fault.Kind.{Kind}
 use Rattle.script_lines.specs.declared.fault.Kind.TheVariants.{Word, Number}
-use Rattle.script_lines.specs.Outcome.{◌>>=◌, or_kind, unless}
+use Rattle.script_lines.specs.Outcome.{◌>>=◌, or_error, unless}
 use Rattle.script_lines.specs.Said.{named_fence, are_triples, are_fences, triples_of, pairs_of, flush_said}
 use Rattle.script_lines.specs.Mentioned.{fence_said, with_fence, mentioned_by, mentioned_behind}
 use Rattle.script_lines.proofs.Mentions.{fence_in, named_is, keeps_words}
@@ -49,7 +49,7 @@ module _ (first second : List Name) (f : ℕ → ℕ) (agrees : (name : Name) �
   flush_moved names [] keeps = refl
   flush_moved names (p ∷ words) keeps =
       test_step (moved_flush f) Word (are_triples words) (are_triples words) _ _ refl
-      (same_step (moved_flush f) (or_kind Number (decimal_of p)) _ _
+      (same_step (moved_flush f) (or_error Number (decimal_of p)) _ _
       (λ put. shown_step (moved_flush f) (map (moved f)) (triples_of second words) (triples_of first words) _ _ (triples_moved names words keeps) (λ fences. refl)))
 
 not_shown : (r : Result (List (ℕ × ℕ)) Kind) → shown_by (map (moved (λ n. n))) r ≡ r
@@ -68,7 +68,7 @@ pub flush_stays : (version : ℕ) (names total : List Name) (words : List (List 
 unfolding flush_said mentioned_behind
 flush_stays version names total [] keeps = refl
 flush_stays version names total (p ∷ words) keeps =
-    ap (λ (fences : Result (List (ℕ × ℕ)) Kind). unless (are_fences version words) Word >>= λ _. or_kind Number (decimal_of p) >>= λ put. fences >>= λ fs. behind put fs) (fences_stay (version == 2) names total words keeps)
+    ap (λ (fences : Result (List (ℕ × ℕ)) Kind). unless (are_fences version words) Word >>= λ _. or_error Number (decimal_of p) >>= λ put. fences >>= λ fs. behind put fs) (fences_stay (version == 2) names total words keeps)
   where
     behind : ℕ → List (ℕ × ℕ) → Result (ℕ × List (ℕ × ℕ)) Kind
     behind put fs = Ok (put, fs)

@@ -50,7 +50,8 @@ counted_among (n ∷ names) name h = by_first (is_name name n) (list_any (is_nam
     by_first false any zero h rest = rest h
     by_first false any (suc k) h rest = omega arith
 
-itself : (name : Name) → is_name name name ≡ true
+-- a name is found at itself
+pub itself : (name : Name) → is_name name name ≡ true
 itself name = grind (arith, nat_tests)
 
 or_true : (b : Bool) → (b || true) ≡ true

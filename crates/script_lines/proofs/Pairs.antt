@@ -6,7 +6,7 @@ use Rattle.script_lines.specs.declared.fault.Kind.{Kind}
 use Rattle.script_lines.specs.declared.fault.Kind.TheVariants.{Number, Word}
 use Rattle.script_lines.specs.declared.fault.LineError.{LineError}
 use Rattle.script_lines.specs.declared.fault.LineError.TheVariants as errors
-use Rattle.script_lines.specs.Outcome.{◌>>=◌, or_kind, Fails}
+use Rattle.script_lines.specs.Outcome.{◌>>=◌, or_error, Fails}
 use Rattle.script_lines.specs.Said.{pairs_of}
 
 -- what was read before, and what is still read
@@ -17,14 +17,14 @@ pub regroup : (front : List (ℕ × ℕ)) (p : ℕ × ℕ) (read : Result (List 
 regroup front p (Ok ps) = ap (λ (xs : List (ℕ × ℕ)). Ok xs) (simp append_assoc)
 regroup front p (Err k) = refl
 
-pub goes_on : (front : List (ℕ × ℕ)) (all mid rest : List (List ℕ)) (t r : List ℕ) (target release : ℕ) (total : Result (List (ℕ × ℕ)) Kind) → all ≡ t ∷ mid → mid ≡ r ∷ rest → or_kind Number (decimal_of t) ≡ Ok target → or_kind Number (long_decimal_of r) ≡ Ok release
+pub goes_on : (front : List (ℕ × ℕ)) (all mid rest : List (List ℕ)) (t r : List ℕ) (target release : ℕ) (total : Result (List (ℕ × ℕ)) Kind) → all ≡ t ∷ mid → mid ≡ r ∷ rest → or_error Number (decimal_of t) ≡ Ok target → or_error Number (long_decimal_of r) ≡ Ok release
     → with_front front (pairs_of all) ≡ total → with_front (front ++ (target, release) ∷ []) (pairs_of rest) ≡ total
 unfolding pairs_of
 goes_on front all mid rest t r target release total e f h k so_far =
     let one : with_front front (pairs_of all) ≡ with_front (front ++ (target, release) ∷ []) (pairs_of rest) = rw (e, f, h, k) (regroup front (target, release) (pairs_of rest)) in
     sym one ∙ so_far
 
-pub ends_first : (e : LineError) (front : List (ℕ × ℕ)) (all mid rest : List (List ℕ)) (t r : List ℕ) (total : Result (List (ℕ × ℕ)) Kind) → all ≡ t ∷ mid → mid ≡ r ∷ rest → Fails e (or_kind Number (decimal_of t))
+pub ends_first : (e : LineError) (front : List (ℕ × ℕ)) (all mid rest : List (List ℕ)) (t r : List ℕ) (total : Result (List (ℕ × ℕ)) Kind) → all ≡ t ∷ mid → mid ≡ r ∷ rest → Fails e (or_error Number (decimal_of t))
     → with_front front (pairs_of all) ≡ total → Fails e total
 unfolding pairs_of
 ends_first errors.Memory front all mid rest t r total e f h so_far = tt
@@ -32,7 +32,7 @@ ends_first (errors.Refused k) front all mid rest t r total e f h so_far =
     let one : with_front front (pairs_of all) ≡ Err k = rw (e, f, h) refl in
     sym so_far ∙ one
 
-pub ends_second : (e : LineError) (front : List (ℕ × ℕ)) (all mid rest : List (List ℕ)) (t r : List ℕ) (target : ℕ) (total : Result (List (ℕ × ℕ)) Kind) → all ≡ t ∷ mid → mid ≡ r ∷ rest → or_kind Number (decimal_of t) ≡ Ok target → Fails e (or_kind Number (long_decimal_of r))
+pub ends_second : (e : LineError) (front : List (ℕ × ℕ)) (all mid rest : List (List ℕ)) (t r : List ℕ) (target : ℕ) (total : Result (List (ℕ × ℕ)) Kind) → all ≡ t ∷ mid → mid ≡ r ∷ rest → or_error Number (decimal_of t) ≡ Ok target → Fails e (or_error Number (long_decimal_of r))
     → with_front front (pairs_of all) ≡ total → Fails e total
 unfolding pairs_of
 ends_second errors.Memory front all mid rest t r target total e f g h so_far = tt

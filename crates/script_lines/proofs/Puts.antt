@@ -12,7 +12,7 @@ use Rattle.script_lines.specs.declared.fault.Kind.{Kind}
 use Rattle.script_lines.specs.declared.fault.Kind.TheVariants.{Word, Number}
 use Rattle.script_lines.specs.declared.fault.LineError.{LineError}
 use Rattle.script_lines.specs.declared.fault.LineError.TheVariants as errors
-use Rattle.script_lines.specs.Outcome.{◌>>=◌, or_kind, unless, Fails}
+use Rattle.script_lines.specs.Outcome.{◌>>=◌, or_error, unless, Fails}
 use Rattle.script_lines.specs.Said.{put_begun, put_said, fill_begun, fill_said}
 
 -- ---- from what a line begins with to what it says
@@ -31,7 +31,7 @@ pub put_said_is : (words : List (List ℕ)) → put_said words ≡ (put_begun wo
 unfolding put_begun put_said
 put_said_is [] = refl
 put_said_is (p ∷ []) = refl
-put_said_is (p ∷ v ∷ vs) = put_by (or_kind Number (decimal_of p)) (v ∷ vs)
+put_said_is (p ∷ v ∷ vs) = put_by (or_error Number (decimal_of p)) (v ∷ vs)
 
 -- what a fill line says, once it is known what it begins with
 abbrev pub fill_on : ℕ × ℕ × List (List ℕ) → Result (ℕ × ℕ × List ℕ) Kind
@@ -52,7 +52,7 @@ unfolding fill_begun fill_said
 fill_said_is [] = refl
 fill_said_is (m ∷ []) = refl
 fill_said_is (m ∷ p ∷ []) = refl
-fill_said_is (m ∷ p ∷ v ∷ vs) = fill_by (or_kind Number (decimal_of m)) (p ∷ v ∷ vs)
+fill_said_is (m ∷ p ∷ v ∷ vs) = fill_by (or_error Number (decimal_of m)) (p ∷ v ∷ vs)
 
 -- ---- what a line begins with, read from its first words
 
@@ -62,7 +62,7 @@ has_some words = not (length words == 0)
 counts_some : (word : List ℕ) (words : List (List ℕ)) → has_some (word ∷ words) ≡ true
 counts_some word words = rw (ne_eqb (length (word ∷ words)) 0 (λ e. omega arith)) refl
 
-begun_behind : (p : List ℕ) (words : List (List ℕ)) → has_some words ≡ true → put_begun (p ∷ words) ≡ (or_kind Number (decimal_of p) >>= (λ place. Ok (place, words)))
+begun_behind : (p : List ℕ) (words : List (List ℕ)) → has_some words ≡ true → put_begun (p ∷ words) ≡ (or_error Number (decimal_of p) >>= (λ place. Ok (place, words)))
 unfolding put_begun
 begun_behind p [] some = cc
 begun_behind p (v ∷ vs) some = refl
@@ -75,7 +75,7 @@ begun_alone p (v ∷ vs) none = absurd (both_ways _ none (counts_some v vs))
 pub put_without_value : (line rest : List ℕ) (said : Option ℕ) → IsFirstRead decimal_of line said rest → has_some (words_of rest) ≡ false → put_begun (words_of line) ≡ Err Word
 put_without_value line rest said r none = rw r.begins (begun_alone r.word (words_of rest) none)
 
-pub put_with_place : (line rest : List ℕ) (said : Option ℕ) → IsFirstRead decimal_of line said rest → has_some (words_of rest) ≡ true → put_begun (words_of line) ≡ (or_kind Number said >>= (λ place. Ok (place, words_of rest)))
+pub put_with_place : (line rest : List ℕ) (said : Option ℕ) → IsFirstRead decimal_of line said rest → has_some (words_of rest) ≡ true → put_begun (words_of line) ≡ (or_error Number said >>= (λ place. Ok (place, words_of rest)))
 put_with_place line rest said r some = rw (r.begins, r.says) (begun_behind r.word (words_of rest) some)
 
 fill_behind : (m : List ℕ) (memory : ℕ) (words : List (List ℕ)) → decimal_of m ≡ Some memory → fill_begun (m ∷ words) ≡ (put_begun words >>= (λ b. Ok (memory, b.0, b.1)))

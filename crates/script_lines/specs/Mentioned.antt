@@ -5,14 +5,14 @@ use Rattle.script_lines.specs.Names.{with_name}
 use Rattle.script_words.specs.Numbers.{decimal_of, long_decimal_of}
 use Rattle.script_lines.specs.declared.fault.Kind.{Kind}
 use Rattle.script_lines.specs.declared.fault.Kind.TheVariants.{Number}
-use Rattle.script_lines.specs.Outcome.{◌>>=◌, or_kind}
+use Rattle.script_lines.specs.Outcome.{◌>>=◌, or_error}
 
 -- the name and the release that three words say
 unfoldable pub fence_said : List ℕ → List ℕ → List ℕ → Result (Name × ℕ) Kind
 fence_said n i r = do
-  namespace ← or_kind Number (decimal_of n)
-  id ← or_kind Number (long_decimal_of i)
-  release ← or_kind Number (long_decimal_of r)
+  namespace ← or_error Number (decimal_of n)
+  id ← or_error Number (long_decimal_of i)
+  release ← or_error Number (long_decimal_of r)
   Ok (record { namespace = namespace; id = id }, release)
 
 -- the names with the one that a fence mentions, where it mentions one

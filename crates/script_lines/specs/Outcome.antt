@@ -1,16 +1,11 @@
 -- What is said, or what is wrong with it, and what a function returns for that.
-use Rattle.std.specs.Prelude.{◌≡◌, ℕ, Option, Some, None, Result, Ok, Err}
-pub use Rattle.gpu_word.specs.Outcome.{◌>>=◌, unless}
+use Rattle.std.specs.Prelude.{◌≡◌, ℕ, Result, Ok, Err}
+pub use Rattle.gpu_word.specs.Outcome.{◌>>=◌, unless, or_error}
 use Rattle.script_lines.specs.declared.fault.Kind.{Kind}
 use Rattle.script_lines.specs.declared.fault.LineError.{LineError}
 use Rattle.script_lines.specs.declared.fault.LineError.TheVariants as errors
 use Rattle.script_lines.specs.declared.fault.ScriptFault.{ScriptFault}
 use Rattle.script_lines.specs.declared.fault.ScriptFault.TheVariants as faults
-
--- the value, or this kind where there is none
-abbrev pub or_kind : {A : Type 0} → Kind → Option A → Result A Kind
-or_kind kind None = Err kind
-or_kind kind (Some x) = Ok x
 
 -- the kind is told with the line's number
 abbrev pub at_line : {A : Type 0} → ℕ → Result A Kind → Result A (ℕ × Kind)

@@ -10,7 +10,7 @@ use Rattle.script_lines.specs.declared.keyword.Keyword.{Keyword}
 use Rattle.script_lines.specs.declared.keyword.Keyword.TheVariants.{StreamLine, MemoryLine, ResultsLine, PutLine, FillLine, FlushLine, FinishLine, TokenLine, CloseLine, DumpLine}
 use Rattle.gpu_cmd.specs.declared.name.Name.{Name}
 use Rattle.script_lines.specs.Names.{number_in}
-use Rattle.script_lines.specs.Outcome.{◌>>=◌, or_kind, unless}
+use Rattle.script_lines.specs.Outcome.{◌>>=◌, or_error, unless}
 
 -- what a line's first word names
 abbrev pub keyword_of : List ℕ → Option Keyword
@@ -28,33 +28,33 @@ none_said _ = Err Word
 
 -- behind `token`: one number
 unfoldable pub one_said : List (List ℕ) → Result ℕ Kind
-one_said (n ∷ []) = or_kind Number (decimal_of n)
+one_said (n ∷ []) = or_error Number (decimal_of n)
 one_said _ = Err Word
 
 -- behind `memory`, `results` and `dump`: two numbers
 unfoldable pub two_said : List (List ℕ) → Result (ℕ × ℕ) Kind
 two_said (m ∷ n ∷ []) = do
-  first ← or_kind Number (decimal_of m)
-  second ← or_kind Number (decimal_of n)
+  first ← or_error Number (decimal_of m)
+  second ← or_error Number (decimal_of n)
   Ok (first, second)
 two_said _ = Err Word
 
 -- behind `stream` in version 1: the stream's number, a priority and the ring's length; stream S has the name (0, S)
 unfoldable pub numbered_said : List (List ℕ) → Result (Name × Priority × ℕ) Kind
 numbered_said (s ∷ p ∷ r ∷ []) = do
-  priority ← or_kind Word (priority_of p)
-  stream ← or_kind Number (decimal_of s)
-  ring ← or_kind Number (decimal_of r)
+  priority ← or_error Word (priority_of p)
+  stream ← or_error Number (decimal_of s)
+  ring ← or_error Number (decimal_of r)
   Ok (record { namespace = 0; id = stream }, priority, ring)
 numbered_said _ = Err Word
 
 -- behind `stream` in version 2: the two parts of a name, a priority and the ring's length
 unfoldable pub named_said : List (List ℕ) → Result (Name × Priority × ℕ) Kind
 named_said (n ∷ i ∷ p ∷ r ∷ []) = do
-  priority ← or_kind Word (priority_of p)
-  namespace ← or_kind Number (decimal_of n)
-  id ← or_kind Number (long_decimal_of i)
-  ring ← or_kind Number (decimal_of r)
+  priority ← or_error Word (priority_of p)
+  namespace ← or_error Number (decimal_of n)
+  id ← or_error Number (long_decimal_of i)
+  ring ← or_error Number (decimal_of r)
   Ok (record { namespace = namespace; id = id }, priority, ring)
 named_said _ = Err Word
 
@@ -65,7 +65,7 @@ stream_said version words = if version == 2 then named_said words else numbered_
 -- behind `put`: a place and one or more values
 unfoldable pub put_said : List (List ℕ) → Result (ℕ × List ℕ) Kind
 put_said (p ∷ v ∷ vs) = do
-  place ← or_kind Number (decimal_of p)
+  place ← or_error Number (decimal_of p)
   _ ← unless (list_all is_value (v ∷ vs)) Number
   Ok (place, map value_of (v ∷ vs))
 put_said _ = Err Word
@@ -73,7 +73,7 @@ put_said _ = Err Word
 -- behind `fill`: a memory, and then as behind `put`
 unfoldable pub fill_said : List (List ℕ) → Result (ℕ × ℕ × List ℕ) Kind
 fill_said (m ∷ p ∷ v ∷ vs) = do
-  memory ← or_kind Number (decimal_of m)
+  memory ← or_error Number (decimal_of m)
   said ← put_said (p ∷ v ∷ vs)
   Ok (memory, said.0, said.1)
 fill_said _ = Err Word
@@ -81,14 +81,14 @@ fill_said _ = Err Word
 -- behind `put`, but for what the values are: a place, and one or more words
 unfoldable pub put_begun : List (List ℕ) → Result (ℕ × List (List ℕ)) Kind
 put_begun (p ∷ v ∷ vs) = do
-  place ← or_kind Number (decimal_of p)
+  place ← or_error Number (decimal_of p)
   Ok (place, v ∷ vs)
 put_begun _ = Err Word
 
 -- behind `fill`, but for what the values are: a memory, and then as behind `put`
 unfoldable pub fill_begun : List (List ℕ) → Result (ℕ × ℕ × List (List ℕ)) Kind
 fill_begun (m ∷ p ∷ v ∷ vs) = do
-  memory ← or_kind Number (decimal_of m)
+  memory ← or_error Number (decimal_of m)
   begun ← put_begun (p ∷ v ∷ vs)
   Ok (memory, begun.0, begun.1)
 fill_begun _ = Err Word
@@ -104,8 +104,8 @@ unfoldable pub pairs_of : List (List ℕ) → Result (List (ℕ × ℕ)) Kind
 pairs_of [] = Ok []
 pairs_of (t ∷ []) = Err Word
 pairs_of (t ∷ r ∷ words) = do
-  target ← or_kind Number (decimal_of t)
-  release ← or_kind Number (long_decimal_of r)
+  target ← or_error Number (decimal_of t)
+  release ← or_error Number (long_decimal_of r)
   pairs ← pairs_of words
   Ok ((target, release) ∷ pairs)
 
@@ -119,9 +119,9 @@ are_triples (n ∷ i ∷ r ∷ words) = are_triples words
 -- the fence that three words say: the number of the stream whose name the first two are, and a release
 unfoldable pub named_fence : List Name → List ℕ → List ℕ → List ℕ → Result (ℕ × ℕ) Kind
 named_fence names n i r = do
-  namespace ← or_kind Number (decimal_of n)
-  id ← or_kind Number (long_decimal_of i)
-  release ← or_kind Number (long_decimal_of r)
+  namespace ← or_error Number (decimal_of n)
+  id ← or_error Number (long_decimal_of i)
+  release ← or_error Number (long_decimal_of r)
   Ok (number_in names (record { namespace = namespace; id = id }), release)
 
 -- the fences that triples of words say
@@ -147,6 +147,6 @@ unfoldable pub flush_said : ℕ → List Name → List (List ℕ) → Result (�
 flush_said version names [] = Err Word
 flush_said version names (p ∷ words) = do
   _ ← unless (are_fences version words) Word
-  put ← or_kind Number (decimal_of p)
+  put ← or_error Number (decimal_of p)
   fences ← fences_of version names words
   Ok (put, fences)

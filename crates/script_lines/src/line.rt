@@ -2,7 +2,7 @@ ghost use Rattle.std.specs.Prelude.{◌≡◌, ◌+◌, ◌≤◌, ◌<◌, ◌^
 ghost use Rattle.std.specs.List.{list_all};
 ghost use Rattle.script_words.specs.Left.{words_left, values_left};
 ghost use Rattle.script_words.specs.Numbers.{decimal_of, long_decimal_of, is_value, value_of};
-ghost use Rattle.script_lines.specs.Outcome.{Gives, or_kind};
+ghost use Rattle.script_lines.specs.Outcome.{Gives, or_error};
 ghost use Rattle.script_lines.specs.Shown.{begun_shown, fill_begun_shown, put_shown, fill_shown, values_counted};
 ghost use Rattle.script_lines.specs.Said.{priority_of, none_said, one_said, two_said, numbered_said, named_said, stream_said, put_begun, put_said, fill_begun, fill_said};
 ghost use Rattle.script_lines.specs.declared.fault.Kind.TheVariants.{Number};
@@ -27,7 +27,7 @@ fn priority_of(word: &[u8]) -> Option<Priority>
 
 /// A decimal number of 32 bits that a word says.
 pub(crate) fn decimal_at(word: &[u8]) -> Result<u32, LineError>
-    ensures { Gives (λ n. n) result (or_kind Number (decimal_of word.now)) }
+    ensures { Gives (λ n. n) result (or_error Number (decimal_of word.now)) }
 {
     match decimal_u32(word) {
         Some(number) => Ok(number),
@@ -37,7 +37,7 @@ pub(crate) fn decimal_at(word: &[u8]) -> Result<u32, LineError>
 
 /// A decimal number of 64 bits that a word says.
 pub(crate) fn long_decimal_at(word: &[u8]) -> Result<u64, LineError>
-    ensures { Gives (λ n. n) result (or_kind Number (long_decimal_of word.now)) }
+    ensures { Gives (λ n. n) result (or_error Number (long_decimal_of word.now)) }
 {
     match decimal_u64(word) {
         Some(number) => Ok(number),

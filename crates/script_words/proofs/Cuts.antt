@@ -23,7 +23,7 @@ split_is_cons p (x ∷ xs) =
     ]
 
 -- where it is found, the list is cut there
-split_found : (p : ℕ → Bool) (xs : List ℕ) (end : ℕ) → position p xs ≡ Some end → slice_split p xs ≡ take end xs ∷ slice_split p (drop (end + 1) xs)
+pub split_found : (p : ℕ → Bool) (xs : List ℕ) (end : ℕ) → position p xs ≡ Some end → slice_split p xs ≡ take end xs ∷ slice_split p (drop (end + 1) xs)
 split_found p xs end e =
     let f = cond_some (ltb (position_or_len p xs) (length xs)) (position_or_len p xs) end e in
     slice_split_first p xs 0 (ltb-true _ _ f.0) ∙ ap (λ n. take n xs ∷ slice_split p (drop (n + 1) xs)) f.1
@@ -45,11 +45,11 @@ first_line_feed text None h = sym (found_nowhere ends_line text (λ k lt. false_
 first_line_feed text (Some i) h = sym (found_at ends_line text i h.0.high (λ k lt. false_from_ne_true _ (h.0.before k (omega arith) lt)) h.1)
 
 -- p passes nowhere
-not_found : (b : Bool) (n : ℕ) → cond b (Some n) None ≡ None → b ≡ false
+pub not_found : (b : Bool) (n : ℕ) → cond b (Some n) None ≡ None → b ≡ false
 not_found true n e = absurd cc
 not_found false n e = refl
 
-none_passes : (p : ℕ → Bool) (xs : List ℕ) → position p xs ≡ None → slice_split p xs ≡ xs ∷ []
+pub none_passes : (p : ℕ → Bool) (xs : List ℕ) → position p xs ≡ None → slice_split p xs ≡ xs ∷ []
 none_passes p xs e =
     let far : length xs ≤ position_or_len p xs = ltb-false _ _ (not_found (ltb (position_or_len p xs) (length xs)) (position_or_len p xs) e) in
     slice_split_none p xs (λ k d lt. fails_before_first p xs k d (omega arith))

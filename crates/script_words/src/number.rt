@@ -1,5 +1,5 @@
-ghost use Rattle.std.specs.Prelude.{◌≡◌, ◌≤◌, length};
-ghost use Rattle.script_words.specs.Numbers.{digits_said, decimal_of, hex_of, long_decimal_of};
+ghost use Rattle.std.specs.Prelude.{◌≡◌, ◌≤◌, ◌^◌, length};
+ghost use Rattle.script_words.specs.Numbers.{digits_said, number_of, decimal_of, hex_of, long_decimal_of};
 
 use crate::digit::digit_of;
 
@@ -52,32 +52,35 @@ pub fn decimal_u64(word: &[u8]) -> Option<u64>
     Some(value as u64)
 }
 
-/// The number below 2^32 that a word of one to ten digits says.
+// The number below 2^32 that a word of one to so many digits of a base says.
+#[inline(always)]
 #[tactic(auto, unfolding(crate::specs::Numbers::number_of))]
-pub fn decimal_u32(word: &[u8]) -> Option<u32>
-    ensures { result ≡ decimal_of word.now }
+fn number_u32(word: &[u8], radix: u32, most: usize) -> Option<u32>
+    requires two { 2 ≤ radix }
+    requires sixteen { radix ≤ 16 }
+    requires short { most ≤ 15 }
+    ensures { result ≡ number_of radix most (2 ^ 32) word.now }
 {
-    if word.is_empty() || word.len() > 10 {
+    if word.is_empty() || word.len() > most {
         return None;
     }
-    let value = value_of(word, 10)?;
+    let value = value_of(word, radix)?;
     if value > u64::from(u32::MAX) {
         return None;
     }
     Some(value as u32)
 }
 
+/// The number below 2^32 that a word of one to ten digits says.
+pub fn decimal_u32(word: &[u8]) -> Option<u32>
+    ensures { result ≡ decimal_of word.now }
+{
+    number_u32(word, 10, 10)
+}
+
 /// The number that a word of one to eight hexadecimal digits says.
-#[tactic(auto, unfolding(crate::specs::Numbers::number_of))]
 pub fn hex_u32(word: &[u8]) -> Option<u32>
     ensures { result ≡ hex_of word.now }
 {
-    if word.is_empty() || word.len() > 8 {
-        return None;
-    }
-    let value = value_of(word, 16)?;
-    if value > u64::from(u32::MAX) {
-        return None;
-    }
-    Some(value as u32)
+    number_u32(word, 16, 8)
 }

@@ -1,5 +1,6 @@
 -- How far clients are: the counts of the rule for one thread stay within the bounds of the clients, and neither falls.
 use Rattle.std.proofs.Common.{◌≡◌, ℕ, ◌+◌, ◌≤◌, ◌<◌, eqb, Bool, true, false, cond, List, [], ◌∷◌, take, refl, sym, ap, subst, arith}
+use Rattle.std.proofs.lemmas.Bool.{eqb-true, both_ways}
 use Rattle.std.specs.Prelude.{Some, slice_get}
 use Rattle.gpu_plan.specs.declared.plan.Action.TheVariants as actions
 use Rattle.gpu_plan.specs.Plans.{PlansData, plan_of}
@@ -12,7 +13,7 @@ use Rattle.gpu_journal.specs.declared.event.Event.TheVariants.{Order, Step, Fini
 use Rattle.gpu_journal.specs.World.{Known, World, world, stream_in, asked_by, with_token, known, known_after}
 use Rattle.gpu_journal.specs.Facts.{reach}
 use Rattle.gpu_journal.specs.Serial.{begins_round, count}
-use Rattle.serial_laws.proofs.Others.{known_own, known_other, along}
+use Rattle.serial_laws.proofs.Others.{known_own, known_other}
 
 -- the bound of a client by what is known of its stream
 abbrev bound_by : PlansData → ℕ → Known → ℕ
@@ -42,7 +43,7 @@ reach_grows p e h s = by (eqb (stream_in e) s) refl
     own = subst (λ (k : Known). reach p h (stream_in e) ≤ bound_by p (stream_in e) k) (sym (known_own p e h)) (event_grows p (stream_in e) e (world p h) (known p h (stream_in e)))
 
     by : (b : Bool) → eqb (stream_in e) s ≡ b → reach p h s ≤ reach p (e ∷ h) s
-    by true q = subst (λ s. reach p h s ≤ reach p (e ∷ h) s) (along (stream_in e) s q) own
+    by true q = subst (λ s. reach p h s ≤ reach p (e ∷ h) s) (eqb-true (stream_in e) s q) own
     by false q = let same : reach p (e ∷ h) s ≡ reach p h s = ap (bound_by p s) (known_other p e h s q) in omega arith
 
 -- a client is at most at its bound
@@ -73,8 +74,5 @@ close_reach p h s e =
     let most = count_reach p h s in
     let k = known p h s in
     let stops : passes (plan_of p s).actions (count p h s) k.finished k.tokens ≡ false = ap (passes_if_there (flushes (take (count p h s) (plan_of p s).actions)) k.finished k.tokens) e in
-    let not_below : count p h s < reach p h s → ⊥ = λ lt. clash (passes (plan_of p s).actions (count p h s) k.finished k.tokens) (passes_below_bound (plan_of p s).actions (count p h s) k.finished k.tokens lt) stops in
+    let not_below : count p h s < reach p h s → ⊥ = λ lt. both_ways (passes (plan_of p s).actions (count p h s) k.finished k.tokens) stops (passes_below_bound (plan_of p s).actions (count p h s) k.finished k.tokens lt) in
     omega arith
-  where
-    clash : (b : Bool) → b ≡ true → b ≡ false → ⊥
-    clash b x y = cc

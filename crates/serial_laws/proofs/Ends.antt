@@ -1,6 +1,6 @@
 -- No event follows exactly where a history is complete, and an unfinished history can go on.
 use Rattle.std.proofs.Common.{◌≡◌, ℕ, zero, suc, ◌≤◌, ◌<◌, inl, inr, Bool, true, false, not, ◌&&◌, ◌||◌, nat_le, cond, Option, Some, None, List, [], ◌∷◌, length, take, refl, sym, ap, subst, ◌∙◌, arith, IsSome}
-use Rattle.std.proofs.lemmas.Bool.{or_left, le-leb, le-ltb, not-false}
+use Rattle.std.proofs.lemmas.Bool.{or_left, le-leb, le-ltb, not-false, ltb-false, and_parts, and_from, both_ways}
 use Rattle.std.specs.Prelude.{nat_lt, slice_get, is_some, option_map}
 use Rattle.std.specs.List.{list_all, list_any}
 use Rattle.gpu_plan.specs.declared.plan.Action.{Action}
@@ -21,16 +21,13 @@ use Rattle.gpu_journal.specs.Serial.{either, first, is_runnable, begins_round, c
 use Rattle.gpu_journal.proofs.Worlds.{known_of_left}
 use Rattle.serial_laws.specs.Going.{IsIdle, CanGoOn}
 use Rattle.serial_laws.specs.Laws.{EndsWhereComplete, UnfinishedGoesOn}
-use Rattle.serial_laws.proofs.First.{first_none, first_passes, first_fails, best_fails, and_true, and_made}
+use Rattle.serial_laws.proofs.First.{first_none, first_passes, first_fails, best_fails}
 use Rattle.serial_laws.proofs.Flushes.{flushes_end, flush_there, place_below, within}
 use Rattle.serial_laws.proofs.Fitting.{fits, open_of_left}
 use Rattle.serial_laws.proofs.Counts.{count_begun}
-use Rattle.serial_laws.proofs.Passed.{flush_parts, le_of}
+use Rattle.serial_laws.proofs.Passed.{flush_parts}
 use Rattle.serial_laws.proofs.Obeying.{open_fails, may_close, runner_runs}
 use Rattle.serial_laws.proofs.Least.{none_left, none_runs}
-
-pub clash : (b : Bool) → b ≡ true → b ≡ false → ⊥
-clash b x y = cc
 
 -- ---- a client that is stopped by no await and by no Close has done all its actions
 
@@ -46,9 +43,9 @@ bound_end xs f tokens few open' = by (slice_get xs (bound xs f tokens)) refl
     at : (a : Action) → slice_get xs (bound xs f tokens) ≡ Some a → ⊥
     at (actions.Put place value) e = let s = stops (Some (actions.Put place value)) e in cc
     at (actions.Flush put fences) e = let s = stops (Some (actions.Flush put fences)) e in cc
-    at actions.Finish e = let s = stops (Some actions.Finish) e in clash (nat_le before f) (le-leb before f few) s
-    at (actions.Token token) e = let s = stops (Some (actions.Token token)) e in clash (nat_le before f || list_any (nat_le token) tokens) (or_left (nat_le before f) (list_any (nat_le token) tokens) (le-leb before f few)) s
-    at actions.Close e = let c : is_close (slice_get xs (bound xs f tokens)) ≡ true = ap is_close e in clash (is_close (slice_get xs (bound xs f tokens))) c open'
+    at actions.Finish e = let s = stops (Some actions.Finish) e in both_ways (nat_le before f) s (le-leb before f few)
+    at (actions.Token token) e = let s = stops (Some (actions.Token token)) e in both_ways (nat_le before f || list_any (nat_le token) tokens) s (or_left (nat_le before f) (list_any (nat_le token) tokens) (le-leb before f few))
+    at actions.Close e = let c : is_close (slice_get xs (bound xs f tokens)) ≡ true = ap is_close e in both_ways (is_close (slice_get xs (bound xs f tokens))) open' c
 
     past : (ys : List Action) (k : ℕ) → slice_get ys k ≡ None → length ys ≤ k
     past [] k e = omega arith
@@ -62,7 +59,7 @@ bound_end xs f tokens few open' = by (slice_get xs (bound xs f tokens)) refl
 -- a Close is among the actions where one of them is a Close
 all_stay : (xs : List Action) → ((k : ℕ) → is_close (slice_get xs k) ≡ false) → list_all stays_open xs ≡ true
 all_stay [] f = refl
-all_stay (x ∷ xs) f = and_made (stays_open x) (list_all stays_open xs) (stays x (f 0)) (all_stay xs (λ k. f (suc k)))
+all_stay (x ∷ xs) f = and_from (stays_open x) (list_all stays_open xs) (stays x (f 0)) (all_stay xs (λ k. f (suc k)))
   where
     stays : (a : Action) → is_close (Some a) ≡ false → stays_open a ≡ true
     stays (actions.Put place value) e = refl
@@ -73,7 +70,7 @@ all_stay (x ∷ xs) f = and_made (stays_open x) (list_all stays_open xs) (stays 
 
 none_closes : (xs : List Action) (k : ℕ) → list_all stays_open xs ≡ true → is_close (slice_get xs k) ≡ false
 none_closes [] k e = refl
-none_closes (x ∷ xs) zero e = stays x (and_true (stays_open x) (list_all stays_open xs) e).0
+none_closes (x ∷ xs) zero e = stays x (and_parts (stays_open x) (list_all stays_open xs) e).0
   where
     stays : (a : Action) → stays_open a ≡ true → is_close (Some a) ≡ false
     stays (actions.Put place value) e = refl
@@ -81,7 +78,7 @@ none_closes (x ∷ xs) zero e = stays x (and_true (stays_open x) (list_all stays
     stays actions.Finish e = refl
     stays (actions.Token token) e = refl
     stays actions.Close e = absurd (cc)
-none_closes (x ∷ xs) (suc k) e = none_closes xs k (and_true (stays_open x) (list_all stays_open xs) e).1
+none_closes (x ∷ xs) (suc k) e = none_closes xs k (and_parts (stays_open x) (list_all stays_open xs) e).1
 
 -- what passes is no Close
 passes_open : (f g : ℕ) (tokens : List ℕ) (o : Option Action) → passes_if_there f g tokens o ≡ true → is_close o ≡ false
@@ -111,7 +108,7 @@ settled_complete p h legal idle no_flush no_close s o =
     let f = fits p h legal s in
     let at : count p h s ≡ reach p h s = count_begun p h s (begun p h idle) in
     let flush_fails = open_fails (stays p h s) (nat_lt k.ordered (flushes (take (count p h s) actions))) o.stays (first_fails (has_flush p h) (length p.plans) no_flush s o.known.0 o.known.1) in
-    let few : flushes (take (reach p h s) actions) ≤ k.ordered = subst (λ n. flushes (take n actions) ≤ k.ordered) at (le_of k.ordered (flushes (take (count p h s) actions)) flush_fails) in
+    let few : flushes (take (reach p h s) actions) ≤ k.ordered = subst (λ n. flushes (take n actions) ≤ k.ordered) at (ltb-false k.ordered (flushes (take (count p h s) actions)) flush_fails) in
     let close_fails = open_fails (stays p h s) (is_close (slice_get actions (count p h s))) o.stays (first_fails (is_at_close p h) (length p.plans) no_close s o.known.0 o.known.1) in
     let shut : is_close (slice_get actions (reach p h s)) ≡ false = subst (λ n. is_close (slice_get actions n) ≡ false) at close_fails in
     let nothing : length (left_of p h s) ≡ 0 = ap length (idle s) in
@@ -201,7 +198,7 @@ complete_ended p h legal done = follows_none p h (first_none (has_flush p h) (le
 
     none_runner : (o : Option ℕ) → runner p h ≡ o → runner p h ≡ None
     none_runner None e = e
-    none_runner (Some s) e = absurd (clash (is_runnable p h s) (runner_runs p h s e) (none_runs p h s (complete_idle p h legal done s)))
+    none_runner (Some s) e = absurd (both_ways (is_runnable p h s) (none_runs p h s (complete_idle p h legal done s)) (runner_runs p h s e))
 
 pub ends_where_complete : EndsWhereComplete
 ends_where_complete p h legal = (ended_complete p h legal, complete_ended p h legal)

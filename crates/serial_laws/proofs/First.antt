@@ -1,25 +1,7 @@
 -- The first of the streams that passes a test, and the best.
-use Rattle.std.proofs.Common.{◌≡◌, ◌≢◌, ℕ, zero, suc, ◌≤◌, ◌<◌, ◌⊎◌, inl, inr, Bool, true, false, not, ◌&&◌, cond, eqb, Option, Some, None, refl, sym, ap, ◌∙◌, arith}
+use Rattle.std.proofs.Common.{◌≡◌, ◌≢◌, ℕ, zero, suc, ◌≤◌, ◌<◌, ◌⊎◌, inl, inr, Bool, true, false, ◌&&◌, cond, eqb, Option, Some, None, refl, sym, ap, ◌∙◌, arith}
 use Rattle.std.proofs.lemmas.Bool.Decides.{nat_tests}
 use Rattle.gpu_journal.specs.Serial.{either, when, first, best, better}
-
-pub and_true : (a b : Bool) → (a && b) ≡ true → (a ≡ true) × (b ≡ true)
-and_true true true e = (refl, refl)
-and_true true false e = absurd (cc)
-and_true false b e = absurd (cc)
-
-pub and_made : (a b : Bool) → a ≡ true → b ≡ true → (a && b) ≡ true
-and_made true true x y = refl
-and_made true false x y = y
-and_made false b x y = x
-
-pub not_true : (a : Bool) → not a ≡ true → a ≡ false
-not_true true e = absurd (cc)
-not_true false e = refl
-
-pub not_false : (a : Bool) → a ≡ false → not a ≡ true
-not_false true e = absurd (cc)
-not_false false e = refl
 
 pub bool_cases : (b : Bool) → (b ≡ true) ⊎ (b ≡ false)
 bool_cases true = inl refl

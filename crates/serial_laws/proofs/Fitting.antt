@@ -1,10 +1,10 @@
 -- What a legal history says of each stream: which of its flushes are ordered, which are finished, and where those stand
 -- that are ordered and not finished.
 use Rattle.std.proofs.Common.{◌≡◌, ℕ, suc, ◌+◌, ◌≤◌, ◌<◌, eqb, Bool, true, false, cond, Option, Some, None, List, [], ◌∷◌, ◌++◌, length, drop, refl, sym, ap, subst, ◌∙◌, arith, IsSome, length-append}
-use Rattle.std.proofs.lemmas.Bool.{true_from_ne_false}
+use Rattle.std.proofs.lemmas.Bool.{true_from_ne_false, eqb-true, eq-eqb, and_right}
 use Rattle.std.proofs.lemmas.Bool.Decides.{nat_tests}
 use Rattle.std.proofs.lemmas.List.Elements.{All-head, All-tail}
-use Rattle.std.specs.Prelude.{slice_get, max, not, ◌&&◌}
+use Rattle.std.specs.Prelude.{slice_get, max, not}
 use Rattle.gpu_plan.specs.declared.plan.Action.{Action}
 use Rattle.gpu_plan.specs.Plans.{PlansData, plan_of}
 use Rattle.gpu_plan.specs.Passes.{flushes}
@@ -22,7 +22,7 @@ use Rattle.gpu_journal.specs.Waits.{deed, deed_asked, fences_in, sync_of, standi
 use Rattle.gpu_journal.specs.Facts.{place_of}
 use Rattle.gpu_journal.specs.Legal.{Obeys, IsLegal}
 use Rattle.gpu_journal.proofs.Worlds.{world_none, sync_none}
-use Rattle.serial_laws.proofs.Others.{moved_by, standing_own, standing_other, known_own, known_other, along, self}
+use Rattle.serial_laws.proofs.Others.{moved_by, standing_own, standing_other, known_own, known_other}
 use Rattle.serial_laws.proofs.Flushes.{flush_of_place}
 
 -- these numbers are those of the flushes at these places, from the k-th on
@@ -82,7 +82,7 @@ fits_ordered actions place k x n c m f o e low =
       fewer = omega arith;
       few = omega arith;
       placed = placed_push _ (flush_places actions) k.finished x.left record { order = n; made = m } (placed_again place (flush_places actions) k.finished n c x.left low f.placed)
-          (ap (slice_get (flush_places actions)) all ∙ e ∙ ap (λ (b : Bool). Some (cond b c (place n))) (sym (self n)));
+          (ap (slice_get (flush_places actions)) all ∙ e ∙ ap (λ (b : Bool). Some (cond b c (place n))) (sym (eq-eqb n n refl)));
     }
 
 fits_waited : (actions : List Action) (place : ℕ → ℕ) (k : Known) (x : Standing) → Fits actions place k x → Fits actions place k (record x { left = bumped x.left })
@@ -146,10 +146,6 @@ fits_gone actions place k x y e n f = record {
   placed = subst (λ (l : List Number). ArePlaced place (flush_places actions) k.finished l) (sym n) tt;
 }
 
-not_closed : (b : Bool) → (b && false) ≡ false
-not_closed true = refl
-not_closed false = refl
-
 -- what a step asks for changes no number
 fits_asked : (p : PlansData) (effect : Effect) (n : ℕ) (actions : List Action) (place : ℕ → ℕ) (k : Known) (x : Standing) → Fits actions place k x → Fits actions place k (moved_by (deed_asked p effect) n x)
 fits_asked p (Release r) n actions place k x f = fits_released actions place k x (max x.release r) f
@@ -177,7 +173,7 @@ fits_event p (Step s words) h o f =
     (fits_asked p (asked_by p s words (world p h)) (drawn p h + 1) (plan_of p s).actions (place_of h) (known p h s) (standing_of p h s) f)
 fits_event p (Finish s n) h o f = fits_finished (plan_of p s).actions (place_of h) (known p h s) (standing_of p h s) f (first_some (first_order (left_of p h s)) n o.rule_4)
 fits_event p (Lost s why words) h o f = fits_gone (plan_of p s).actions (place_of h) (known p h s) (standing_of p h s) (record (standing_of p h s) { lost = true; left = [] }) refl refl f
-fits_event p (Close s) h o f = fits_gone (plan_of p s).actions (place_of h) (known p h s) (standing_of p h s) (record (standing_of p h s) { closed = true; left = [] }) (not_closed (not (standing_of p h s).lost)) refl f
+fits_event p (Close s) h o f = fits_gone (plan_of p s).actions (place_of h) (known p h s) (standing_of p h s) (record (standing_of p h s) { closed = true; left = [] }) (and_right (not (standing_of p h s).lost) false refl) refl f
 
 -- the places of the numbers of another stream
 fits_other : (p : PlansData) (e : Event) (h : List Event) (t : ℕ) → Obeys p h e → FitsAt p h t → Fits (plan_of p t).actions (place_of (e ∷ h)) (known p h t) (standing_of p h t)
@@ -202,7 +198,7 @@ fits_then p e h t o f = by (eqb (stream_in e) t) refl
         (subst (λ (x : Standing). Fits (plan_of p (stream_in e)).actions (place_of (e ∷ h)) (known_after p e (world p h) (known p h (stream_in e))) x) (sym (standing_own p e h)) (fits_event p e h o (f (stream_in e))))
 
     by : (b : Bool) → eqb (stream_in e) t ≡ b → FitsAt p (e ∷ h) t
-    by true q = subst (λ t. FitsAt p (e ∷ h) t) (along (stream_in e) t q) own
+    by true q = subst (λ t. FitsAt p (e ∷ h) t) (eqb-true (stream_in e) t q) own
     by false q =
         subst (λ (k : Known). Fits (plan_of p t).actions (place_of (e ∷ h)) k (standing_of p (e ∷ h) t)) (sym (known_other p e h t q))
         (subst (λ (x : Standing). Fits (plan_of p t).actions (place_of (e ∷ h)) (known p h t) x) (sym (standing_other p e h t q)) (fits_other p e h t o (f t)))

@@ -1,14 +1,14 @@
 -- Flushes among actions, and where they stand.
-use Rattle.std.proofs.Common.{◌≡◌, ℕ, zero, suc, ◌+◌, ◌-◌, ◌≤◌, ◌<◌, Bool, true, false, cond, ◌&&◌, IsTrue, List, [], ◌∷◌, length, take, Some, refl, sym, ap, ◌∙◌, arith}
+use Rattle.std.proofs.Common.{◌≡◌, ℕ, zero, suc, ◌+◌, ◌-◌, ◌≤◌, ◌<◌, true, cond, IsTrue, List, [], ◌∷◌, length, take, Some, refl, sym, ap, ◌∙◌, arith}
 use Rattle.std.specs.Prelude.{slice_get}
 use Rattle.std.specs.List.{list_all}
+use Rattle.std.proofs.lemmas.Bool.{and_parts}
 use Rattle.gpu_plan.specs.declared.plan.Action.{Action}
-use Rattle.gpu_plan.specs.declared.plan.Action.TheVariants.{Put, Flush, Finish, Token, Close}
+use Rattle.gpu_plan.specs.declared.plan.Action.TheVariants.{Close}
 use Rattle.gpu_plan.specs.Passes.{flush_count, flushes}
-use Rattle.gpu_plan.specs.Plans.{is_flush, stays_open}
+use Rattle.gpu_plan.specs.Plans.{stays_open}
 use Rattle.gpu_plan.specs.Places.{flush_places_from, flush_places}
 use Rattle.gpu_plan.proofs.Passing.{flushes_all, by_flush}
-use Rattle.stream_state.proofs.Finding.{second_of}
 
 pub flushes_grow : (xs : List Action) (k m : ℕ) → k ≤ m → flushes (take k xs) ≤ flushes (take m xs)
 flushes_grow [] zero m h = omega arith
@@ -85,12 +85,8 @@ flush_placed xs k more =
 each_stays : (xs : List Action) (k n : ℕ) (a : Action) → k < n → slice_get xs k ≡ Some a → IsTrue (list_all stays_open (take n xs)) → stays_open a ≡ true
 each_stays [] k n a h e all = absurd (cc)
 each_stays (x ∷ xs) k zero a h e all = absurd (omega arith)
-each_stays (x ∷ xs) zero (suc n) a h e all = let is : x ≡ a = cc in ap stays_open (sym is) ∙ first_of (stays_open x) (list_all stays_open (take n xs)) all
-  where
-    first_of : (a b : Bool) → IsTrue (a && b) → a ≡ true
-    first_of true b h = refl
-    first_of false b h = absurd (cc)
-each_stays (x ∷ xs) (suc k) (suc n) a h e all = each_stays xs k n a (omega arith) e (second_of (stays_open x) (list_all stays_open (take n xs)) all)
+each_stays (x ∷ xs) zero (suc n) a h e all = let is : x ≡ a = cc in ap stays_open (sym is) ∙ (and_parts (stays_open x) (list_all stays_open (take n xs)) all).0
+each_stays (x ∷ xs) (suc k) (suc n) a h e all = each_stays xs k n a (omega arith) e (and_parts (stays_open x) (list_all stays_open (take n xs)) all).1
 
 pub within : (xs : List Action) (k : ℕ) (a : Action) → slice_get xs k ≡ Some a → k < length xs
 within [] k a e = absurd (cc)

@@ -1,5 +1,6 @@
 -- The least unprocessed number of all.
 use Rattle.std.proofs.Common.{◌≡◌, ◌≢◌, ℕ, zero, suc, ◌≤◌, ◌<◌, ◌⊎◌, inl, inr, Bool, true, false, not, ◌&&◌, nat_le, List, [], ◌∷◌, length, refl, sym, ap, subst, ◌∙◌, arith, IsSome}
+use Rattle.std.proofs.lemmas.Bool.{not_from_false}
 use Rattle.std.proofs.lemmas.Bool.Decides.{nat_tests}
 use Rattle.std.proofs.lemmas.List.Elements.{All-nil, All-cons, All-weaker, All-map}
 use Rattle.std.specs.Prelude.{is_some}
@@ -16,7 +17,7 @@ use Rattle.gpu_journal.specs.Waits.{sync_of, left_of, front, pending_in}
 use Rattle.gpu_journal.specs.Legal.{IsLegal}
 use Rattle.gpu_journal.specs.Serial.{is_runnable}
 use Rattle.gpu_journal.proofs.Worlds.{known_of_left}
-use Rattle.serial_laws.proofs.First.{nat_cases, not_false}
+use Rattle.serial_laws.proofs.First.{nat_cases}
 
 -- the stream of the least first number among the streams 1 to n, or that none has one
 module _ (numbers : ℕ → List Number) where
@@ -93,7 +94,7 @@ least_runs p h legal f = runs (left_of p h f.0) f.3 (least_can_run (length p.pla
   where
     runs : (xs : List Number) → 0 < length xs → has_wait_of f.0 (front_of xs) (pending_in p h) ≡ false → (is_some (first_order xs) && not (is_blocked f.0 xs (pending_in p h))) ≡ true
     runs [] l e = absurd (omega arith)
-    runs (x ∷ xs) l e = not_false (has_wait_of f.0 x.order (pending_in p h)) e
+    runs (x ∷ xs) l e = not_from_false (has_wait_of f.0 x.order (pending_in p h)) e
 
     least : IsLeast (sync_of p h) (front p h f.0)
     least t =

@@ -1,6 +1,6 @@
 -- The events of the rule for one thread are legal.
 use Rattle.std.proofs.Common.{◌+◌, ◌≡◌, ◌≢◌, ℕ, ◌≤◌, ◌<◌, eqb, Bool, true, false, not, ◌&&◌, cond, Option, Some, None, Result, Ok, Err, List, [], ◌∷◌, length, take, refl, sym, ap, subst, ◌∙◌, arith, IsOk, IsSome}
-use Rattle.std.proofs.lemmas.Bool.{eqb-true, eqb-false}
+use Rattle.std.proofs.lemmas.Bool.{eqb-true, eqb-false, ltb-false, and_parts, not-true}
 use Rattle.std.proofs.lemmas.List.Elements.{All-map}
 use Rattle.std.specs.Prelude.{nat_lt, slice_get, unwrap_or, is_some}
 use Rattle.std.specs.List.{All}
@@ -27,13 +27,13 @@ use Rattle.gpu_journal.specs.Serial.{first, is_runnable, count, stays, has_flush
 use Rattle.gpu_journal.proofs.Worlds.{known_of_left}
 use Rattle.serial_laws.specs.Scripts.{AreLawfulPlans}
 use Rattle.serial_laws.specs.Laws.{PlayedIsLegal}
-use Rattle.serial_laws.proofs.First.{first_passes, first_fails, best_passes, and_true, not_true}
+use Rattle.serial_laws.proofs.First.{first_passes, first_fails, best_passes}
 use Rattle.serial_laws.proofs.Choices.{Kind, orders_it, closes_it, runs_it, kind_of, run_is}
 use Rattle.gpu_plan.proofs.Passing.{flushes_all}
 use Rattle.serial_laws.proofs.Flushes.{flush_there, place_below, close_is_last, flushes_before_close}
 use Rattle.serial_laws.proofs.Fitting.{ArePlaced, fits, open_of_left}
 use Rattle.serial_laws.proofs.Counts.{count_reach, close_reach}
-use Rattle.serial_laws.proofs.Passed.{lawful_of, flush_parts, le_of, has_passed}
+use Rattle.serial_laws.proofs.Passed.{lawful_of, flush_parts, has_passed}
 
 -- ---- orders
 
@@ -84,13 +84,13 @@ open_fails false b x y = absurd (cc)
 
 pub may_close : (p : PlansData) (h : List Event) (s : ℕ) → AreLawfulPlans p → IsLegal p h → IsKnown (length p.plans) s → has_flush p h s ≡ false → is_at_close p h s ≡ true → MayClose p h s
 may_close p h s lawful legal isknown none at =
-    let r = and_true (stays p h s) (is_close (slice_get (plan_of p s).actions (count p h s))) at in
+    let r = and_parts (stays p h s) (is_close (slice_get (plan_of p s).actions (count p h s))) at in
     let e = close_of (slice_get (plan_of p s).actions (count p h s)) r.1 in
     let is = close_reach p h s e in
     let last = close_is_last (plan_of p s).actions (count p h s) (lawful_of p s lawful isknown).closes_last e in
     let all = flushes_before_close (plan_of p s).actions (count p h s) e last in
     let most = (fits p h legal s).few in
-    let least = le_of (known p h s).ordered (flushes (take (count p h s) (plan_of p s).actions)) (open_fails (stays p h s) (nat_lt (known p h s).ordered (flushes (take (count p h s) (plan_of p s).actions))) r.0 none) in
+    let least = ltb-false (known p h s).ordered (flushes (take (count p h s) (plan_of p s).actions)) (open_fails (stays p h s) (nat_lt (known p h s).ordered (flushes (take (count p h s) (plan_of p s).actions))) r.0 none) in
     record {
       still_open = record { known = isknown; stays = r.0 };
       ordered = omega (arith, all, most, least);
@@ -120,10 +120,6 @@ obeys_close p h s lawful legal none f =
 
 -- ---- runs
 
-some_of : (o : Option ℕ) → is_some o ≡ true → IsSome o
-some_of None e = absurd (cc)
-some_of (Some n) e = refl
-
 -- a stream that can run has an unprocessed number, and no wait of it is pending
 pub record CanRun (p : PlansData) (h : List Event) (s : ℕ) : Type 0 where
   pub isknown : IsKnown (length p.plans) s
@@ -132,9 +128,8 @@ pub record CanRun (p : PlansData) (h : List Event) (s : ℕ) : Type 0 where
 
 pub can_run : (p : PlansData) (h : List Event) (s : ℕ) → IsLegal p h → is_runnable p h s ≡ true → CanRun p h s
 can_run p h s legal e =
-    let q = and_true (is_some (first_order (left_of p h s))) (not (is_blocked s (left_of p h s) (pending_in p h))) e in
-    let some = some_of (first_order (left_of p h s)) q.0 in
-    record { isknown = known_of_left p h s legal some; some = some; free = not_true (is_blocked s (left_of p h s) (pending_in p h)) q.1 }
+    let q = and_parts (is_some (first_order (left_of p h s))) (not (is_blocked s (left_of p h s) (pending_in p h))) e in
+    record { isknown = known_of_left p h s legal q.0; some = q.0; free = not-true (is_blocked s (left_of p h s) (pending_in p h)) q.1 }
 
 -- the stream that runs can run
 pub runner_runs : (p : PlansData) (h : List Event) (s : ℕ) → runner p h ≡ Some s → is_runnable p h s ≡ true

@@ -1,6 +1,6 @@
 -- What is ordered in a played history, its client has passed.
 use Rattle.std.proofs.Common.{◌≡◌, ℕ, zero, suc, ◌+◌, ◌≤◌, ◌<◌, eqb, Bool, true, false, Result, Ok, Err, List, [], ◌∷◌, length, take, refl, sym, ap, subst, ◌∙◌, arith}
-use Rattle.std.proofs.lemmas.Bool.Decides.{nat_tests}
+use Rattle.std.proofs.lemmas.Bool.{eqb-true, ltb-true, and_parts}
 use Rattle.std.specs.Prelude.{nat_lt}
 use Rattle.gpu_cmd.specs.declared.command.Command.{Command}
 use Rattle.gpu_cmd.specs.declared.error.CmdError.{CmdError}
@@ -14,17 +14,11 @@ use Rattle.gpu_journal.specs.Waits.{standing_of}
 use Rattle.gpu_journal.specs.Serial.{count, stays, has_flush, order_event, next_words, judged_event, run_event, IsPlayed}
 use Rattle.gpu_journal.proofs.Worlds.{world_none}
 use Rattle.serial_laws.specs.Scripts.{AreLawfulPlans}
-use Rattle.serial_laws.proofs.First.{first_passes, and_true}
+use Rattle.serial_laws.proofs.First.{first_passes}
 use Rattle.serial_laws.proofs.Choices.{Kind, orders_it, closes_it, runs_it, kind_of, run_is}
-use Rattle.serial_laws.proofs.Others.{known_own, known_other, along}
+use Rattle.serial_laws.proofs.Others.{known_own, known_other}
 use Rattle.serial_laws.proofs.Flushes.{flushes_grow}
 use Rattle.serial_laws.proofs.Counts.{count_grows}
-
-pub lt_of : (a b : ℕ) → nat_lt a b ≡ true → a < b
-lt_of a b e = grind (arith, nat_tests)
-
-pub le_of : (a b : ℕ) → nat_lt a b ≡ false → b ≤ a
-le_of a b e = grind (arith, nat_tests)
 
 -- the plan of a stream of the script
 pub lawful_of : (p : PlansData) (s : ℕ) → AreLawfulPlans p → IsKnown (length p.plans) s → IsLawfulPlan (plan_of p s).areas (plan_of p s).actions
@@ -52,7 +46,7 @@ ordered_same p e h t none = by (eqb (stream_in e) t) refl
     own = ap (λ (k : Known). k.ordered) (known_own p e h) ∙ ordered_own p e (world p h) (known p h (stream_in e)) none
 
     by : (b : Bool) → eqb (stream_in e) t ≡ b → (known p (e ∷ h) t).ordered ≡ (known p h t).ordered
-    by true q = subst (λ t. (known p (e ∷ h) t).ordered ≡ (known p h t).ordered) (along (stream_in e) t q) own
+    by true q = subst (λ t. (known p (e ∷ h) t).ordered ≡ (known p h t).ordered) (eqb-true (stream_in e) t q) own
     by false q = ap (λ (k : Known). k.ordered) (known_other p e h t q)
 
 run_is_no_order : (p : PlansData) (h : List Event) (s : ℕ) → is_order (run_event p h s) ≡ false
@@ -71,8 +65,8 @@ passed_wider p e h t n o = let b = flushes_grow (plan_of p t).actions (count p h
 -- the parts of a test
 pub flush_parts : (p : PlansData) (h : List Event) (s : ℕ) → has_flush p h s ≡ true → (is_open (standing_of p h s) ≡ true) × ((known p h s).ordered < flushes (take (count p h s) (plan_of p s).actions))
 flush_parts p h s e =
-    let q = and_true (stays p h s) (nat_lt (known p h s).ordered (flushes (take (count p h s) (plan_of p s).actions))) e in
-    (q.0, lt_of (known p h s).ordered (flushes (take (count p h s) (plan_of p s).actions)) q.1)
+    let q = and_parts (stays p h s) (nat_lt (known p h s).ordered (flushes (take (count p h s) (plan_of p s).actions))) e in
+    (q.0, ltb-true (known p h s).ordered (flushes (take (count p h s) (plan_of p s).actions)) q.1)
 
 passed_order : (p : PlansData) (h : List Event) (s t : ℕ) → has_flush p h s ≡ true → HasPassed p h t → HasPassed p (order_event p h s ∷ h) t
 passed_order p h s t f o = by (eqb s t) refl
@@ -85,7 +79,7 @@ passed_order p h s t f o = by (eqb s t) refl
         omega arith
 
     by : (b : Bool) → eqb s t ≡ b → HasPassed p (order_event p h s ∷ h) t
-    by true q = subst (λ t. HasPassed p (order_event p h s ∷ h) t) (along s t q) own
+    by true q = subst (λ t. HasPassed p (order_event p h s ∷ h) t) (eqb-true s t q) own
     by false q =
         let is : (known p (order_event p h s ∷ h) t).ordered ≡ (known p h t).ordered = ap (λ (k : Known). k.ordered) (known_other p (order_event p h s) h t q) in
         let wide = passed_wider p (order_event p h s) h t (known p h t).ordered o in

@@ -1,5 +1,6 @@
 -- How many events of each stream a legal history can have.
-use Rattle.std.proofs.Common.{◌≡◌, not, ◌&&◌, ℕ, ◌+◌, ◌*◌, ◌%◌, ◌≤◌, ◌<◌, eqb, Bool, true, false, cond, Option, List, [], ◌∷◌, length, refl, sym, ap, subst, arith}
+use Rattle.std.proofs.Common.{◌≡◌, not, ℕ, ◌+◌, ◌*◌, ◌%◌, ◌≤◌, ◌<◌, eqb, Bool, true, false, cond, Option, List, [], ◌∷◌, length, refl, sym, ap, subst, arith}
+use Rattle.std.proofs.lemmas.Bool.{eqb-true, eq-eqb, and_right}
 use Rattle.std.proofs.Math.Nat.{mul-le-mul_left}
 use Rattle.std.proofs.lemmas.Nat.{mod_below}
 use Rattle.std.specs.Prelude.{slice_get, unwrap_or}
@@ -25,7 +26,7 @@ use Rattle.gpu_journal.specs.Facts.{place_of, put_in, put_of}
 use Rattle.gpu_journal.specs.Legal.{Obeys, IsLegal}
 use Rattle.gpu_journal.specs.Serial.{most_of}
 use Rattle.gpu_journal.proofs.Worlds.{world_none, sync_none, known_of_left, states_within}
-use Rattle.serial_laws.proofs.Others.{moved_by, standing_own, standing_other, known_own, known_other, along, self}
+use Rattle.serial_laws.proofs.Others.{moved_by, standing_own, standing_other, known_own, known_other}
 use Rattle.serial_laws.proofs.Fitting.{FitsAt, fits, open_of_left, first_some}
 use Rattle.serial_laws.proofs.Obeying.{first_placed}
 use Rattle.serial_laws.proofs.Rooms.{step_consumes, gap, gap_most, gap_falls}
@@ -139,10 +140,6 @@ lost_open : (p : PlansData) (h : List Event) (s : ℕ) (why : Why) (words : List
 lost_open p h s (Error error) words f o = (open_of_left (plan_of p s).actions (place_of h) (known p h s) (standing_of p h s) f o.rule_4).0
 lost_open p h s Memory words f o = o.rule_11.0.stays
 
-pub closed_now : (b : Bool) → (b && false) ≡ false
-closed_now true = refl
-closed_now false = refl
-
 spent_event : (p : PlansData) (e : Event) (h : List Event) → IsLawfulAreas (plan_of p (stream_in e)).areas → IsLegal p h → Obeys p h e → SpentAt p h (stream_in e)
     → Spent (plan_of p (stream_in e)).actions (plan_of p (stream_in e)).areas.ring (known_after p e (world p h) (known p h (stream_in e))) (moved_by (deed p e (world p h)) (drawn p h + 1) (standing_of p h (stream_in e))) (with_step e (steps_of h (stream_in e))) (events_of h (stream_in e) + 1)
 spent_event p (Order s n c) h lawful legal o sp = spent_ordered (plan_of p s).actions (plan_of p s).areas.ring (known p h s) (standing_of p h s) (moved_by (deed p (Order s n c) (world p h)) (drawn p h + 1) (standing_of p h s)) (steps_of h s) (events_of h s) refl sp
@@ -155,7 +152,7 @@ spent_event p (Step s words) h lawful legal o sp =
     (asked_open p (asked_by p s words (world p h)) (drawn p h + 1) (standing_of p h s)) refl refl (omega (arith, all, some)) (step_falls p h s words lawful legal o some) sp
 spent_event p (Finish s n) h lawful legal o sp = spent_finished (plan_of p s).actions (plan_of p s).areas.ring (known p h s) (standing_of p h s) (moved_by (deed p (Finish s n) (world p h)) (drawn p h + 1) (standing_of p h s)) (steps_of h s) (events_of h s) (let least = lawful.ring_least in omega arith) refl sp
 spent_event p (Lost s why words) h lawful legal o sp = spent_gone (plan_of p s).actions (plan_of p s).areas.ring (known p h s) (standing_of p h s) (moved_by (deed p (Lost s why words) (world p h)) (drawn p h + 1) (standing_of p h s)) (steps_of h s) (events_of h s) (lost_open p h s why words (fits p h legal s) o) refl sp
-spent_event p (Close s) h lawful legal o sp = spent_gone (plan_of p s).actions (plan_of p s).areas.ring (known p h s) (standing_of p h s) (moved_by (deed p (Close s) (world p h)) (drawn p h + 1) (standing_of p h s)) (steps_of h s) (events_of h s) o.rule_12.still_open.stays (closed_now (not (standing_of p h s).lost)) sp
+spent_event p (Close s) h lawful legal o sp = spent_gone (plan_of p s).actions (plan_of p s).areas.ring (known p h s) (standing_of p h s) (moved_by (deed p (Close s) (world p h)) (drawn p h + 1) (standing_of p h s)) (steps_of h s) (events_of h s) o.rule_12.still_open.stays (and_right (not (standing_of p h s).lost) false refl) sp
 
 -- the stream of an event is one of the script
 pub obeys_known : (p : PlansData) (e : Event) (h : List Event) → IsLegal p h → Obeys p h e → IsKnown (length p.plans) (stream_in e)
@@ -178,13 +175,13 @@ spent_then p e h t lawful legal o sp = by (eqb (stream_in e) t) refl
         let actions = (plan_of p s).actions in
         let ring = (plan_of p s).areas.ring in
         let now = spent_event p e h lawful legal o sp in
-        subst (λ (b : Bool). Spent actions ring (known p (e ∷ h) s) (standing_of p (e ∷ h) s) (cond b (with_step e (steps_of h s)) (steps_of h s)) (cond b (events_of h s + 1) (events_of h s))) (sym (self s))
+        subst (λ (b : Bool). Spent actions ring (known p (e ∷ h) s) (standing_of p (e ∷ h) s) (cond b (with_step e (steps_of h s)) (steps_of h s)) (cond b (events_of h s + 1) (events_of h s))) (sym (eq-eqb s s refl))
         (subst (λ (k : Known). Spent actions ring k (standing_of p (e ∷ h) s) (with_step e (steps_of h s)) (events_of h s + 1)) (sym (known_own p e h))
         (subst (λ (x : Standing). Spent actions ring (known_after p e (world p h) (known p h s)) x (with_step e (steps_of h s)) (events_of h s + 1)) (sym (standing_own p e h)) now))
 
     by : (b : Bool) → eqb (stream_in e) t ≡ b → SpentAt p (e ∷ h) t
     by true q =
-        let same = along (stream_in e) t q in
+        let same = eqb-true (stream_in e) t q in
         subst (λ t. SpentAt p (e ∷ h) t) same (own (subst (λ t. IsLawfulAreas (plan_of p t).areas) (sym same) lawful) (subst (λ t. SpentAt p h t) (sym same) sp))
     by false q =
         let actions = (plan_of p t).actions in

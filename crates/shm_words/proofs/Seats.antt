@@ -1,10 +1,11 @@
 -- Which seat is the client's and which the service's, and the rule after one of them moves.
-use Rattle.std.proofs.Common.{◌≡◌, ◌≢◌, ℕ, zero, suc, ◌+◌, ◌≤◌, ◌<◌, List, [], ◌∷◌, length, set, get_or, inr, ⊎_elim, refl, sym, ap, ◌∙◌, subst, arith}
+use Rattle.std.proofs.Common.{◌≡◌, ◌≢◌, ℕ, zero, suc, ◌+◌, ◌≤◌, ◌<◌, List, [], ◌∷◌, length, set, get_or, inr, ⊎_elim, sym, ap, ◌∙◌, subst, arith}
 use mathlib.Core.Option.{some, some-injective, some-ne-none}
 use mathlib.Core.Logic.{dite}
 use native.Mathlib.Decide.{ℕ_discrete}
 use lib.ListN.{get_elem?}
 use Rattle.atomic_table.proofs.Lists.{set_else}
+use Rattle.gpu_word.proofs.Seats.{set_there}
 use Rattle.gpu_plan.specs.Plans.{PlanData}
 use Rattle.gpu_cmd.specs.Lawful.{places_of}
 use Rattle.gpu_plan.specs.Values.{value_at}
@@ -16,11 +17,6 @@ use Rattle.shm_words.specs.Views.{client_of, service_of, Sat, reach_of}
 use Rattle.shm_words.specs.Seen.{IsClient, IsService}
 use Rattle.atomic_table.specs.Table.{keeps, Allows}
 use Rattle.shm_words.specs.Rule.{Words, IsStoredNote, Fresh, InUse, Keeps}
-
-set_there : (l : List View) (i : ℕ) (a b : View) → get_elem? l i ≡ some a → get_elem? (set l i b) i ≡ some b
-set_there [] i a b e = absurd (some-ne-none a (sym e))
-set_there (x ∷ xs) zero a b e = refl
-set_there (x ∷ xs) (suc i) a b e = set_there xs i a b e
 
 -- in a table as it is made, the one view is the whole
 lone : (p : PlanData) (id : ℕ) (v : View) → get_elem? (Whole p ∷ []) id ≡ some v → v ≡ Whole p

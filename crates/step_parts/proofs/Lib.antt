@@ -1,4 +1,4 @@
-pub mod Plans
+mod Plans
 mod Claimed
-mod Asking
+pub mod Asking
 mod Executed

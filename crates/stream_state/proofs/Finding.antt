@@ -2,6 +2,7 @@
 use Rattle.std.proofs.Common.{◌≡◌, ℕ, ◌+◌, ◌-◌, ◌*◌, ◌%◌, ◌<◌, ◌≤◌, Bool, true, false, Option, Some, None, Ok, List, length, refl, sym, ap, ◌∙◌, arith, IsTrue}
 use Rattle.std.specs.Prelude.{◌==◌, ◌&&◌, nat_le}
 use Rattle.std.specs.Option.{option_map_or}
+use Rattle.std.proofs.lemmas.Bool.{and_parts}
 use Rattle.std.proofs.lemmas.Bool.Decides.{nat_tests}
 use Rattle.gpu_word.specs.Header.{size_of}
 use Rattle.gpu_cmd.specs.declared.command.Command.{Command}
@@ -25,14 +26,6 @@ use Rattle.stream_state.specs.Verdict.{has_block, has_bytes, checked_state}
 use Rattle.stream_state.specs.Accepted.{IsAccepted, HasTransfer, HasWords}
 use Rattle.stream_state.proofs.Accepting.{told, says}
 
-pub first_of : (a b : Bool) → IsTrue (a && b) → IsTrue a
-first_of true b h = refl
-first_of false b h = h
-
-pub second_of : (a b : Bool) → IsTrue (a && b) → IsTrue b
-second_of true b h = h
-second_of false b h = absurd (cc)
-
 -- the words of a range hold its bytes
 by_bytes : (b : Bool) (span : Span) (range : Range) → (range.bytes == 0) ≡ b → 0 < range.bytes → range.offset % 4 + range.bytes ≤ 4 * (places_from span range).count
 by_bytes true span range e h = absurd (grind (arith, nat_tests))
@@ -43,7 +36,7 @@ by_span None spans range e h b = absurd (cc)
 by_span (Some span) spans range e h b = rw e (by_bytes (range.bytes == 0) span range refl b)
 
 range_room : (areas : Areas) (range : Range) (others : Bool) → IsTrue (lies_in areas.memories range && others) → 0 < range.bytes → range.offset % 4 + range.bytes ≤ 4 * (places_in areas.memories range).count
-range_room areas range others h = by_span (span_at areas.memories range.memory) areas.memories range refl (first_of (lies_in areas.memories range) others h)
+range_room areas range others h = by_span (span_at areas.memories range.memory) areas.memories range refl (and_parts (lies_in areas.memories range) others h).0
 
 transfer_held : (areas : Areas) (words : List (ℕ × ℕ)) (range : Range) (others : Bool) → 0 < ring_words_in words → ring_words_in words + (places_in areas.memories range).count ≡ length words → IsTrue (lies_in areas.memories range && others) → HasTransfer words range.offset range.bytes
 transfer_held areas words range others some ring h = record {
@@ -56,7 +49,7 @@ transfer_held areas words range others some ring h = record {
 words_held : (areas : Areas) (words : List (ℕ × ℕ)) (command : Command) → 0 < ring_words_in words → ring_words_in words + (transfer_places areas command).count ≡ length words → IsTrue (has_memories areas command) → IsTrue (has_data (ring_words_in words) command && has_aligned_results command) → HasWords words command
 words_held areas words (SetBucketData bucket offset size memory memory_offset) some ring memories bytes = transfer_held areas words (record { memory = memory; offset = memory_offset; bytes = size }) true some ring memories
 words_held areas words (SetBucketDataImmediate bucket offset size) some ring memories bytes =
-    let fits : IsTrue (nat_le size (4 * (ring_words_in words - 4))) = first_of (has_data (ring_words_in words) (SetBucketDataImmediate bucket offset size)) (has_aligned_results (SetBucketDataImmediate bucket offset size)) bytes in
+    let fits : IsTrue (nat_le size (4 * (ring_words_in words - 4))) = (and_parts (has_data (ring_words_in words) (SetBucketDataImmediate bucket offset size)) (has_aligned_results (SetBucketDataImmediate bucket offset size)) bytes).0 in
     let whole : ring_words_in words + 0 ≡ length words = ring in
     grind (arith, nat_tests)
 words_held areas words (UploadRect image x y w h format memory memory_offset) some ring memories bytes = transfer_held areas words (record { memory = memory; offset = memory_offset; bytes = w * h * texel_bytes format }) true some ring memories
@@ -100,7 +93,7 @@ finds areas words state command size lawful bounded accepted =
       format = s.passed.1.format;
       slot = s.passed.1.slot;
       memories = s.passed.1.memories;
-      aligned = second_of (has_data (ring_words_in words) command) (has_aligned_results command) s.passed.1.bytes;
+      aligned = (and_parts (has_data (ring_words_in words) command) (has_aligned_results command) s.passed.1.bytes).1;
       entry = omega (arith, room.some);
       few = omega arith;
       some = omega (arith, s.ring, s.some);

@@ -3,6 +3,7 @@ use Rattle.std.proofs.Common.{◌≡◌, ℕ, zero, suc, ◌+◌, ◌*◌, ◌/�
 use Rattle.std.specs.Prelude.{◌==◌, nat_lt, nat_le, unwrap_or, if◌then◌else◌}
 use Rattle.std.specs.Option.{option_map_or}
 use Rattle.std.specs.List.{range_with_len, All}
+use Rattle.std.proofs.lemmas.Bool.{and_parts}
 use Rattle.std.proofs.lemmas.Bool.Decides.{nat_tests}
 use Rattle.std.proofs.lemmas.List.{length-take}
 use Rattle.std.proofs.lemmas.List.Elements.{All-nil, All-cons}
@@ -20,7 +21,7 @@ use Rattle.stream_state.specs.Writes.{Writes, word_from, first_words, words_writ
 use Rattle.stream_state.specs.State.{State}
 use Rattle.stream_state.specs.Steps.{header_in, command_in, place_at, writes_of, writes}
 use Rattle.stream_state.specs.Laws.{WritesAreThere}
-use Rattle.stream_state.proofs.Finding.{first_of, second_of, finds}
+use Rattle.stream_state.proofs.Finding.{finds}
 
 -- all places lie below an end
 Below : ℕ → Writes → Type 0
@@ -93,9 +94,11 @@ command_below areas (GetBucketStart bucket result_memory result_offset data_size
     let front : Range = record { memory = data_memory; offset = data_offset; bytes = data_size } in
     let data_lies : Bool = option_map_or (lies_in areas.results) (if data_size == 0 then None else Some front) true in
     let data_aligned : Bool = option_map_or is_aligned (if data_size == 0 then None else Some front) true in
-    let ends = range_ends areas size lawful (first_of (lies_in areas.results size) data_lies m) (first_of (is_aligned size) data_aligned a) in
+    let lies = and_parts (lies_in areas.results size) data_lies m in
+    let aligned = and_parts (is_aligned size) data_aligned a in
+    let ends = range_ends areas size lawful lies.0 aligned.0 in
     joined_below (words_in areas.results) (place_at areas result_memory result_offset, length (bytes_in state.buckets bucket)) (words_written (place_at areas data_memory data_offset) (take data_size (bytes_in state.buckets bucket))) (omega arith)
-    (data_below areas (data_size == 0) (bytes_in state.buckets bucket) front lawful refl (second_of (lies_in areas.results size) data_lies m) (second_of (is_aligned size) data_aligned a))
+    (data_below areas (data_size == 0) (bytes_in state.buckets bucket) front lawful refl lies.1 aligned.1)
 command_below areas (GetBucketData bucket offset size memory memory_offset) state lawful m a =
     few_below areas (record { memory = memory; offset = memory_offset; bytes = size }) (part (bytes_in state.buckets bucket) offset size) lawful m a (taken_few size (drop offset (bytes_in state.buckets bucket)))
 command_below areas _ state lawful m a = tt

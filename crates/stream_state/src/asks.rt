@@ -6,12 +6,11 @@ ghost use Rattle.stream_state.specs.Verdict.{has_bytes};
 ghost use Rattle.stream_state.specs.Steps.{joined, told, block_upload, upload_op, asked};
 ghost use Rattle.stream_state.specs.Accepted.{HasWords, BringsItsTexels, takes_memory};
 
-use crate::checks::upload_bytes;
 use crate::effect::Effect;
 use crate::ops::{plain_op, upload};
 use crate::state::StreamState;
 use crate::words::transfer_bytes;
-use gpu_cmd::{Command, Name};
+use gpu_cmd::{Command, Name, texels_bytes};
 use gpu_store::{Op, Rect};
 use gpu_word::Memory;
 
@@ -76,7 +75,7 @@ impl StreamState {
                 format,
                 bucket,
             } => {
-                let bytes = self.buckets.part(bucket, 0, upload_bytes(w, h, format));
+                let bytes = self.buckets.part(bucket, 0, texels_bytes(w, h, format));
                 let op = upload(self.alloc, image, Rect { x, y, w, h }, format, bytes)?;
                 Ok(Some(op))
             }
@@ -90,7 +89,7 @@ impl StreamState {
                 buffer,
                 offset,
             } => {
-                let count = upload_bytes(w, h, format);
+                let count = texels_bytes(w, h, format);
                 let bytes = self.buffers.part(buffer, offset, count);
                 let op = upload(self.alloc, image, Rect { x, y, w, h }, format, bytes)?;
                 Ok(Some(op))
@@ -119,7 +118,7 @@ impl StreamState {
                 memory_offset,
                 ..
             } => {
-                let count = upload_bytes(w, h, format);
+                let count = texels_bytes(w, h, format);
                 let bytes = transfer_bytes(self.alloc, words, memory_offset, count)?;
                 let op = upload(self.alloc, image, Rect { x, y, w, h }, format, &bytes)?;
                 Ok(Some(op))

@@ -1,23 +1,9 @@
 //! Checks 11 and 12: what a command finds among the buckets and buffers of its stream.
-ghost use Rattle.std.specs.Prelude.{◌≡◌, ◌*◌, ◌<◌, ◌^◌};
-ghost use Rattle.gpu_cmd.specs.Ranges.{texel_bytes};
+ghost use Rattle.std.specs.Prelude.{◌≡◌};
 ghost use Rattle.stream_state.specs.Verdict.{has_block, has_texels, has_bytes, checked_state};
 
 use crate::state::StreamState;
-use gpu_cmd::{CmdError, Command};
-use gpu_word::Format;
-
-// How many bytes the texels of a rectangle take in a format; none where the number is no format's.
-pub fn upload_bytes(w: u32, h: u32, format: u32) -> u128
-    ensures bytes { result ≡ w * h * texel_bytes format }
-    ensures small { result < 2 ^ 67 }
-{
-    let texel = match Format::of(format) {
-        Some(format) => format.bytes(),
-        None => 0,
-    };
-    u128::from(w) * u128::from(h) * u128::from(texel)
-}
+use gpu_cmd::{CmdError, Command, texels_bytes};
 
 impl StreamState {
     // Check 11: whether the bucket or buffer is there, or for CreateBuffer is not.
@@ -51,7 +37,7 @@ impl StreamState {
                 ..
             } => {
                 self.buckets
-                    .has_range(bucket, 0, upload_bytes(w, h, format))
+                    .has_range(bucket, 0, texels_bytes(w, h, format))
             }
             Command::UploadBuffer {
                 w,
@@ -62,7 +48,7 @@ impl StreamState {
                 ..
             } => {
                 self.buffers
-                    .has_range(buffer, offset, upload_bytes(w, h, format))
+                    .has_range(buffer, offset, texels_bytes(w, h, format))
             }
             _ => true,
         }

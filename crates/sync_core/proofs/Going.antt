@@ -4,7 +4,7 @@ use Rattle.std.specs.Prelude.{nat_lt, All, Option, Some, None, filter}
 use Rattle.std.specs.List.{list_any}
 use Rattle.std.proofs.lemmas.List.Folds.{Any-from_list_any, list_any_none}
 use Rattle.std.proofs.lemmas.List.Elements.{All-weaker, All-nil, All-cons, All-head, All-tail}
-use Rattle.std.proofs.lemmas.Bool.{or_parts}
+use Rattle.std.proofs.lemmas.Bool.{or_parts, eqb-true, eq-eqb}
 use Rattle.std.proofs.lemmas.Bool.Decides.{nat_tests}
 use Rattle.sync_core.specs.declared.wait.Number.{Number}
 use Rattle.sync_core.specs.declared.wait.Wait.{Wait}
@@ -17,7 +17,7 @@ use Rattle.sync_core.specs.Pending.{still, ends, wait_of, pending, has_wait_of, 
 use Rattle.sync_core.specs.Queues.{takes, leaves, passed, GoesLast}
 use Rattle.sync_core.proofs.Together.{three_parts}
 use Rattle.sync_core.proofs.Numbers.{Each, below_first, left_rises, left_differ}
-use Rattle.sync_core.proofs.Keeps.{All-pending, eqb_self, has_front}
+use Rattle.sync_core.proofs.Keeps.{All-pending, has_front}
 use Rattle.sync_core.proofs.Rising.{positions}
 
 module _ {X : Type 0} where
@@ -35,9 +35,6 @@ module _ {X : Type 0} where
           → filter q (cond b (x ∷ filter p xs) (filter p xs)) ≡ cond (b && q x) (x ∷ filter (λ y. p y && q y) xs) (filter (λ y. p y && q y) xs)
       by true rest = ap (λ (l : List X). cond (q x) (x ∷ l) l) rest
       by false rest = rest
-
-eqb_same : (a b : ℕ) → eqb a b ≡ true → a ≡ b
-eqb_same a b e = grind (arith, nat_tests)
 
 pub eqb_turn : (a b : ℕ) → eqb a b ≡ eqb b a
 eqb_turn a b = by (eqb a b) (eqb b a) refl refl
@@ -106,8 +103,8 @@ release_goes s r h w now =
         → (nat_lt (cond b (moved (events.Released r) (orders h + 1) (standing h w.target)) (standing h w.target)).release w.release && has_below w.order (cond b (moved (events.Released r) (orders h + 1) (standing h w.target)) (standing h w.target)).left)
         ≡ not (eqb w.target s && not (nat_lt (max (standing h s).release r) w.release))
     is true k low some =
-        subst (λ (u : ℕ). (nat_lt (max (standing h w.target).release r) w.release && has_below w.order (standing h w.target).left) ≡ not (eqb w.target u && not (nat_lt (max (standing h u).release r) w.release))) (sym (eqb_same s w.target k))
-        (reached (eqb w.target w.target) (nat_lt (max (standing h w.target).release r) w.release) (has_below w.order (standing h w.target).left) (eqb_self w.target) some)
+        subst (λ (u : ℕ). (nat_lt (max (standing h w.target).release r) w.release && has_below w.order (standing h w.target).left) ≡ not (eqb w.target u && not (nat_lt (max (standing h u).release r) w.release))) (sym (eqb-true s w.target k))
+        (reached (eqb w.target w.target) (nat_lt (max (standing h w.target).release r) w.release) (has_below w.order (standing h w.target).left) (eq-eqb w.target w.target refl) some)
     is false k low some = held (eqb w.target s) (not (nat_lt (max (standing h s).release r) w.release)) _ _ (eqb_turn w.target s ∙ k) low some
 
 -- no wait of the first number of a stream is pending
@@ -150,13 +147,13 @@ finish_goes s h w now free =
     has : (b : Bool) → eqb s w.stream ≡ b → contains_number w.order (standing h w.stream).left ≡ true → contains_number w.order (cond b (moved events.Finished (orders h + 1) (standing h w.stream)) (standing h w.stream)).left ≡ true
     has true own k =
         let off : eqb w.order (front_of (standing h s).left) ≡ false = second_off (eqb w.stream s) (eqb w.order (front_of (standing h s).left)) free (eqb_turn w.stream s ∙ own) in
-        among_rest w.order (standing h w.stream).left k (ap (λ (u : ℕ). eqb w.order (front_of (standing h u).left)) (sym (eqb_same s w.stream own)) ∙ off)
+        among_rest w.order (standing h w.stream).left k (ap (λ (u : ℕ). eqb w.order (front_of (standing h u).left)) (sym (eqb-true s w.stream own)) ∙ off)
     has false own k = k
 
     own_front : (ys : List Number) → Rises ys → nat_lt (standing h w.target).release w.release ≡ true
         → (nat_lt (standing h w.target).release w.release && has_below w.order ys) ≡ not (takes (passed w.target (first_order ys)) w)
-    own_front [] up low = freed (eqb w.target w.target) (nat_lt (standing h w.target).release w.release) (eqb_self w.target)
-    own_front (x ∷ xs) up low = by (nat_lt (standing h w.target).release w.release) (has_below w.order (x ∷ xs)) (eqb w.target w.target) (nat_lt x.order w.order) low (below_first w.order x xs up) (eqb_self w.target)
+    own_front [] up low = freed (eqb w.target w.target) (nat_lt (standing h w.target).release w.release) (eq-eqb w.target w.target refl)
+    own_front (x ∷ xs) up low = by (nat_lt (standing h w.target).release w.release) (has_below w.order (x ∷ xs)) (eqb w.target w.target) (nat_lt x.order w.order) low (below_first w.order x xs up) (eq-eqb w.target w.target refl)
       where
         by : (k b a n : Bool) → k ≡ true → b ≡ n → a ≡ true → (k && b) ≡ not (a && not n)
         by true b true n x y z = y ∙ sym (not_not n)
@@ -177,7 +174,7 @@ finish_goes s h w now free =
         → (nat_lt (cond b (moved events.Finished (orders h + 1) (standing h w.target)) (standing h w.target)).release w.release && has_below w.order (cond b (moved events.Finished (orders h + 1) (standing h w.target)) (standing h w.target)).left)
         ≡ not (takes (passed s (first_order (drop 1 (standing h s).left))) w)
     is true k low some =
-        subst (λ (u : ℕ). (nat_lt (standing h w.target).release w.release && has_below w.order (drop 1 (standing h w.target).left)) ≡ not (takes (passed u (first_order (drop 1 (standing h u).left))) w)) (sym (eqb_same s w.target k))
+        subst (λ (u : ℕ). (nat_lt (standing h w.target).release w.release && has_below w.order (drop 1 (standing h w.target).left)) ≡ not (takes (passed u (first_order (drop 1 (standing h u).left))) w)) (sym (eqb-true s w.target k))
         (own_front (drop 1 (standing h w.target).left) (rises_rest (standing h w.target).left (left_rises h w.target)) low)
     is false k low some = other_front (first_order (drop 1 (standing h s).left)) (eqb_turn w.target s ∙ k) (both (nat_lt (standing h w.target).release w.release) (has_below w.order (standing h w.target).left) low some)
 
@@ -187,10 +184,10 @@ not_of h s w off here =
     let found = Any-from_list_any (λ (x : Number). eqb x.order w.order) (standing h w.stream).left here in
     let apart : Each (λ k. found.1.order ≢ k) (standing h s).left = subst (λ (x : Number). Each (λ k. x.order ≢ k) (standing h s).left) found.3 (left_differ h w.stream s off found.0 found.1 found.2) in
     list_any_none (λ (x : Number). eqb x.order w.order) (standing h s).left
-    (All-weaker (λ (x : Number). found.1.order ≢ x.order) (λ (x : Number). eqb x.order w.order ≡ false) (λ x differs. by x (eqb x.order w.order) refl (λ same. differs (eqb_same found.1.order w.order found.4 ∙ sym same))) (standing h s).left apart)
+    (All-weaker (λ (x : Number). found.1.order ≢ x.order) (λ (x : Number). eqb x.order w.order ≡ false) (λ x differs. by x (eqb x.order w.order) refl (λ same. differs (eqb-true found.1.order w.order found.4 ∙ sym same))) (standing h s).left apart)
   where
     by : (x : Number) (b : Bool) → eqb x.order w.order ≡ b → (x.order ≡ w.order → ⊥) → eqb x.order w.order ≡ false
-    by x true e off = absurd (off (eqb_same x.order w.order e))
+    by x true e off = absurd (off (eqb-true x.order w.order e))
     by x false e off = e
 
 -- a wait of a number of a stream is that stream's
@@ -198,7 +195,7 @@ pub stream_of : (h : List SyncEvent) (s : ℕ) (w : Wait) → still (standing h)
 stream_of h s w now here = by (eqb w.stream s) refl
   where
     by : (b : Bool) → eqb w.stream s ≡ b → w.stream ≡ s
-    by true e = eqb_same w.stream s e
+    by true e = eqb-true w.stream s e
     by false e = absurd (cc (not_of h s w e (parts_of h w now).0))
 
 -- a loss or a close takes the own waits of its stream, and then the waits on it
@@ -239,7 +236,7 @@ leave_goes s d h w empty now = by (eqb s w.stream) refl
     by true e =
         own (contains_number w.order (moved d (orders h + 1) (standing h w.stream)).left) (contains_number w.order (standing h s).left) (k && b) (eqb w.target s)
         (ap (contains_number w.order) (empty (orders h + 1) (standing h w.stream)))
-        (ap (λ (u : ℕ). contains_number w.order (standing h u).left) (eqb_same s w.stream e) ∙ p.0)
+        (ap (λ (u : ℕ). contains_number w.order (standing h u).left) (eqb-true s w.stream e) ∙ p.0)
     by false e =
         other (contains_number w.order (standing h w.stream).left) (contains_number w.order (standing h s).left) (k && b) (eqb w.target s) p.0 (not_of h s w (eqb_turn w.stream s ∙ e) p.0) (on (eqb s w.target) refl)
 
@@ -274,8 +271,8 @@ blocked_of n s h (x ∷ xs) e m is =
       where
         of : (b : Bool) → eqb w.order x.order ≡ b → b ≡ (eqb w.stream s && b)
         of true k =
-            let own = stream_of h s w now (ap (λ (j : ℕ). contains_number j (standing h s).left) (eqb_same w.order x.order k) ∙ ap (contains_number x.order) e ∙ first) in
-            sym (ap (λ (u : ℕ). eqb u s && true) own ∙ ap (λ (c : Bool). c && true) (eqb_self s))
+            let own = stream_of h s w now (ap (λ (j : ℕ). contains_number j (standing h s).left) (eqb-true w.order x.order k) ∙ ap (contains_number x.order) e ∙ first) in
+            sym (ap (λ (u : ℕ). eqb u s && true) own ∙ ap (λ (c : Bool). c && true) (eq-eqb s s refl))
         of false k = off (eqb w.stream s)
           where
             off : (c : Bool) → false ≡ (c && false)

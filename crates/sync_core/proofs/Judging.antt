@@ -3,6 +3,7 @@ use Rattle.std.proofs.Common.{◌≡◌, ℕ, zero, suc, ◌+◌, ◌<◌, ◌�
 use Rattle.std.specs.Prelude.{All, Some, None, filter}
 use Rattle.std.proofs.lemmas.List.{append-nil}
 use Rattle.std.proofs.lemmas.List.Elements.{All-weaker, All-nil, All-cons, All-append, filter-append}
+use Rattle.std.proofs.lemmas.Bool.{eq-eqb}
 use Rattle.std.proofs.lemmas.Bool.Decides.{nat_tests}
 use Rattle.sync_core.specs.declared.wait.Number.{Number}
 use Rattle.sync_core.specs.declared.wait.Wait.{Wait}
@@ -10,7 +11,7 @@ use Rattle.sync_core.specs.declared.which.Which.TheVariants.{Of}
 use Rattle.sync_core.specs.Standing.{Standing, contains_number, first_order}
 use Rattle.sync_core.specs.Pending.{is_kept, judged, placed}
 use Rattle.sync_core.specs.Queues.{leaves}
-use Rattle.sync_core.proofs.Keeps.{filter_all, eqb_self}
+use Rattle.sync_core.proofs.Keeps.{filter_all}
 use Rattle.sync_core.proofs.Placing.{placed_last}
 use Rattle.sync_core.proofs.Going.{filter_twice, eqb_turn}
 
@@ -55,7 +56,7 @@ module _ (streams : ℕ) (f : ℕ → Standing) (s n i : ℕ) (fences : List (�
         ap (λ (l : List Wait). l ++ tail) last ∙ append_assoc ws (w ∷ []) tail
             ∙ ap (λ (b : Bool). ws ++ cond b (w ∷ tail) tail) (sym kept) ∙ step,
         ap (filter (leaves (Of n))) last ∙ filter-append (leaves (Of n)) ws (w ∷ [])
-            ∙ ap (λ (b : Bool). filter (leaves (Of n)) ws ++ cond (not b) (w ∷ []) []) (eqb_self n) ∙ append-nil (filter (leaves (Of n)) ws),
+            ∙ ap (λ (b : Bool). filter (leaves (Of n)) ws ++ cond (not b) (w ∷ []) []) (eq-eqb n n refl) ∙ append-nil (filter (leaves (Of n)) ws),
         subst (λ (l : List Wait). All (Upto n s (i + 1)) l) (sym last) (All-append (Upto n s (i + 1)) ws (w ∷ []) (upto_next n s i ws all) (All-cons (Upto n s (i + 1)) w [] (omega arith, λ same. (refl, omega arith)) (All-nil (Upto n s (i + 1))))),
       )
 

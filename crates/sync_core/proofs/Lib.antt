@@ -1,3 +1,4 @@
+pub mod Rows
 pub mod Together
 pub mod Lists
 pub mod Keeps

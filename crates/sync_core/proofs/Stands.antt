@@ -2,7 +2,7 @@
 use Rattle.std.proofs.Common.{◌≡◌, ◌≢◌, ℕ, zero, suc, ◌+◌, ◌-◌, ◌<◌, ◌≤◌, eqb, Bool, true, false, not, ◌&&◌, max, drop, List, [], ◌∷◌, ◌++◌, length, get_or, set, replicate, map, cond, refl, sym, ap, subst, ◌∙◌, arith, get_or-set_same, get_or-set_other}
 use Rattle.std.specs.Prelude.{All, filter}
 use Rattle.std.proofs.lemmas.List.Elements.{All-weaker}
-use Rattle.std.proofs.lemmas.List.{length-set, get_or_default}
+use Rattle.std.proofs.lemmas.List.{length-set}
 use Rattle.std.proofs.lemmas.Bool.Decides.{nat_tests}
 use Rattle.sync_core.specs.declared.wait.Number.{Number}
 use Rattle.sync_core.specs.declared.wait.Wait.{Wait}
@@ -18,6 +18,7 @@ use Rattle.sync_core.proofs.Keeps.{All-pending, ordered_ends, waited_ends}
 use Rattle.sync_core.proofs.Going.{Goes, filter_on, filter_twice, release_goes, finish_goes, leave_goes, all_free, goes_last}
 use Rattle.sync_core.proofs.Numbers.{left_drawn}
 use Rattle.sync_core.proofs.Rising.{pending_drawn}
+use Rattle.sync_core.proofs.Rows.{row_is, row_there}
 use Rattle.sync_core.specs.Core.{Core, StandsFor}
 
 at_same : (xs : List Standing) (i s t : ℕ) (x : Standing) → i + 1 ≡ s → i < length xs → s ≡ t → at (set xs i x) t ≡ x
@@ -230,13 +231,9 @@ waits_below old h st =
     subst (λ (l : List Wait). All (λ (w : Wait). w.order < old.drawn + 1) l) (sym st.pending)
     (All-weaker (λ (w : Wait). w.order ≤ orders h) (λ (w : Wait). w.order < old.drawn + 1) (λ w le. omega arith) (pending (length old.streams) h) (pending_drawn (length old.streams) h))
 
-at_index : (xs : List Standing) (s i : ℕ) (x : Standing) → i + 1 ≡ s → i < length xs → x ≡ get_or xs i x → x ≡ at xs s
-at_index xs zero i x is lt e = absurd (omega arith)
-at_index xs (suc k) i x is lt e = let same : k ≡ i = omega arith in e ∙ get_or_default xs i x nobody lt ∙ ap (λ (j : ℕ). get_or xs j nobody) (sym same)
-
 -- what was read at the index of a known stream
 pub at_read : (xs : List Standing) (s : ℕ) (x : Standing) → IsKnown (length xs) s → x ≡ get_or xs (s - 1) x → x ≡ at xs s
-at_read xs s x known e = let low = known.0 in let high = known.1 in at_index xs s (s - 1) x (omega arith) (omega arith) e
+at_read xs s x known e = e ∙ row_there nobody xs s x known ∙ sym (row_is nobody at (λ xs. refl) (λ xs k. refl) xs s)
 
 pub index_of : (n s : ℕ) → IsKnown n s → ((s - 1) + 1 ≡ s) × (s - 1 < n)
 index_of n s known = let low = known.0 in let high = known.1 in (omega arith, omega arith)

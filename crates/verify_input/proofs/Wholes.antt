@@ -6,6 +6,7 @@ use Rattle.std.proofs.lemmas.List.{append-nil}
 use Rattle.std.proofs.lemmas.List.Elements.{All-head, All-tail}
 use Rattle.script_words.specs.Text.{ends_line, words_of}
 use Rattle.journal_reader.specs.Reading.{HasNoFeed, joined, whole_lines}
+use Rattle.journal_reader.proofs.Lines.{lines_first}
 use Rattle.verify_input.specs.Parts.{words_on}
 use Rattle.verify_input.specs.Cuts.{IsFirstLine, IsLine}
 
@@ -38,10 +39,6 @@ few_whole (byte ∷ text) =
 
 -- ---- the first line of a text
 
-first_whole : (front rest : List ℕ) → HasNoFeed front → whole_lines (front ++ 10 ∷ rest) ≡ (front ++ 10 ∷ []) ∷ whole_lines rest
-first_whole [] rest none = refl
-first_whole (b ∷ front) rest none = rw (All-head (λ byte. ends_line byte ≡ false) b front none, first_whole front rest (All-tail (λ byte. ends_line byte ≡ false) b front none)) refl
-
 last_whole : (text : List ℕ) → 0 < length text → HasNoFeed text → whole_lines text ≡ text ∷ []
 last_whole [] some none = absurd (omega arith)
 last_whole (b ∷ []) some none = rw (All-head (λ byte. ends_line byte ≡ false) b [] none) refl
@@ -70,9 +67,9 @@ pub starts : (text line rest : List ℕ) → IsFirstLine text line rest → Star
 starts text line rest (none, inl e) = record {
   whole = line ++ 10 ∷ [];
   is = e ∙ sym (append_assoc line (10 ∷ []) rest);
-  lines = ap whole_lines e ∙ first_whole line rest none;
-  alone = first_whole line [] none;
-  closed = λ some x. ap whole_lines (append_assoc line (10 ∷ []) x) ∙ first_whole line x none;
+  lines = ap whole_lines e ∙ lines_first line rest none;
+  alone = lines_first line [] none;
+  closed = λ some x. ap whole_lines (append_assoc line (10 ∷ []) x) ∙ lines_first line x none;
   words = ap words_of (kept_front line none);
   some = omega (arith, length-append line (10 ∷ []));
 }
@@ -95,7 +92,7 @@ pub line_first : (line rest : List ℕ) → IsLine line → whole_lines (line ++
 line_first line rest one =
     ap (λ (line : List ℕ). whole_lines (line ++ rest)) one.is
     ∙ ap whole_lines (append_assoc one.line (10 ∷ []) rest)
-    ∙ first_whole one.line rest one.none
+    ∙ lines_first one.line rest one.none
     ∙ ap (λ (line : List ℕ). line ∷ whole_lines rest) (sym one.is)
 
 pub line_some : (line : List ℕ) → IsLine line → 0 < length line

@@ -1,5 +1,6 @@
 -- Laws on which no other proof rests, each applied once: if one of them said less, its case here could not be shown.
 use Rattle.std.proofs.Common.{◌≡◌, ℕ, suc, ◌+◌, ◌*◌, ◌^◌, ◌<◌, ◌≤◌, lit<, true, false, Some, Result, Ok, IfOk, List, [], ◌∷◌, ◌++◌, length, map, take, refl, sym, ap, subst, ◌∙◌, arith}
+use Rattle.std.proofs.lemmas.Bool.{both_ways}
 use Rattle.std.specs.Prelude.{AllPairs, Contains}
 use Rattle.std.specs.List.{All}
 use Rattle.std.proofs.lemmas.List.Elements.{All-head}
@@ -47,7 +48,6 @@ use Rattle.gpu_journal.specs.Output.{output}
 use Rattle.serial_laws.specs.Scripts.{AreLawfulPlans}
 use Rattle.serial_laws.specs.Going.{wants_memory}
 use Rattle.serial_laws.specs.Laws.{UnfinishedHasEvent, SerialWantsNoMemory}
-use Rattle.serial_laws.proofs.Ends.{clash}
 use Rattle.history_laws.specs.Laws.{ScriptsAreLawful, ScriptsRunLegally, ScriptsRunToTheEnd, DumpsMayBeTold, LaterMayBeTold, SameOutputIsSameHistory, SameRunIsSameHistory, SerialIsShort, MostEventsAreFew, SixAlwaysHolds}
 
 -- ---- headers
@@ -153,10 +153,10 @@ next_differs law n same = let equal = law n (n + 1) same in omega (arith, equal)
 
 -- no event's line is the head or the line of a dump
 no_head : EventsAreApart → OthersBegin → (event : Event) (behind other : List ℕ) → event_text event ++ behind ≡ journal_head ++ other → ⊥
-no_head apart others event behind other same = clash (is_other (event_text event ++ behind)) (ap is_other same ∙ others.head other) (apart event behind)
+no_head apart others event behind other same = both_ways (is_other (event_text event ++ behind)) (apart event behind) (ap is_other same ∙ others.head other)
 
 no_dump : EventsAreApart → OthersBegin → (event : Event) (behind other : List ℕ) (stream place index value : ℕ) → event_text event ++ behind ≡ dump_text stream place index value ++ other → ⊥
-no_dump apart others event behind other stream place index value same = clash (is_other (event_text event ++ behind)) (ap is_other same ∙ others.dump stream place index value other) (apart event behind)
+no_dump apart others event behind other stream place index value same = both_ways (is_other (event_text event ++ behind)) (apart event behind) (ap is_other same ∙ others.dump stream place index value other)
 
 -- ---- histories
 

@@ -3,10 +3,12 @@ use Rattle.gpu_house.proofs.Going.{goes_further, stops}
 use Rattle.gpu_run.specs.Turning.{HasStepped}
 use Rattle.gpu_run.proofs.RunTurns.{words_are, fetched_with, stepped_with}
 use Rattle.gpu_run.proofs.running.turn.Given.{Over}
+use Rattle.gpu_run.proofs.running.turn.Goals.{In_ok-step}
 use Rattle.gpu_run.proofs.running.turn.Goals as goal
 
-stepped-More : (g : Over) (c : goal.In-More g) → (more : Bool) → more ≡ goes_further c.in_ok-step.field-0.next → HasStepped g.N.Naming.plans c.args.house.now c.step.new.self c.args.clients.now c.args.run.now.run.stream c.step.new.run more
-stepped-More g c more answer =
+-- the step, however it was answered
+stepped : (g : Over) (c : In_ok-step g) → (more : Bool) → more ≡ goes_further c.in_ok-step.field-0.next → HasStepped g.N.Naming.plans c.args.house.now c.step.new.self c.args.clients.now c.args.run.now.run.stream c.step.new.run more
+stepped g c more answer =
     let p = g.N.Naming.plans in
     let run = c.args.run.now in
     let w = c.words-words.result.now in
@@ -18,34 +20,12 @@ stepped-More g c more answer =
     stepped_with p c.args.house.now c.step.new.self c.args.clients.now run c.fetch.new.self c.step.new.run c.in_ok-fetched.fetched.words w c.in_ok-step.field-0.next more q.lawful q.played q.runs has e.run e.met its_words _ _ t.steps t.slots t.still t.list answer
 
 pub returns-in-More : goal.returns-in-More
-returns-in-More g c = stepped-More g c true (sym (ap goes_further (sym c.into_next.ensures ∙ c.in-More.is)))
-
-stepped-FlushEnd : (g : Over) (c : goal.In-FlushEnd g) → (more : Bool) → more ≡ goes_further c.in_ok-step.field-0.next → HasStepped g.N.Naming.plans c.args.house.now c.step.new.self c.args.clients.now c.args.run.now.run.stream c.step.new.run more
-stepped-FlushEnd g c more answer =
-    let p = g.N.Naming.plans in
-    let run = c.args.run.now in
-    let w = c.words-words.result.now in
-    let q = c.requires in
-    let e = c.in_ok-fetched.ensures in
-    let t = c.in_ok-step.ensures in
-    let its_words = words_are p c.args.clients.now run.run.stream c.stream.result c.index-clients-stream.result w q.out.is_known q.out.many.as_clients c.stream.ensures c.index-clients-stream.is c.words-words.ensures in
-    let has = fetched_with p c.args.house.now c.args.clients.now run c.fetch.new.self c.in_ok-fetched.fetched.words c.words.result.now c.in_ok-fetched.fetched.facts c.in_ok-fetched.fetched.verdict w q.out q.there its_words q.more e.run e.met e.grows e.shows c.words.ensures.value e.facts c.words.ensures.copy e.belongs e.notes in
-    stepped_with p c.args.house.now c.step.new.self c.args.clients.now run c.fetch.new.self c.step.new.run c.in_ok-fetched.fetched.words w c.in_ok-step.field-0.next more q.lawful q.played q.runs has e.run e.met its_words _ _ t.steps t.slots t.still t.list answer
+returns-in-More g c = stepped g (goal.at.returns-in-More g c).In_ok-step true (sym (ap goes_further (sym c.into_next.ensures ∙ c.in-More.is)))
 
 pub returns-in-FlushEnd : goal.returns-in-FlushEnd
-returns-in-FlushEnd g c = stepped-FlushEnd g c true (sym (ap goes_further (sym c.into_next.ensures ∙ c.in-FlushEnd.is)))
-
-stepped-default : (g : Over) (c : goal.In_default g) → (more : Bool) → more ≡ goes_further c.in_ok-step.field-0.next → HasStepped g.N.Naming.plans c.args.house.now c.step.new.self c.args.clients.now c.args.run.now.run.stream c.step.new.run more
-stepped-default g c more answer =
-    let p = g.N.Naming.plans in
-    let run = c.args.run.now in
-    let w = c.words-words.result.now in
-    let q = c.requires in
-    let e = c.in_ok-fetched.ensures in
-    let t = c.in_ok-step.ensures in
-    let its_words = words_are p c.args.clients.now run.run.stream c.stream.result c.index-clients-stream.result w q.out.is_known q.out.many.as_clients c.stream.ensures c.index-clients-stream.is c.words-words.ensures in
-    let has = fetched_with p c.args.house.now c.args.clients.now run c.fetch.new.self c.in_ok-fetched.fetched.words c.words.result.now c.in_ok-fetched.fetched.facts c.in_ok-fetched.fetched.verdict w q.out q.there its_words q.more e.run e.met e.grows e.shows c.words.ensures.value e.facts c.words.ensures.copy e.belongs e.notes in
-    stepped_with p c.args.house.now c.step.new.self c.args.clients.now run c.fetch.new.self c.step.new.run c.in_ok-fetched.fetched.words w c.in_ok-step.field-0.next more q.lawful q.played q.runs has e.run e.met its_words _ _ t.steps t.slots t.still t.list answer
+returns-in-FlushEnd g c = stepped g (goal.at.returns-in-FlushEnd g c).In_ok-step true (sym (ap goes_further (sym c.into_next.ensures ∙ c.in-FlushEnd.is)))
 
 pub returns-in_default : goal.returns-in_default
-returns-in_default g c = stepped-default g c false (sym (stops c.in_ok-step.field-0.next (λ e. c.in_default.not-More (c.into_next.ensures ∙ e)) (λ e. c.in_default.not-FlushEnd (c.into_next.ensures ∙ e))))
+returns-in_default g c =
+    stepped g (goal.at.returns-in_default g c).In_ok-step false
+    (sym (stops c.in_ok-step.field-0.next (λ e. c.in_default.not-More (c.into_next.ensures ∙ e)) (λ e. c.in_default.not-FlushEnd (c.into_next.ensures ∙ e))))

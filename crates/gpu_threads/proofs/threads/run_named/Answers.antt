@@ -1,18 +1,11 @@
 use Rattle.std.proofs.Common.{List, sym, subst}
 use Rattle.atomic_table.specs.Seated.{TableId}
-use Rattle.gpu_plan.specs.Plans.{PlansData}
-use Rattle.gpu_threads.specs.Making.{AreFreshWriters}
 use Rattle.gpu_threads.specs.Rows.{AreShared}
-use Rattle.gpu_threads.proofs.Made.{fresh_writers, clients_named, clients_fit, shared_named}
+use Rattle.gpu_threads.proofs.Made.{writers_named, clients_named, clients_fit, shared_named}
 use Rattle.gpu_threads.proofs.threads.run_named.Goals as goal
 
 pub make-requires-clause-results : goal.make-requires-clause-results
-make-requires-clause-results g c =
-    let N = g.N.Naming in
-    let writers = c.args.parts.results.items in
-    fresh_writers c.args.plans N.result_words writers
-    (subst (λ (p : PlansData). AreFreshWriters p.plans N.result_words writers) (sym c.requires.plans)
-    (subst (λ (row : List TableId). AreFreshWriters N.plans.plans row writers) c.requires.results c.requires.fresh.writers))
+make-requires-clause-results g c = writers_named g.N.Naming.plans c.args.plans c.args.parts g.N.Naming.result_words c.requires.plans c.requires.results c.requires.fresh
 
 pub run_hall-requires-clause-clients : goal.run_hall-requires-clause-clients
 run_hall-requires-clause-clients g c κs within =

@@ -1,7 +1,7 @@
 use Rattle.std.specs.Prelude.{codes}
 use Rattle.std.specs.Fmt.{digits}
 use Rattle.script_generator.specs.Generator.{value_text}
-use Rattle.script_generator.proofs.Joining.{four_pieces}
+use Rattle.gpu_word.proofs.Pieces.{four_pieces}
 use Rattle.script_generator.proofs.script.push_wait.Goals as goal
 
 pub returns : goal.returns

@@ -8,7 +8,9 @@ use Rattle.gpu_house.specs.declared.answers.Next.TheVariants.{More}
 use Rattle.gpu_house.specs.Batches.{member_words, batch_words, AreChained, EndsExactly}
 use Rattle.gpu_house.specs.Committing.{Stage, AreDone, Commits, GoneInPart}
 use Rattle.gpu_house.proofs.Committed.{Kept, Took, Stands, stands_first, are_next, goes_on, commits, ready, kept_at, in_part, all_gone}
+use Rattle.gpu_house.proofs.house.House.step_batch.Given.{Over}
 use Rattle.gpu_house.proofs.house.House.step_batch.Goals as goal
+use Rattle.gpu_house.proofs.house.House.step_batch.Goals.{In-Some-member, In_ok-next}
 
 -- nothing else than an error is told of one
 given_err : {T E P : Type 0} (r : Result T E) → P → IfErr r (λ _. P)
@@ -34,74 +36,74 @@ loop-member-init g c =
       all = is;
     }
 
+-- ---- at the next member
+
+module _ (g : Over) (c : goal.In-Some-member g) where
+  -- before the batch, and as the loop has left it
+  abbrev old : Stage g.row.P.Denot g.row.P-Note.Denot g.row.P-Results.Denot
+  old = record { house = c.args.self.now; out = c.args.run.now; drawn = c.args.drawn.now.items }
+
+  abbrev now : Stage g.row.P.Denot g.row.P-Note.Denot g.row.P-Results.Denot
+  now = record { house = c.loop-member.self; out = c.loop-member.run; drawn = c.loop-member.drawn.items }
+
+  -- the members behind it
+  abbrev rest : List FetchedData
+  rest = c.next.new.self.rest.items
+
+  left : c.loop-member.member-iterator.rest.items ≡ c.in-Some-member.member ∷ rest
+  left = c.in-Some-member.ensures.steps.0
+
+  stands : Stands g.P.ServiceSide.side g.P.ServiceSide.mark g.P.ServiceSide.belongs g.P.ServiceSide.note_belongs g.P.ServiceSide.results_belong g.N.Naming.plans c.args.words.now old now c.loop-member.yielded (c.in-Some-member.member ∷ rest)
+  stands = subst (Stands g.P.ServiceSide.side g.P.ServiceSide.mark g.P.ServiceSide.belongs g.P.ServiceSide.note_belongs g.P.ServiceSide.results_belong g.N.Naming.plans c.args.words.now old now c.loop-member.yielded) left c.loop-member.invariant.stands
+
+  all : c.args.batch ≡ c.loop-member.yielded ++ c.in-Some-member.member ∷ rest
+  all = c.loop-member.invariant.all ∙ ap (λ (l : List FetchedData). c.loop-member.yielded ++ l) left
+
 pub step_member-requires-clause-list : goal.step_member-requires-clause-list
-step_member-requires-clause-list g c =
-    let S = g.P.ServiceSide in
-    let p = g.N.Naming.plans in
-    let old : Stage g.row.P.Denot g.row.P-Note.Denot g.row.P-Results.Denot = record { house = c.args.self.now; out = c.args.run.now; drawn = c.args.drawn.now.items } in
-    let now : Stage g.row.P.Denot g.row.P-Note.Denot g.row.P-Results.Denot = record { house = c.loop-member.self; out = c.loop-member.run; drawn = c.loop-member.drawn.items } in
-    let m = c.in-Some-member.member in
-    let rest = c.next.new.self.rest.items in
-    let left : c.loop-member.member-iterator.rest.items ≡ m ∷ rest = c.in-Some-member.ensures.steps.0 in
-    let st : Stands S.side S.mark S.belongs S.note_belongs S.results_belong p c.args.words.now old now c.loop-member.yielded (m ∷ rest) = subst (Stands S.side S.mark S.belongs S.note_belongs S.results_belong p c.args.words.now old now c.loop-member.yielded) left c.loop-member.invariant.stands in
-    are_next S.side S.mark S.belongs S.note_belongs S.results_belong p c.args.words.now old now c.loop-member.yielded m rest st
+step_member-requires-clause-list g c = are_next _ _ _ _ _ _ _ (stands g (goal.at.step_member-requires-clause-list g c).In-Some-member)
 
 pub returns-in_err-next-clause-err : goal.returns-in_err-next-clause-err
 returns-in_err-next-clause-err g c =
-    let S = g.P.ServiceSide in
-    let p = g.N.Naming.plans in
-    let old : Stage g.row.P.Denot g.row.P-Note.Denot g.row.P-Results.Denot = record { house = c.args.self.now; out = c.args.run.now; drawn = c.args.drawn.now.items } in
-    let now : Stage g.row.P.Denot g.row.P-Note.Denot g.row.P-Results.Denot = record { house = c.loop-member.self; out = c.loop-member.run; drawn = c.loop-member.drawn.items } in
+    let m = (goal.at.returns-in_err-next-clause-err g c).In-Some-member in
     let new : Stage g.row.P.Denot g.row.P-Note.Denot g.row.P-Results.Denot = record { house = c.step_member.new.self; out = c.step_member.new.run; drawn = c.step_member.new.drawn.items } in
-    let m = c.in-Some-member.member in
-    let rest = c.next.new.self.rest.items in
-    let left : c.loop-member.member-iterator.rest.items ≡ m ∷ rest = c.in-Some-member.ensures.steps.0 in
-    let st : Stands S.side S.mark S.belongs S.note_belongs S.results_belong p c.args.words.now old now c.loop-member.yielded (m ∷ rest) = subst (Stands S.side S.mark S.belongs S.note_belongs S.results_belong p c.args.words.now old now c.loop-member.yielded) left c.loop-member.invariant.stands in
-    let all : c.args.batch ≡ c.loop-member.yielded ++ m ∷ rest = c.loop-member.invariant.all ∙ ap (λ (l : List FetchedData). c.loop-member.yielded ++ l) left in
-    let part : GoneInPart S.side S.mark p old new (member_words (c.loop-member.yielded ++ m ∷ rest)) = in_part S.side S.mark S.belongs S.note_belongs S.results_belong p c.args.words.now old now c.loop-member.yielded m rest st new
-    record { house = c.in_err-next.ensures.err; out = c.in_err-next.ensures.same; drawn = c.in_err-next.ensures.untold } in
-    given_err _ (subst (λ (l : List FetchedData). GoneInPart S.side S.mark p old new (member_words l)) (sym all) part)
+    let part = in_part _ _ _ _ _ _ _ (stands g m) new record { house = c.in_err-next.ensures.err; out = c.in_err-next.ensures.same; drawn = c.in_err-next.ensures.untold } in
+    given_err _ (subst (λ (l : List FetchedData). GoneInPart g.P.ServiceSide.side g.P.ServiceSide.mark g.N.Naming.plans (old g m) new (member_words l)) (sym (all g m)) part)
+
+-- ---- once its step was made
+
+module _ (g : Over) (c : goal.In_ok-next g) where
+  abbrev member : goal.In-Some-member g
+  member = (goal.at.In_ok-next g c).In-Some-member
+
+  abbrev new : Stage g.row.P.Denot g.row.P-Note.Denot g.row.P-Results.Denot
+  new = record { house = c.step_member.new.self; out = c.step_member.new.run; drawn = c.step_member.new.drawn.items }
+
+  took : Took g.P.ServiceSide.side g.P.ServiceSide.mark g.P.ServiceSide.belongs g.P.ServiceSide.note_belongs g.P.ServiceSide.results_belong g.N.Naming.plans c.args.words.now (now g member) new c.in-Some-member.member c.in_ok-next.next
+  took =
+      let e = c.in_ok-next.ensures in
+      let kept : Kept g.P.ServiceSide.side g.P.ServiceSide.mark g.P.ServiceSide.belongs g.P.ServiceSide.note_belongs g.P.ServiceSide.results_belong g.N.Naming.plans c.args.words.now (now g member) new = record { slots = e.slots; wrote = e.results; still = e.still; list = e.list; draws = e.draws } in
+      record { steps = e.steps; end = e.end; drawn = e.drawn; kept = kept }
 
 pub loop-member-preserved : goal.loop-member-preserved
 loop-member-preserved g c =
-    let S = g.P.ServiceSide in
-    let p = g.N.Naming.plans in
-    let old : Stage g.row.P.Denot g.row.P-Note.Denot g.row.P-Results.Denot = record { house = c.args.self.now; out = c.args.run.now; drawn = c.args.drawn.now.items } in
-    let now : Stage g.row.P.Denot g.row.P-Note.Denot g.row.P-Results.Denot = record { house = c.loop-member.self; out = c.loop-member.run; drawn = c.loop-member.drawn.items } in
-    let new : Stage g.row.P.Denot g.row.P-Note.Denot g.row.P-Results.Denot = record { house = c.step_member.new.self; out = c.step_member.new.run; drawn = c.step_member.new.drawn.items } in
-    let m = c.in-Some-member.member in
-    let rest = c.next.new.self.rest.items in
-    let left : c.loop-member.member-iterator.rest.items ≡ m ∷ rest = c.in-Some-member.ensures.steps.0 in
-    let st : Stands S.side S.mark S.belongs S.note_belongs S.results_belong p c.args.words.now old now c.loop-member.yielded (m ∷ rest) = subst (Stands S.side S.mark S.belongs S.note_belongs S.results_belong p c.args.words.now old now c.loop-member.yielded) left c.loop-member.invariant.stands in
-    let e = c.in_ok-next.ensures in
-    let kept : Kept S.side S.mark S.belongs S.note_belongs S.results_belong p c.args.words.now now new = record { slots = e.slots; wrote = e.results; still = e.still; list = e.list; draws = e.draws } in
-    let took : Took S.side S.mark S.belongs S.note_belongs S.results_belong p c.args.words.now now new m c.in_ok-next.next = record { steps = e.steps; end = e.end; drawn = e.drawn; kept = kept } in
+    let path = goal.at.loop-member-preserved g c in
+    let m = path.In-Some-member in
     record {
-      stands = goes_on S.side S.mark S.belongs S.note_belongs S.results_belong p c.args.words.now old now c.loop-member.yielded m rest st new c.in_ok-next.next took c.in-More.is;
-      all = c.loop-member.invariant.all ∙ ap (λ (l : List FetchedData). c.loop-member.yielded ++ l) left ∙ sym (append_assoc c.loop-member.yielded (m ∷ []) rest);
+      stands = goes_on _ _ _ _ _ _ _ (stands g m) (took g path.In_ok-next) c.in-More.is;
+      all = all g m ∙ sym (append_assoc c.loop-member.yielded (c.in-Some-member.member ∷ []) (rest g m));
     }
 
 pub returns-in_default-2 : goal.returns-in_default-2
 returns-in_default-2 g c =
-    let S = g.P.ServiceSide in
-    let p = g.N.Naming.plans in
-    let old : Stage g.row.P.Denot g.row.P-Note.Denot g.row.P-Results.Denot = record { house = c.args.self.now; out = c.args.run.now; drawn = c.args.drawn.now.items } in
-    let now : Stage g.row.P.Denot g.row.P-Note.Denot g.row.P-Results.Denot = record { house = c.loop-member.self; out = c.loop-member.run; drawn = c.loop-member.drawn.items } in
-    let new : Stage g.row.P.Denot g.row.P-Note.Denot g.row.P-Results.Denot = record { house = c.step_member.new.self; out = c.step_member.new.run; drawn = c.step_member.new.drawn.items } in
-    let m = c.in-Some-member.member in
-    let rest = c.next.new.self.rest.items in
-    let left : c.loop-member.member-iterator.rest.items ≡ m ∷ rest = c.in-Some-member.ensures.steps.0 in
-    let st : Stands S.side S.mark S.belongs S.note_belongs S.results_belong p c.args.words.now old now c.loop-member.yielded (m ∷ rest) = subst (Stands S.side S.mark S.belongs S.note_belongs S.results_belong p c.args.words.now old now c.loop-member.yielded) left c.loop-member.invariant.stands in
-    let all : c.args.batch ≡ c.loop-member.yielded ++ m ∷ rest = c.loop-member.invariant.all ∙ ap (λ (l : List FetchedData). c.loop-member.yielded ++ l) left in
-    let e = c.in_ok-next.ensures in
-    let kept : Kept S.side S.mark S.belongs S.note_belongs S.results_belong p c.args.words.now now new = record { slots = e.slots; wrote = e.results; still = e.still; list = e.list; draws = e.draws } in
-    let took : Took S.side S.mark S.belongs S.note_belongs S.results_belong p c.args.words.now now new m c.in_ok-next.next = record { steps = e.steps; end = e.end; drawn = e.drawn; kept = kept } in
+    let path = goal.at.returns-in_default-2 g c in
+    let m = path.In-Some-member in
+    let k = path.In_ok-next in
     let stops : c.in_ok-next.next ≢ More = c.in_default-2.not-More in
-    let whole : Kept S.side S.mark S.belongs S.note_belongs S.results_belong p c.args.words.now old new = kept_at S.side S.mark S.belongs S.note_belongs S.results_belong p c.args.words.now old now c.loop-member.yielded m rest st new c.in_ok-next.next took in
+    let whole = kept_at _ _ _ _ _ _ _ (stands g m) (took g k) in
     record {
-      commits = subst (λ (l : List FetchedData). Commits S.side S.mark p old new (member_words l) c.in_ok-next.next) (sym all) (commits S.side S.mark S.belongs S.note_belongs S.results_belong p c.args.words.now old now c.loop-member.yielded m rest st new c.in_ok-next.next took stops);
-      end = e.end;
-      ready = ready S.side S.mark S.belongs S.note_belongs S.results_belong p c.args.words.now old now c.loop-member.yielded m rest st new c.in_ok-next.next took stops;
+      commits = subst (λ (l : List FetchedData). Commits g.P.ServiceSide.side g.P.ServiceSide.mark g.N.Naming.plans (old g m) (new g k) (member_words l) c.in_ok-next.next) (sym (all g m)) (commits _ _ _ _ _ _ _ (stands g m) (took g k) stops);
+      end = c.in_ok-next.ensures.end;
+      ready = ready _ _ _ _ _ _ _ (stands g m) (took g k) stops;
       draws = whole.draws;
       slots = whole.slots;
       results = whole.wrote;

@@ -1,16 +1,19 @@
 -- What is known of the run and of its slot is that of Homes.taken.
-use Rattle.std.proofs.Common.{◌≡◌, ◌-◌, eqb, false, is_some, None, List, refl, sym, ap, subst, ◌∙◌, arith, length-set}
+use Rattle.std.proofs.Common.{◌≡◌, ◌-◌, eqb, true, false, is_some, None, List, refl, sym, ap, subst, ◌∙◌, arith, length-set}
 use Rattle.gpu_journal.specs.declared.event.Event.{Event}
 use Rattle.house_core.specs.Core.{is_home, book_at}
 use Rattle.house_core.specs.Desks.{Out}
 use Rattle.house_core.proofs.Held.{core_legal}
 use Rattle.gpu_house.specs.Names.{table_at}
+use Rattle.gpu_house.specs.Slots.{SlotData}
 use Rattle.gpu_house.specs.Marks.{AreMarked}
 use Rattle.gpu_house.proofs.Keeping.{kept_still}
 use Rattle.gpu_house.proofs.Writings.{AllFit}
 use Rattle.gpu_house.proofs.Sides.{taken_fits}
-use Rattle.gpu_house.proofs.Homes.{taken, taken_list, went_out, is_out, order_positive}
+use Rattle.gpu_house.proofs.Homes.{Taken, taken, taken_list, went_out, is_out, order_positive}
+use Rattle.gpu_house.proofs.house.House.take.Given.{Over}
 use Rattle.gpu_house.proofs.house.House.take.Goals as goal
+use Rattle.gpu_house.proofs.house.House.take.Goals.{After-index_mut}
 
 -- no stream can run
 pub invariant_of-self : goal.invariant_of-self
@@ -24,33 +27,30 @@ invariant_of-self g c =
     record { core = c.self.inside.core; slots = slots; results = results } record { core = c.take.new.self; slots = slots; results = results } c.self.invariant
     c.in_err-carried.ensures.none refl refl refl refl (omega arith)
 
--- the stream is at home, so its slot has a side
-pub leave-requires : goal.leave-requires
-leave-requires g c =
+-- what is known of the run, and of the slot that its side leaves
+it : (g : Over) (c : goal.After-index_mut g) (left : SlotData g.row.P.Denot g.row.P-Note.Denot)
+    → Taken g.P.ServiceSide.side g.P.ServiceSide.table g.P.ServiceSide.mark g.P.ServiceSide.note_of g.N.Naming.plans (table_at g.N.Naming.words) (book_at g.N.Naming.books) c.in_ok-carried.carried c.self.inside.core c.take.new.self c.self.inside.slots.items c.stream.result c.index_mut.result.now left
+it g c left =
     let S = g.P.ServiceSide in
     let core = c.self.inside.core in
-    let run = c.in_ok-carried.carried in
     let told = c.in_ok-carried.ensures in
     let was = c.self.invariant in
-    let slot = c.index_mut.result.now in
-    let it = taken S.side S.table S.mark S.note_of g.N.Naming.plans (table_at g.N.Naming.words) (book_at g.N.Naming.books) run core c.take.new.self c.self.inside.slots.items c.stream.result slot slot
-    was.plans told.plan told.run (core_legal core was.core) was.slots c.stream.ensures c.index_mut.ensures.value was.homes in
-    it.fits.at_home ∙ ap (λ (o : Out). eqb o.order 0) told.home
+    taken S.side S.table S.mark S.note_of g.N.Naming.plans (table_at g.N.Naming.words) (book_at g.N.Naming.books) c.in_ok-carried.carried core c.take.new.self c.self.inside.slots.items c.stream.result c.index_mut.result.now left
+    was.plans told.plan told.run (core_legal core was.core) was.slots c.stream.ensures c.index_mut.ensures.value was.homes
+
+-- the stream is at home, so its slot has a side
+has_side : (g : Over) (c : goal.After-index_mut g) → is_some c.index_mut.result.now.side ≡ true
+has_side g c = (it g c c.index_mut.result.now).fits.at_home ∙ ap (λ (o : Out). eqb o.order 0) c.in_ok-carried.ensures.home
+
+pub leave-requires : goal.leave-requires
+leave-requires g c = has_side g c
 
 -- so it leaves
 pub unreachable-requires : goal.unreachable-requires
 unreachable-requires g c =
-    let S = g.P.ServiceSide in
-    let core = c.self.inside.core in
-    let run = c.in_ok-carried.carried in
-    let told = c.in_ok-carried.ensures in
-    let was = c.self.invariant in
-    let slot = c.index_mut.result.now in
-    let it = taken S.side S.table S.mark S.note_of g.N.Naming.plans (table_at g.N.Naming.words) (book_at g.N.Naming.books) run core c.take.new.self c.self.inside.slots.items c.stream.result slot slot
-    was.plans told.plan told.run (core_legal core was.core) was.slots c.stream.ensures c.index_mut.ensures.value was.homes in
-    let some = it.fits.at_home ∙ ap (λ (o : Out). eqb o.order 0) told.home in
-    let none : None ≡ slot.side = c.in-None.ensures.side in
-    let off : is_some slot.side ≡ false = ap is_some (sym none) in
+    let some = has_side g (goal.at.unreachable-requires g c).After-index_mut in
+    let none : None ≡ c.index_mut.result.now.side = c.in-None.ensures.side in
+    let off : is_some c.index_mut.result.now.side ≡ false = ap is_some (sym none) in
     cc
 
 pub invariant_of-result : goal.invariant_of-result
@@ -59,12 +59,9 @@ invariant_of-result g c =
     let core = c.self.inside.core in
     let run = c.in_ok-carried.carried in
     let told = c.in_ok-carried.ensures in
-    let was = c.self.invariant in
-    let slots = c.self.inside.slots.items in
-    let it = taken S.side S.table S.mark S.note_of g.N.Naming.plans (table_at g.N.Naming.words) (book_at g.N.Naming.books) run core c.take.new.self slots c.stream.result c.index_mut.result.now c.leave.new.self
-    was.plans told.plan told.run (core_legal core was.core) was.slots c.stream.ensures c.index_mut.ensures.value was.homes in
+    let known = it g (goal.at.invariant_of-result g c).After-index_mut c.leave.new.self in
     taken_fits S.side S.table S.mark S.note_of g.N.Naming.plans (table_at g.N.Naming.words) (book_at g.N.Naming.books) run core.past (is_home core.outs run.stream) c.in-Some.side c.in-Some.note c.index_mut.result.now
-    it.legal it.plan it.run_of (told.book ∙ ap (λ books. book_at books run.stream) was.booked) (sym c.in-Some.ensures.side) c.in-Some.ensures.note it.fits
+    known.legal known.plan known.run_of (told.book ∙ ap (λ books. book_at books run.stream) c.self.invariant.booked) (sym c.in-Some.ensures.side) c.in-Some.ensures.note known.fits
 
 pub invariant_of-self-2 : goal.invariant_of-self-2
 invariant_of-self-2 g c =
@@ -78,8 +75,7 @@ invariant_of-self-2 g c =
     let slots = c.self.inside.slots.items in
     let t = c.stream.result in
     let results = c.self.inside.results.items in
-    let it = taken S.side S.table S.mark S.note_of p (table_at g.N.Naming.words) (book_at g.N.Naming.books) run core now slots t c.index_mut.result.now c.leave.new.self
-    was.plans told.plan told.run (core_legal core was.core) was.slots c.stream.ensures c.index_mut.ensures.value was.homes in
+    let known = it g (goal.at.invariant_of-self-2 g c).After-index_mut c.leave.new.self in
     let waits = told.same in
     let out : Out = record { order = run.order; paused = false } in
     record {
@@ -87,8 +83,8 @@ invariant_of-self-2 g c =
       plans = waits.plans ∙ was.plans;
       booked = waits.books ∙ was.booked;
       slots = length-set slots (t - 1) c.leave.new.self ∙ was.slots;
-      homes = went_out S.side S.table S.mark S.note_of p (table_at g.N.Naming.words) (book_at g.N.Naming.books) run core now slots t c.index_mut.result.now c.leave.new.self it c.leave.ensures.slot waits.past out told.outs
-          (is_out now.outs run.stream out told.out (order_positive p core.past run it.run_of)) was.homes;
+      homes = went_out S.side S.table S.mark S.note_of p (table_at g.N.Naming.words) (book_at g.N.Naming.books) run core now slots t c.index_mut.result.now c.leave.new.self known c.leave.ensures.slot waits.past out told.outs
+          (is_out now.outs run.stream out told.out (order_positive p core.past run known.run_of)) was.homes;
       marked = subst (λ (h : List Event). AreMarked p g.N.Naming.base h c.self.inside.hooks) (sym waits.past) was.marked;
       result_count = was.result_count;
       results = subst (λ (h : List Event). AllFit S.takes S.written S.results_of (table_at g.N.Naming.result_words) p h results) (sym waits.past) was.results;
@@ -97,11 +93,5 @@ invariant_of-self-2 g c =
 pub returns-clause-list : goal.returns-clause-list
 returns-clause-list g c =
     let S = g.P.ServiceSide in
-    let core = c.self.inside.core in
-    let run = c.in_ok-carried.carried in
-    let told = c.in_ok-carried.ensures in
-    let was = c.self.invariant in
-    let slots = c.self.inside.slots.items in
-    let it = taken S.side S.table S.mark S.note_of g.N.Naming.plans (table_at g.N.Naming.words) (book_at g.N.Naming.books) run core c.take.new.self slots c.stream.result c.index_mut.result.now c.leave.new.self
-    was.plans told.plan told.run (core_legal core was.core) was.slots c.stream.ensures c.index_mut.ensures.value was.homes in
-    taken_list S.side S.table S.mark S.note_of g.N.Naming.plans (table_at g.N.Naming.words) (book_at g.N.Naming.books) run core c.take.new.self slots c.stream.result c.index_mut.result.now c.leave.new.self c.in-Some.side it (sym c.in-Some.ensures.side)
+    taken_list S.side S.table S.mark S.note_of g.N.Naming.plans (table_at g.N.Naming.words) (book_at g.N.Naming.books) c.in_ok-carried.carried c.self.inside.core c.take.new.self c.self.inside.slots.items c.stream.result c.index_mut.result.now c.leave.new.self c.in-Some.side
+    (it g (goal.at.returns-clause-list g c).After-index_mut c.leave.new.self) (sym c.in-Some.ensures.side)

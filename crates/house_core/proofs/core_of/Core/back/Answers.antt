@@ -1,9 +1,9 @@
-use Rattle.std.proofs.Common.{◌≡◌, ℕ, true, eqb, ap, sym, subst, ◌∙◌}
+use Rattle.std.proofs.Common.{◌≡◌, ℕ, true, eqb, ap, sym, subst, ◌∙◌, arith}
 use Rattle.house_core.specs.Desks.{DeskData, RunData, at_home, desk_at}
 use Rattle.house_core.specs.Core.{CoreData, with_out}
 use Rattle.house_core.specs.Invariant.{Parts, DeskFits, seen}
 use Rattle.house_core.proofs.Rows.{books_stay, outs_set}
-use Rattle.house_core.proofs.Fits.{fits_home}
+use Rattle.house_core.proofs.Fits.{fits_out}
 use Rattle.house_core.proofs.Again.{Place, seats_move, stays}
 use Rattle.house_core.proofs.Seen.{parts_of, place_of_run}
 use Rattle.house_core.proofs.core_of.Core.back.Goals as goal
@@ -30,7 +30,7 @@ module _ (c : goal.After-self-1) where
 pub invariant_of-self : goal.invariant_of-self
 invariant_of-self c =
     stays (now c) _ (s c) c.come.new.desk c.self.invariant (place c) (seats_move (now c) _ (s c) _ true (place c) c.give_back.ensures.seats (ap (λ (desk : DeskData). eqb desk.out.order 0) (came c)))
-    (subst (DeskFits (now c).plans (now c).past (s c)) (sym (came c)) (fits_home (now c).plans (now c).past (s c) (desk_at (now c).desks (s c)) (place c).fits))
+    (subst (DeskFits (now c).plans (now c).past (s c)) (sym (came c)) (fits_out (now c).plans (now c).past (s c) (desk_at (now c).desks (s c)) at_home (λ out. absurd (omega arith)) (place c).fits))
 
 pub returns-clause-same : goal.returns-clause-same
 returns-clause-same c = record {

@@ -1,6 +1,6 @@
 use Rattle.std.proofs.Common.{◌≡◌, false, sym, ap, subst, ◌∙◌}
 use Rattle.gpu_plan.specs.Plans.{PlanData, is_closed}
-use Rattle.step_parts.proofs.Plans.{plan_here}
+use Rattle.gpu_journal.proofs.Following.{plan_here}
 use Rattle.house_core.specs.Core.{CoreData, is_done}
 use Rattle.house_core.proofs.Seen.{parts_of, place_seen}
 use Rattle.house_core.proofs.Closes.{done_is, closed_is}

@@ -4,7 +4,7 @@ use Rattle.gpu_plan.specs.Plans.{PlanData, plan_of}
 use Rattle.sync_core.specs.Standing.{is_open}
 use Rattle.gpu_journal.specs.Waits.{standing_of}
 use Rattle.gpu_journal.specs.Legal.{MayClose}
-use Rattle.step_parts.proofs.Plans.{plan_here}
+use Rattle.gpu_journal.proofs.Following.{plan_here}
 use Rattle.house_core.specs.Walks.{HasWalked}
 use Rattle.house_core.specs.Desks.{DeskData, desk_at}
 use Rattle.house_core.specs.Core.{CoreData, books_of, outs_of}

@@ -12,7 +12,7 @@ use Rattle.gpu_journal.specs.World.{known}
 use Rattle.gpu_journal.specs.Waits.{sync_of, standing_of, drawn, fences_in}
 use Rattle.gpu_journal.specs.Serial.{order_event}
 use Rattle.gpu_journal.proofs.Worlds.{images_then}
-use Rattle.step_parts.proofs.Plans.{plan_here}
+use Rattle.gpu_journal.proofs.Following.{plan_here}
 use Rattle.serial_laws.proofs.Obeying.{order_obeys}
 use Rattle.run_laws.proofs.Needs.{need_order}
 use Rattle.run_laws.proofs.Ended.{next_open}

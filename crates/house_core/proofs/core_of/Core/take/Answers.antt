@@ -10,9 +10,10 @@ use Rattle.house_core.specs.Desks.{DeskData, RunData, desk_at, run_of}
 use Rattle.house_core.specs.Core.{CoreData, IsOfPlans, IsRunOf, book_at, out_at, outs_of, with_out, is_home}
 use Rattle.house_core.specs.Invariant.{Parts, DeskFits, seen}
 use Rattle.house_core.proofs.Rows.{books_stay, outs_set, book_at_desk, out_at_desk, desk_set_here}
+use Rattle.house_core.proofs.Fits.{fits_out}
 use Rattle.house_core.proofs.Again.{stays, seats_move}
 use Rattle.house_core.proofs.Seen.{parts_of}
-use Rattle.house_core.proofs.Taking.{IsChosen, HasLeft, chosen, chooses, first_of, first_positive, plan_there, not_none, fits_away, leaves}
+use Rattle.house_core.proofs.Taking.{IsChosen, HasLeft, chosen, chooses, first_of, first_positive, plan_there, not_none, leaves}
 use Rattle.house_core.proofs.core_of.Core.take.Goals as goal
 
 -- the place that was found is that of the desk's next flush
@@ -76,7 +77,7 @@ module _ (c : goal.After-self-2-1) where
 pub invariant_of-self-2 : goal.invariant_of-self-2
 invariant_of-self-2 c =
     stays (now c) _ (s c) c.take-2.new.desk c.self.invariant (is c).place (seats_move (now c) _ (s c) _ false (is c).place c.take.ensures.seats (ap (λ (desk : DeskData). eqb desk.out.order 0) (left c) ∙ not_none c.in-Some.order (first_positive (now c).plans (now c).past (s c) c.in-Some.order (first c))))
-    (subst (DeskFits (now c).plans (now c).past (s c)) (sym (left c)) (fits_away (now c).plans (now c).past (s c) c.in-Some.order _ (is c).place.fits (run_begins (now c).plans (now c).past (s c) c.in-Some.order (first c) (is c).runs.free)))
+    (subst (DeskFits (now c).plans (now c).past (s c)) (sym (left c)) (fits_out (now c).plans (now c).past (s c) (desk_at (now c).desks (s c)) (away c).out (λ _. run_begins (now c).plans (now c).past (s c) c.in-Some.order (first c) (is c).runs.free) (is c).place.fits))
 
 pub returns-clause-choice : goal.returns-clause-choice
 returns-clause-choice c = ap (λ (run : RunData). Some run.stream) (run c) ∙ c.in_ok-stream.ensures.choice ∙ chooses (now c) c.self.invariant ∙ ap (λ (v : CoreData). choice_at_home v.plans v.past (is_home v.outs)) c.self.view_is

@@ -2,8 +2,8 @@ use Rattle.std.proofs.Common.{◌≡◌, ◌+◌, ◌<◌, [], ◌∷◌, Some, 
 use Rattle.std.specs.Prelude.{slice_get}
 use Rattle.std.proofs.lemmas.Option.{slice_get_read}
 use Rattle.gpu_plan.specs.declared.plan.Action.{Action}
-use Rattle.gpu_plan.proofs.Passing.{bound_within}
-use Rattle.house_core.proofs.Walking.{one_flush, few_behind, walked_more, closes_here, never_closes}
+use Rattle.gpu_plan.proofs.Passing.{flush_count_most, bound_within}
+use Rattle.house_core.proofs.Walking.{few_behind, walked_more, closes_here, never_closes}
 use Rattle.house_core.proofs.walk.Walk.comes_to_close.Goals as goal
 
 -- what is read at a position is the action there
@@ -25,7 +25,7 @@ returns-then-not-passes-clause-close c =
 pub overflow_add-self : goal.overflow_add-self
 overflow_add-self c =
     let less = few_behind c.args.actions.now c.args.finished c.args.greatest c.loop-self.self c.loop-self.invariant in
-    let more = one_flush c.index-actions-self.result in
+    let more = flush_count_most c.index-actions-self.result in
     let counted = c.flush_count.ensures in
     let few = c.requires.few in
     let low = c.loop-self-test.true in

@@ -1,5 +1,6 @@
 use Rattle.std.proofs.Common.{◌+◌, sym, ap, ◌∙◌}
-use Rattle.house_tests.proofs.Flushing.{put_counts, flush_left, flush_mark}
+use Rattle.gpu_fetch.proofs.Counting.{put_counts}
+use Rattle.house_tests.proofs.Flushing.{flush_left, flush_mark}
 use Rattle.house_tests.proofs.tests.plain_words.flushed.Goals as goal
 
 pub returns-then-is_flush-clause-side : goal.returns-then-is_flush-clause-side

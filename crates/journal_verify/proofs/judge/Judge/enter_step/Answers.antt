@@ -9,7 +9,7 @@ use Rattle.stream_state.specs.Laws.{IsTaken}
 use Rattle.sync_core.specs.Core.{StandsFor, left_of}
 use Rattle.sync_core.specs.Events as sync
 use Rattle.gpu_journal.specs.declared.event.Event.TheVariants.{Step}
-use Rattle.gpu_journal.specs.World.{drawn_by}
+use Rattle.gpu_journal.specs.World.{drawn_by, greatest_after}
 use Rattle.gpu_journal.specs.Waits.{deed_asked}
 use Rattle.gpu_journal.specs.Replaying.{IsWithin}
 use Rattle.gpu_journal.proofs.Worlds.{within_stepped}
@@ -17,7 +17,7 @@ use Rattle.gpu_journal.proofs.Following.{plan_here, state_here}
 use Rattle.journal_verify.specs.declared.judge.Judge.TheInside.{Inside}
 use Rattle.journal_verify.specs.Kept.{JudgeData, IsWatch}
 use Rattle.journal_verify.specs.Faults.{kept_state}
-use Rattle.journal_verify.specs.Entered.{FitsPlans, HasEntered, counts_of, effect_in, token_after}
+use Rattle.journal_verify.specs.Entered.{FitsPlans, HasEntered, counts_of, effect_in}
 use Rattle.journal_verify.proofs.Turning.{front_known, watch_here, is_watch_here, fits_turned}
 use Rattle.journal_verify.proofs.judge.Judge.enter_step.Goals as goal
 
@@ -73,7 +73,7 @@ returns-clause-entered c =
       was = c.index_mut-2.result.now;
       now = c.tell.new.watch;
       here = watch_here p old s c.index_mut-2.result.now fits known c.index_mut-2.ensures.value;
-      moved = subst (λ (e : Effect). counts_of c.tell.new.watch ≡ record (counts_of c.index_mut-2.result.now) { token = token_after e c.index_mut-2.result.now.token }) told c.in_ok-tell.ensures.counts;
+      moved = subst (λ (e : Effect). counts_of c.tell.new.watch ≡ record (counts_of c.index_mut-2.result.now) { token = greatest_after e c.index_mut-2.result.now.token }) told c.in_ok-tell.ensures.counts;
       put = refl;
       drawn = refl;
       core = λ g stands. subst (λ (e : Effect). StandsFor c.act.new.scene.sync (sync.noted s (deed_asked p e) g)) told (does.waits g stands);
