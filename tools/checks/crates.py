@@ -6,7 +6,6 @@ A file of src/, specs/ or proofs/ names a library by a path: `Rattle.NAME.` in a
 `NAME::` or `use NAME`. What a remark says is no name.
 """
 
-import os
 import re
 
 LIST, TABLE = "crates.txt", "docs/ARCHITECTURE.md"
@@ -58,13 +57,9 @@ def check(top, tally):
         tally.tell(f"{LIST}: {crate}", f"no file of it names {needless[0]}" if needless else None)
 
 
-def plant(top):
-    """Lists a library that its crate never names. The file keeps its age, so that no program is older than it."""
-    path = top / LIST
-    text, age = path.read_text(encoding="utf-8"), path.stat()
+def planted(top):
+    """What the last line of the list ends with, and the same with a library that its crate never names."""
     crate, libraries = list(listed(top))[-1]
-    line = f": {' '.join(libraries)}\n"
-    needless = next(name for name, _ in listed(top) if name not in named(top / "crates" / crate))
-    assert line in text and needless != crate
-    path.write_text(text.replace(line, f"{line[:-1]} {needless}\n", 1), encoding="utf-8")
-    os.utime(path, ns=(age.st_atime_ns, age.st_mtime_ns))
+    needless = next(name for name, _ in listed(top) if name not in named(top / "crates" / crate) and name != crate)
+    end = f": {' '.join(libraries)}\n"
+    return end, f"{end[:-1]} {needless}\n"

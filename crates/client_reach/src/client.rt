@@ -1,4 +1,4 @@
-ghost use Rattle.std.specs.Prelude.{◌≡◌, ◌≤◌, ◌<◌, ℕ, List, [], ◌∷◌, length, IfOk, OnOk};
+ghost use Rattle.std.specs.Prelude.{◌≡◌, ◌≤◌, List, [], ◌∷◌, length, IfOk, OnOk};
 ghost use Rattle.std.specs.List.{All};
 ghost use Rattle.std.specs.Bool.{Decides};
 ghost use Rattle.gpu_plan.specs.declared.plan.Action.{Action};

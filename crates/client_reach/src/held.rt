@@ -1,4 +1,4 @@
-ghost use Rattle.std.specs.Prelude.{◌≡◌, ◌+◌, ◌≤◌, ◌<◌, ℕ, List, length, slice_index, IfOk};
+ghost use Rattle.std.specs.Prelude.{◌≡◌, ◌+◌, ◌≤◌, ◌<◌, List, length, slice_index, IfOk};
 ghost use Rattle.std.specs.List.{All};
 ghost use Rattle.gpu_plan.specs.declared.plan.Action.{Action};
 ghost use Rattle.gpu_plan.specs.Plans.{IsWithin};

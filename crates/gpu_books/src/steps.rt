@@ -1,6 +1,6 @@
 // The four kinds of step on a book.
-ghost use Rattle.std.specs.Prelude.{◌≡◌, [], Some, length};
-ghost use Rattle.gpu_books.specs.declared.table.View.TheVariants.{Full, Joined};
+ghost use Rattle.std.specs.Prelude.{◌≡◌, Some};
+ghost use Rattle.gpu_books.specs.declared.table.View.TheVariants.{Joined};
 ghost use Rattle.gpu_books.specs.Views.{numbers_of, joined_of};
 ghost use Rattle.gpu_books.specs.Seen.{half_of, IsHalf, IsFull};
 

@@ -1,6 +1,6 @@
-ghost use Rattle.std.specs.Prelude.{◌≡◌, ◌+◌, ◌*◌, ◌≤◌, ◌<◌, ◌^◌, IsTrue};
+ghost use Rattle.std.specs.Prelude.{◌≡◌, ◌+◌, ◌≤◌, ◌<◌, ◌^◌, IsTrue};
 ghost use Rattle.gpu_cmd.specs.Lawful.{IsLawfulAreas, places_of};
-ghost use Rattle.gpu_cmd.specs.Ranges.{places_from, places_in};
+ghost use Rattle.gpu_cmd.specs.Ranges.{places_in};
 ghost use Rattle.gpu_cmd.specs.Checks.{is_aligned, lies_in};
 
 use crate::areas::{Areas, Span, span_at};

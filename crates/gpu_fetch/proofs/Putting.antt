@@ -1,17 +1,16 @@
 -- Puts that follow one another.
-use Rattle.std.proofs.Common.{◌≡◌, ◌≢◌, ℕ, zero, suc, ◌+◌, ◌-◌, ◌≤◌, ◌<◌, ◌⊎◌, inl, inr, eqb, true, false, Option, None, Some, List, [], ◌∷◌, length, get_or, take, refl, sym, ap, subst, ◌∙◌, arith}
+use Rattle.std.proofs.Common.{◌≡◌, ◌≢◌, ℕ, zero, suc, ◌+◌, ◌-◌, ◌≤◌, ◌<◌, ◌⊎◌, inl, inr, eqb, true, false, Option, None, Some, List, [], ◌∷◌, length, take, refl, sym, subst, ◌∙◌, arith}
 use Rattle.std.proofs.lemmas.Bool.Decides.{eqb_tells}
 use Rattle.std.proofs.lemmas.Option.{slice_get_within}
 use Rattle.std.specs.Prelude.{slice_get}
 use Rattle.std.specs.Option.{IsSomeAnd}
 use Rattle.gpu_plan.specs.declared.plan.Action.{Action}
-use Rattle.gpu_plan.specs.declared.plan.Action.TheVariants.{Put, Flush, Finish, Token, Close}
 use Rattle.gpu_plan.specs.Plans.{PlanData}
-use Rattle.gpu_plan.specs.Passes.{flushes, passes, passes_if_there, bound}
+use Rattle.gpu_plan.specs.Passes.{flushes, bound}
 use Rattle.gpu_plan.proofs.Passing.{bound_one_further}
 use Rattle.gpu_fetch.proofs.Beside.{put_passes}
 use Rattle.gpu_fetch.specs.Side.{SideData}
-use Rattle.gpu_fetch.specs.Plain.{PlainData, ArePuts, IsNext, IsPut, IsBeside, IsNoteBeside}
+use Rattle.gpu_fetch.specs.Plain.{PlainData, ArePuts, IsNext, IsPut, IsBeside}
 
 -- none where nothing is between
 pub no_puts : (actions : List Action) (from : ℕ) → ArePuts actions from from

@@ -1,4 +1,4 @@
-ghost use Rattle.std.specs.Prelude.{◌≡◌, ◌<◌, [], ◌∷◌, ◌++◌, IsOk, IfErr, IfOk, MatchResult};
+ghost use Rattle.std.specs.Prelude.{◌≡◌, ◌<◌, [], ◌∷◌, IsOk, IfErr, IfOk, MatchResult};
 ghost use Rattle.gpu_cmd.specs.Lawful.{places_of};
 ghost use Rattle.shm_words.specs.Seen.{NoteData};
 ghost use Rattle.gpu_fetch.specs.Side.{MayFetch, with_words};

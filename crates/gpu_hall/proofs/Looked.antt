@@ -1,5 +1,5 @@
 -- What viewers saw of the journal, once the versions that they looked at were told.
-use Rattle.std.proofs.Common.{◌≡◌, ℕ, ◌-◌, ◌+◌, ◌<◌, ◌≤◌, Option, Some, None, List, length, refl, sym, ap, subst, ◌∙◌, arith}
+use Rattle.std.proofs.Common.{◌≡◌, ◌-◌, ◌+◌, ◌<◌, ◌≤◌, Option, Some, None, List, length, refl, sym, ap, subst, ◌∙◌, arith}
 use Rattle.std.specs.Prelude.{slice_get, option_map}
 use Rattle.std.specs.List.{All}
 use Rattle.std.proofs.lemmas.Option.{slice_get_within, get_or_from_slice_get}
@@ -10,8 +10,7 @@ use Rattle.live_view.specs.declared.look.Look.{Look}
 use Rattle.live_view.specs.declared.look.Sight.{Sight}
 use Rattle.live_view.specs.Looks.{look_of, IsOf}
 use Rattle.gpu_journal.specs.declared.event.Event.{Event}
-use Rattle.gpu_journal.specs.World.{replay}
-use Rattle.gpu_hall.specs.Views.{first_events, IsVersionOf, ShowAll, whole_version}
+use Rattle.gpu_hall.specs.Views.{IsVersionOf, ShowAll, whole_version}
 use Rattle.gpu_hall.specs.Looks.{IsLookOf}
 
 -- a look of a version is one that the version tells

@@ -1,5 +1,5 @@
 //! Runs leave the hall, and what they have fetched comes back.
-ghost use Rattle.std.specs.Prelude.{◌≡◌, [], ◌∷◌, drop, length, true, false, IfSome, IfNone};
+ghost use Rattle.std.specs.Prelude.{◌≡◌, [], ◌∷◌, drop, true, false, IfSome, IfNone};
 ghost use Rattle.sync_core.specs.Standing.{is_open};
 ghost use Rattle.gpu_journal.specs.declared.event.Event.TheVariants.{Finish, Lost};
 ghost use Rattle.gpu_journal.specs.declared.event.Why.TheVariants.{Memory};

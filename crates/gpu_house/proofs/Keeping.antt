@@ -19,7 +19,7 @@ use Rattle.gpu_house.specs.Marks.{AreMarked}
 use Rattle.gpu_house.specs.House.{HouseData, HouseInvariant}
 use Rattle.gpu_house.proofs.Sides.{over_slot, same_slot}
 use Rattle.gpu_house.proofs.Homes as homes
-use Rattle.gpu_house.proofs.Homes.{others_event, others_none, same_outs, all_kept}
+use Rattle.gpu_house.proofs.Homes.{others_event, same_outs, all_kept}
 use Rattle.gpu_house.proofs.Endings.{marked_again, marked_roomier}
 use Rattle.gpu_house.proofs.Writings.{AllFit}
 

@@ -1,6 +1,5 @@
 ghost use Rattle.std.specs.Prelude.{◌≡◌, [], length, map, replicate, true, IfOk, IfSome};
 ghost use Rattle.std.specs.List.{All};
-ghost use Rattle.atomic_table.specs.Seated.{TableId};
 ghost use Rattle.gpu_plan.specs.Passes.{greatest};
 ghost use Rattle.sync_core.specs.Standing.{IsKnown, is_open};
 ghost use Rattle.wait_hooks.specs.Marks.{mark};

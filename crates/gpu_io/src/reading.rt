@@ -1,4 +1,4 @@
-ghost use Rattle.std.specs.Prelude.{◌≡◌, ◌+◌, ◌<◌, ◌≤◌, ◌^◌, ℕ, List, Some, length, vec_len, IfOk, IfSome, IsErrOf, MatchResult, OnOk};
+ghost use Rattle.std.specs.Prelude.{◌≡◌, ◌<◌, ◌≤◌, ◌^◌, ℕ, List, Some, length, vec_len, IfOk, IfSome, IsErrOf, MatchResult, OnOk};
 ghost use Rattle.gpu_io.specs.Faults.{HasRisen};
 ghost use Rattle.gpu_io.specs.declared.reading.ReadError.TheVariants.{Fault, Memory};
 ghost use Rattle.gpu_io.specs.Whole.{most_bytes, ReadsAll, ReadsAtMost, ReadsMoreThan, IsExcused};

@@ -1,5 +1,6 @@
 -- The serial history of the rule for one thread: of each history it gives the one event that follows.
 use Rattle.std.specs.Prelude.{◌≡◌, ℕ, zero, suc, ◌+◌, ◌*◌, Bool, true, false, not, ◌&&◌, ◌||◌, ◌==◌, nat_lt, Option, Some, None, option_map, unwrap_or, is_some, Result, Ok, Err, List, [], ◌∷◌, length, take, slice_get, sum_by, if◌then◌else◌}
+use Rattle.gpu_word.specs.Outcome.{when}
 use Rattle.gpu_cmd.specs.declared.command.Command.{Command}
 use Rattle.gpu_cmd.specs.declared.error.CmdError.{CmdError}
 use Rattle.gpu_cmd.specs.Copied.{fetched}
@@ -22,11 +23,6 @@ use Rattle.gpu_journal.specs.Waits.{standing_of, left_of, front, drawn, pending_
 use Rattle.gpu_journal.specs.Facts.{facts_at, verdict_at, reach}
 
 -- ---- choices among streams
-
--- this, where a test holds
-abbrev pub when : {A : Type 0} → Bool → A → Option A
-when true x = Some x
-when false x = None
 
 -- the first of the streams 1 to n that passes a test
 abbrev pub first : (ℕ → Bool) → ℕ → Option ℕ

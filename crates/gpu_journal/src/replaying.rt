@@ -1,14 +1,12 @@
 //! Replay: the images that a history leaves, from its steps alone.
-ghost use Rattle.std.specs.Prelude.{◌≡◌, ◌+◌, ◌-◌, ◌<◌, ◌^◌, [], length, map, replicate, reverse, slice_index, slice_set, Some, IfOk, OnOk};
+ghost use Rattle.std.specs.Prelude.{◌≡◌, ◌<◌, length, reverse, Some, IfOk, OnOk};
 ghost use Rattle.gpu_word.specs.Header.{size_of};
 ghost use Rattle.gpu_cmd.specs.Lawful.{IsLawfulAreas};
 ghost use Rattle.gpu_cmd.specs.Table.{command_said};
-ghost use Rattle.sync_core.specs.Standing.{IsKnown};
-ghost use Rattle.stream_state.specs.State.{first_state, noted};
+ghost use Rattle.stream_state.specs.State.{noted};
 ghost use Rattle.stream_state.specs.Steps.{values_of, header_in, command_in, effect, stepped};
 ghost use Rattle.stream_state.specs.Laws.{IsTaken};
 ghost use Rattle.gpu_journal.specs.World.{drawn_by, replay};
-ghost use Rattle.gpu_plan.specs.Plans.{plan_of};
 ghost use Rattle.gpu_journal.specs.Legal.{IsLegal};
 ghost use Rattle.gpu_journal.specs.Replaying.{IsWithin};
 

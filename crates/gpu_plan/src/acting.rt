@@ -1,9 +1,9 @@
-ghost use Rattle.std.specs.Prelude.{◌≡◌, ◌+◌, ◌<◌, ◌≤◌, ℕ, [], ◌∷◌, true, false, length, map, List, ◌^◌, is_ok, Ok, Err, IfOk, IfSome, MatchOption};
+ghost use Rattle.std.specs.Prelude.{◌≡◌, ◌+◌, ◌<◌, ◌≤◌, ℕ, [], ◌∷◌, false, ◌^◌, Ok, Err, IfOk, IfSome, MatchOption};
 ghost use Rattle.gpu_cmd.specs.Lawful.{IsLawfulAreas, places_of};
 ghost use Rattle.gpu_plan.specs.Plans.{IsWithin, HasFewFences, is_flush};
 ghost use Rattle.script_lines.specs.Outcome.{Gives, or_error};
 ghost use Rattle.script_lines.specs.declared.fault.Kind.TheVariants.{Order};
-ghost use Rattle.gpu_plan.specs.Adding.{acting, fresh, acted, flushed, dumped, area_of, put_into};
+ghost use Rattle.gpu_plan.specs.Adding.{acting, fresh, acted, flushed, dumped, area_of};
 ghost use Rattle.gpu_plan.specs.Drafts.{shown, begun, Becomes, WerePut, WereRefused, TellsWhy};
 
 use crate::begun::Begun;

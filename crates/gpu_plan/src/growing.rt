@@ -1,10 +1,9 @@
-ghost use Rattle.std.specs.Prelude.{◌≡◌, ◌+◌, ◌<◌, ◌≤◌, ◌++◌, [], ◌∷◌, false, length, take, map, is_some, OnOk, OnErr, IfOk, IfSome, IfNone, OnSome};
+ghost use Rattle.std.specs.Prelude.{◌≡◌, ◌+◌, ◌<◌, ◌≤◌, ◌++◌, [], ◌∷◌, false, length, take, is_some, OnOk, OnErr, IfOk, IfSome, IfNone, OnSome};
 ghost use Rattle.gpu_cmd.specs.Lawful.{places_of};
 ghost use Rattle.gpu_cmd.specs.Spans.{AreTiles, words_in};
 ghost use Rattle.script_words.specs.Left.{values_left};
-ghost use Rattle.script_words.specs.Numbers.{value_of};
 ghost use Rattle.gpu_plan.specs.Plans.{IsWithin, HasFewFences, is_closed, ring_alone};
-ghost use Rattle.gpu_plan.specs.Adding.{fresh_plan, puts};
+ghost use Rattle.gpu_plan.specs.Adding.{fresh_plan};
 ghost use Rattle.gpu_plan.specs.Putting.{can_put, word_puts, with_word_puts};
 ghost use Rattle.gpu_plan.specs.declared.plan.Action.TheVariants.{Finish};
 

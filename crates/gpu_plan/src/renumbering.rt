@@ -1,5 +1,4 @@
 ghost use Rattle.std.specs.Prelude.{◌≡◌, ◌≤◌, length, map, slice_index, IfOk};
-ghost use Rattle.gpu_plan.specs.Plans.{number_of};
 ghost use Rattle.gpu_plan.specs.Named.{names_in, IsVersion, AreLawfulNames};
 ghost use Rattle.gpu_plan.specs.Adding.{streams};
 ghost use Rattle.gpu_plan.specs.Drafts.{shown};

@@ -1,8 +1,8 @@
 -- Rows that begin with stream 1: one place has another value, and all others are the same.
-use Rattle.std.proofs.Common.{◌≡◌, ◌≢◌, ℕ, zero, suc, ◌-◌, ◌<◌, eqb, true, List, length, get_or, set, refl, sym, ap, ◌∙◌}
+use Rattle.std.proofs.Common.{◌≡◌, ◌≢◌, ℕ, ◌-◌, ◌<◌, eqb, true, List, length, get_or, set, refl, sym, ap, ◌∙◌}
 use Rattle.std.proofs.lemmas.Bool.{ne_eqb}
 use Rattle.sync_core.specs.Standing.{IsKnown}
-use Rattle.sync_core.proofs.Rows.{row, row_same, row_other, row_there}
+use Rattle.sync_core.proofs.Rows.{row, row_is, row_same, row_other, row_there}
 use Rattle.house_core.specs.Core.{is_home, with_out}
 use Rattle.house_core.specs.Desks.{Out, at_home}
 use Rattle.gpu_house.specs.Slots.{SlotData, no_slot, slot_at, with_slot}
@@ -12,8 +12,7 @@ use Rattle.gpu_run.specs.Clients.{ClientData, no_client, client_at}
 -- ---- clients
 
 client_row : (clients : List ClientData) (s : ℕ) → client_at clients s ≡ row no_client clients s
-client_row clients zero = refl
-client_row clients (suc k) = refl
+client_row = row_is no_client client_at (λ clients. refl) (λ clients k. refl)
 
 pub client_same : (clients : List ClientData) (s : ℕ) (client : ClientData) → IsKnown (length clients) s → client_at (set clients (s - 1) client) s ≡ client
 client_same clients s client known = client_row (set clients (s - 1) client) s ∙ row_same no_client clients s client known

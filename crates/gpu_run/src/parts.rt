@@ -1,4 +1,4 @@
-ghost use Rattle.std.specs.Prelude.{◌≡◌, [], ◌∷◌, ◌++◌, List, IfOk, OnOk};
+ghost use Rattle.std.specs.Prelude.{[], ◌∷◌, ◌++◌, List, IfOk, OnOk};
 ghost use Rattle.gpu_plan.specs.Plans.{PlanData};
 ghost use Rattle.gpu_run.specs.Making.{AreFreshFor};
 

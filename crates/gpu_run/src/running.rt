@@ -1,5 +1,5 @@
 //! The third phase of a round: streams run, one after the other.
-ghost use Rattle.std.specs.Prelude.{◌≡◌, ◌≢◌, ◌-◌, ◌<◌, ◌≤◌, length, true, false, Some, IfOk, OnOk};
+ghost use Rattle.std.specs.Prelude.{◌≡◌, ◌≢◌, ◌<◌, ◌≤◌, length, true, false, Some, IfOk, OnOk};
 ghost use Rattle.gpu_journal.specs.Serial.{is_runnable, begins_round, count, runner, choice, IsPlayed};
 ghost use Rattle.serial_laws.specs.Scripts.{AreLawfulPlans};
 ghost use Rattle.gpu_run.specs.Clients.{done_at};

@@ -1,5 +1,5 @@
 //! The conversion of packed bytes into texels.
-ghost use Rattle.std.specs.Prelude.{◌≡◌, ◌+◌, ◌*◌, ◌%◌, ◌≤◌, ◌<◌, length, drop, IfOk};
+ghost use Rattle.std.specs.Prelude.{◌≡◌, ◌+◌, ◌%◌, ◌≤◌, ◌<◌, length, drop, IfOk};
 ghost use Rattle.gpu_word.specs.Formats.{format_bytes};
 ghost use Rattle.gpu_store.specs.Conversion.{texel, widened, texel_565, texel_4444, texel_of, texels_of};
 

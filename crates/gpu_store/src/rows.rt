@@ -1,5 +1,5 @@
 //! Rows of texels: a rectangle is drawn one row at a time, and each row is written as a slice.
-ghost use Rattle.std.specs.Prelude.{◌≡◌, ◌+◌, ◌*◌, ◌≤◌, ◌<◌, length, slice_index};
+ghost use Rattle.std.specs.Prelude.{◌+◌, ◌*◌, ◌≤◌, length, slice_index};
 ghost use Rattle.gpu_store.specs.Rows.{IsWritten, IsDrawn};
 
 use crate::rect::Rect;

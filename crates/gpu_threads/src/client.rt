@@ -1,4 +1,4 @@
-ghost use Rattle.std.specs.Prelude.{◌≡◌, ◌+◌, ◌<◌, ◌≤◌, [], length, map, slice_get, None, true, if◌then◌else◌, IsSome, IfSome, IfNone, IfOk, OnSome, IsTrue};
+ghost use Rattle.std.specs.Prelude.{◌≡◌, ◌<◌, ◌≤◌, [], map, slice_get, None, true, if◌then◌else◌, IsSome, IfSome, IfNone, IfOk, OnSome, IsTrue};
 ghost use Rattle.crossbeam_queue.specs.Fifo.{Held};
 ghost use Rattle.gpu_cmd.specs.Spans.{words_in};
 ghost use Rattle.gpu_plan.specs.Plans.{is_closed};

@@ -1,12 +1,5 @@
 //! The service's side of a stream whose client reads its results.
-ghost use Rattle.std.specs.Prelude.{◌≡◌, ℕ, ◌<◌, [], ◌∷◌, IsOk, IfErr, IfOk, IsTrue, MatchResult};
-ghost use Rattle.std.specs.List.{All};
-ghost use Rattle.std.specs.Option.{IfSome};
-ghost use Rattle.atomic_table.specs.Seated.{TableId};
-ghost use Rattle.gpu_word.specs.Results.{writes_of};
-ghost use Rattle.gpu_cmd.specs.Lawful.{places_of};
-ghost use Rattle.shm_words.specs.Seen.{NoteData};
-ghost use Rattle.gpu_fetch.specs.Side.{MayFetch, with_words, told_more};
+ghost use Rattle.std.specs.Prelude.{◌≡◌};
 ghost use Rattle.gpu_fetch.specs.Shared.{side_of, IsOf, IsNoteOf};
 
 use gpu_fetch::ServiceSide;

@@ -16,3 +16,8 @@ unless false refusal = Err refusal
 abbrev pub or_error : {A F : Type 0} → F → Option A → Result A F
 or_error refusal None = Err refusal
 or_error refusal (Some x) = Ok x
+
+-- the value, where the test holds
+abbrev pub when : {A : Type 0} → Bool → A → Option A
+when true x = Some x
+when false x = None

@@ -1,5 +1,5 @@
 -- Whether a client has come to its Close, as its desk tells it.
-use Rattle.std.proofs.Common.{◌≡◌, ◌↔◌, ℕ, ◌-◌, true, false, eqb, Bool, Some, List, [], ◌∷◌, length, get_or, refl, sym, ap, ◌∙◌, IsTrue}
+use Rattle.std.proofs.Common.{◌≡◌, ◌↔◌, ℕ, ◌-◌, true, false, eqb, Bool, Some, List, [], ◌∷◌, length, get_or, sym, ap, ◌∙◌, IsTrue}
 use Rattle.std.specs.Prelude.{slice_get, not, ◌&&◌}
 use Rattle.gpu_plan.specs.declared.plan.Action.{Action}
 use Rattle.gpu_plan.specs.declared.plan.Action.TheVariants as actions

@@ -1,12 +1,12 @@
 -- A walk over a client's actions goes on, and what it found still holds.
-use Rattle.std.proofs.Common.{◌≡◌, ◌↔◌, ℕ, ◌+◌, ◌<◌, ◌≤◌, max, true, false, Option, Some, None, List, [], ◌∷◌, length, take, sym, ap, ◌∙◌, arith, IsTrue}
+use Rattle.std.proofs.Common.{◌≡◌, ◌↔◌, ℕ, ◌+◌, ◌<◌, ◌≤◌, true, false, Option, Some, List, [], ◌∷◌, length, take, sym, ap, ◌∙◌, arith, IsTrue}
 use Rattle.std.specs.Prelude.{slice_get}
 use Rattle.std.proofs.Math.Nat.{le-max_right}
 use Rattle.std.proofs.lemmas.Option.{slice_get_within}
 use Rattle.gpu_plan.specs.declared.plan.Action.{Action}
 use Rattle.gpu_plan.specs.declared.plan.Action.TheVariants.{Close}
 use Rattle.gpu_plan.specs.Passes.{flush_count, flushes, passes, passes_behind, passes_if_there, bound}
-use Rattle.gpu_plan.proofs.Passing.{flushes_one_further, flushes_within, bound_one_further, passes_below_bound, bound_within, bound_grows_by_greatest}
+use Rattle.gpu_plan.proofs.Passing.{flushes_one_further, flushes_within, bound_one_further, passes_below_bound, bound_grows_by_greatest}
 use Rattle.stream_state.specs.declared.effect.Effect.{Effect}
 use Rattle.stream_state.specs.declared.effect.Effect.TheVariants.{Nothing, Token, Release, Wait, WaitName, Pixels, Results}
 use Rattle.gpu_journal.specs.World.{greatest_after}

@@ -1,5 +1,5 @@
-ghost use Rattle.std.specs.Prelude.{◌≡◌, ◌↔◌, ◌==◌, ◌&&◌, ◌+◌, ◌<◌, ◌≤◌, ◌^◌, [], ◌∷◌, true, false, length, slice_get, Some, IfSome, IfNone, IsTrue, IfOk, OnOk, OnErr};
-ghost use Rattle.gpu_books.specs.Seen.{HalfData, blank_half};
+ghost use Rattle.std.specs.Prelude.{◌≡◌, ◌↔◌, ◌==◌, ◌&&◌, ◌+◌, ◌<◌, ◌≤◌, ◌^◌, [], ◌∷◌, true, false, length, slice_get, Some, IsTrue, IfOk, OnOk, OnErr};
+ghost use Rattle.gpu_books.specs.Seen.{blank_half};
 ghost use Rattle.gpu_plan.specs.declared.plan.Action.TheVariants.{Close};
 ghost use Rattle.gpu_plan.specs.Passes.{bound};
 ghost use Rattle.house_core.specs.Walks.{HasWalked};

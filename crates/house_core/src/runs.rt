@@ -1,5 +1,5 @@
 //! Runs leave the house and come back.
-ghost use Rattle.std.specs.Prelude.{◌≡◌, ◌<◌, ◌≤◌, [], length, true, false, option_map, IfSome, IfNone};
+ghost use Rattle.std.specs.Prelude.{◌≡◌, ◌<◌, ◌≤◌, [], true, false, option_map, IfSome, IfNone};
 ghost use Rattle.sync_core.specs.Standing.{is_open};
 ghost use Rattle.gpu_journal.specs.declared.event.Event.TheVariants.{Finish, Lost};
 ghost use Rattle.gpu_journal.specs.declared.event.Why.TheVariants.{Memory};

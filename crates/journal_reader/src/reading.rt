@@ -1,5 +1,4 @@
-ghost use Rattle.std.specs.Prelude.{◌≡◌, ◌+◌, ◌≤◌, ◌<◌, ◌∷◌, ◌++◌, length, take, drop, position, IfOk, IfErr, IfSome, MatchOption};
-ghost use Rattle.script_words.specs.Text.{ends_line};
+ghost use Rattle.std.specs.Prelude.{◌≡◌, ◌+◌, ◌≤◌, ◌∷◌, ◌++◌, length, IfOk, IfErr, IfSome, MatchOption};
 ghost use Rattle.journal_reader.specs.Reading.{HasNoFeed, IsJournal, IsFault};
 
 use crate::event::event;

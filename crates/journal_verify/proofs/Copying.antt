@@ -16,7 +16,7 @@ use Rattle.gpu_cmd.specs.Copied.{value_in, ring_places, places_decoded, places_h
 use Rattle.gpu_cmd.proofs.Copies.{put_out_of_range, places_in, same_place, values_at, header_stops, header_goes_on}
 use Rattle.gpu_cmd.proofs.Heads.{headed_some}
 use Rattle.stream_state.specs.Steps.{values_of}
-use Rattle.gpu_journal.specs.Serial.{when}
+use Rattle.gpu_word.specs.Outcome.{when}
 use Rattle.journal_verify.specs.Copy.{is_row, transfer_read, entries_read, header_read, copy_read}
 
 -- ---- places that follow one another

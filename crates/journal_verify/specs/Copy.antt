@@ -8,7 +8,7 @@ use Rattle.gpu_cmd.specs.declared.shape.Shape.{Shape}
 use Rattle.gpu_cmd.specs.declared.decoded.Decoded.{Decoded}
 use Rattle.gpu_cmd.specs.Checks.{headed, decoded}
 use Rattle.stream_state.specs.Steps.{values_of}
-use Rattle.gpu_journal.specs.Serial.{when}
+use Rattle.gpu_word.specs.Outcome.{when}
 
 -- the places of the words follow one another from this one on
 abbrev pub is_row : ℕ → List (ℕ × ℕ) → Bool

@@ -1,7 +1,7 @@
-ghost use Rattle.std.specs.Prelude.{◌≡◌, ◌≢◌, ◌≤◌, Ok, IfOk, OnOk};
+ghost use Rattle.std.specs.Prelude.{◌≡◌, ◌≢◌, ◌≤◌, Ok, IfOk};
 ghost use Rattle.gpu_cmd.specs.Lawful.{IsLawfulFacts};
 ghost use Rattle.gpu_cmd.specs.Checks.{headed};
-ghost use Rattle.stream_state.specs.Steps.{values_of, header_in};
+ghost use Rattle.stream_state.specs.Steps.{header_in};
 ghost use Rattle.journal_verify.specs.Copy.{is_row, transfer_read, entries_read, copy_read};
 
 use gpu_cmd::{CmdError, Command, Decoded, Shape, StreamFacts, decode, head};

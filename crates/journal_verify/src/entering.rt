@@ -1,5 +1,5 @@
 //! What each event but a step does to what is kept.
-ghost use Rattle.std.specs.Prelude.{◌≡◌, ◌+◌, ◌<◌, ◌^◌, List, [], ◌∷◌, false, length, slice_get, Some, OnOk};
+ghost use Rattle.std.specs.Prelude.{◌≡◌, ◌+◌, ◌<◌, ◌^◌, List, ◌∷◌, false, length, slice_get, Some, OnOk};
 ghost use Rattle.gpu_plan.specs.Plans.{plan_of};
 ghost use Rattle.sync_core.specs.Standing.{IsKnown};
 ghost use Rattle.sync_core.specs.Events.{SyncEvent, Ordered, Finished, WasLost, WasClosed};

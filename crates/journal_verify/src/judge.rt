@@ -1,11 +1,9 @@
-ghost use Rattle.std.specs.Prelude.{◌≡◌, ◌≢◌, ◌+◌, ◌-◌, ◌<◌, ◌≤◌, ◌^◌, List, [], length, slice_get, slice_set, Some, None, Ok, IfOk, OnOk, option_copied};
+ghost use Rattle.std.specs.Prelude.{◌≡◌, ◌+◌, ◌<◌, ◌^◌, length, IfOk, option_copied};
 ghost use Rattle.gpu_cmd.specs.Lawful.{IsLawfulFacts};
-ghost use Rattle.gpu_plan.specs.Plans.{plan_of};
-ghost use Rattle.gpu_journal.specs.Facts.{put_in};
 ghost use Rattle.sync_core.specs.Standing.{IsKnown};
 ghost use Rattle.journal_verify.specs.Kept.{JudgeData, watch_of};
-ghost use Rattle.journal_verify.specs.Faults.{is_open_in, order_fault, flush_in, kept_state, kept_facts, are_held, verdict_outcome, fetch_outcome, finish_fault, memory_fault, close_fault, fault_of};
-ghost use Rattle.journal_verify.specs.Entered.{FitsPlans, HasEntered};
+ghost use Rattle.journal_verify.specs.Faults.{is_open_in, order_fault, flush_in, kept_state, kept_facts, are_held, verdict_outcome, fetch_outcome};
+ghost use Rattle.journal_verify.specs.Entered.{FitsPlans};
 
 use crate::copy::copy;
 use crate::outcome::Outcome;

@@ -1,5 +1,5 @@
 //! The rules of each event, and then what it does.
-ghost use Rattle.std.specs.Prelude.{◌≡◌, ◌<◌, ◌^◌, length, None, IfOk, OnOk};
+ghost use Rattle.std.specs.Prelude.{◌≡◌, None, IfOk, OnOk};
 ghost use Rattle.journal_verify.specs.Faults.{order_fault, step_fault, lost_fault, fetch_outcome, finish_fault, memory_fault, close_fault, fault_of};
 ghost use Rattle.journal_verify.specs.Entered.{FitsPlans, HasCounted, HasEntered};
 

@@ -4,10 +4,10 @@ ghost use Rattle.live_view.specs.Versions.{blank, IsLatest};
 ghost use Rattle.live_view.specs.Fronts.{count_of};
 ghost use Rattle.live_view.specs.Nexts.{next_of};
 
-use crate::front::{Add, Front, Nothing, Rising};
+use crate::front::{Add, Front, Rising};
 use crate::next::Next;
 use crate::version::Version;
-use logbook::{Offer, Plain, Seen, Start, Word};
+use logbook::{Plain, Seen, Start, Word};
 use std::marker::Model;
 
 /// The list of versions, to which one writer adds.

@@ -1,4 +1,4 @@
-ghost use Rattle.std.specs.Prelude.{◌≡◌, ◌+◌, ◌*◌, ◌<◌, ◌≤◌, ◌++◌, IfOk, OnOk};
+ghost use Rattle.std.specs.Prelude.{◌≡◌, ◌+◌, ◌*◌, ◌≤◌, ◌++◌, IfOk, OnOk};
 ghost use Rattle.std.specs.List.{flat_map};
 ghost use Rattle.script_generator.specs.Draws.{after_draws};
 ghost use Rattle.script_generator.specs.Generator.{number_text, value_text, wait_words, clear_words, copy_words, upload_words, fence_words, block, round_text, rounds, start_text, stream_lines, generated};

@@ -1,7 +1,6 @@
-ghost use Rattle.std.specs.Prelude.{◌≡◌, ◌+◌, ◌≤◌, ◌<◌, ◌^◌, length, map, Some, None, if◌then◌else◌, IfOk, IfSome};
-ghost use Rattle.std.specs.List.{list_all};
+ghost use Rattle.std.specs.Prelude.{◌≡◌, ◌≤◌, ◌^◌, length, IfOk, IfSome};
 ghost use Rattle.script_words.specs.Left.{words_left, values_left};
-ghost use Rattle.script_words.specs.Numbers.{decimal_of, long_decimal_of, is_value, value_of};
+ghost use Rattle.script_words.specs.Numbers.{decimal_of, long_decimal_of};
 ghost use Rattle.script_lines.specs.Outcome.{Gives, or_error};
 ghost use Rattle.script_lines.specs.Shown.{begun_shown, fill_begun_shown, put_shown, fill_shown, values_counted};
 ghost use Rattle.script_lines.specs.Said.{priority_of, none_said, one_said, two_said, numbered_said, named_said, stream_said, put_begun, put_said, fill_begun, fill_said};

@@ -1,4 +1,4 @@
-ghost use Rattle.std.specs.Prelude.{◌≡◌, ◌≤◌, length, reverse, IfOk};
+ghost use Rattle.std.specs.Prelude.{◌≤◌, length, reverse, IfOk};
 ghost use Rattle.run_output.specs.Runs.{run_text};
 ghost use Rattle.gpu_io.specs.Whole.{most_bytes};
 ghost use Rattle.script_main.specs.declared.command.Command.TheVariants.{RunOnThreads};

@@ -1,4 +1,4 @@
-ghost use Rattle.std.specs.Prelude.{◌≡◌, ◌↔◌, ℕ, ◌≤◌, ◌^◌, ◌<◌, List, [], length, true, false, IfOk, IfSome, IfNone, IsNone};
+ghost use Rattle.std.specs.Prelude.{◌≡◌, ◌↔◌, ◌^◌, ◌<◌, List, length, true, false, IfOk, IfSome, IsNone};
 ghost use Rattle.sync_core.specs.Events.{SyncEvent};
 ghost use Rattle.sync_core.specs.Core.{StandsFor};
 ghost use Rattle.seq_sched.specs.Seats.{seat_of, all_home, AreHome, IsAway, with_home};

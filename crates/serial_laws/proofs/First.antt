@@ -1,7 +1,8 @@
 -- The first of the streams that passes a test, and the best.
 use Rattle.std.proofs.Common.{◌≡◌, ◌≢◌, ℕ, zero, suc, ◌≤◌, ◌<◌, ◌⊎◌, inl, inr, Bool, true, false, ◌&&◌, cond, eqb, Option, Some, None, refl, sym, ap, ◌∙◌, arith}
 use Rattle.std.proofs.lemmas.Bool.Decides.{nat_tests}
-use Rattle.gpu_journal.specs.Serial.{either, when, first, best, better}
+use Rattle.gpu_word.specs.Outcome.{when}
+use Rattle.gpu_journal.specs.Serial.{either, first, best, better}
 
 pub bool_cases : (b : Bool) → (b ≡ true) ⊎ (b ≡ false)
 bool_cases true = inl refl

@@ -1,4 +1,4 @@
-ghost use Rattle.std.specs.Prelude.{◌≡◌, ℕ, ◌+◌, ◌<◌, ◌≤◌, ◌^◌, max, [], ◌∷◌, ◌++◌};
+ghost use Rattle.std.specs.Prelude.{◌≡◌, ◌+◌, ◌<◌, ◌≤◌, ◌^◌, max, [], ◌∷◌, ◌++◌};
 ghost use Rattle.gpu_cmd.specs.Lawful.{places_of};
 ghost use Rattle.gpu_plan.specs.MayHold.{MayHold};
 ghost use Rattle.shm_words.specs.Seen.{ServiceKeeps, reach, service_at};

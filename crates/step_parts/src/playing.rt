@@ -1,5 +1,5 @@
 //! Two streams whose commands are executed as they stand in the rings, for the tests.
-ghost use Rattle.std.specs.Prelude.{◌≡◌, ◌≢◌, ◌+◌, ◌<◌, ◌^◌, ◌++◌, length, IfOk, OnOk};
+ghost use Rattle.std.specs.Prelude.{◌≡◌, ◌+◌, ◌<◌, ◌^◌, ◌++◌, length, IfOk, OnOk};
 ghost use Rattle.gpu_cmd.specs.Lawful.{IsLawfulAreas};
 ghost use Rattle.gpu_cmd.specs.Copied.{words_at};
 ghost use Rattle.stream_state.specs.State.{IsBounded};

@@ -1,4 +1,4 @@
-ghost use Rattle.std.specs.Prelude.{◌≡◌, ◌<◌, ◌≤◌, ◌+◌, ◌^◌, length, option_map, IfSome, IfOk, OnOk, OnErr, IsTrue};
+ghost use Rattle.std.specs.Prelude.{◌≡◌, ◌<◌, ◌≤◌, ◌+◌, ◌^◌, length, option_map, IfSome, OnOk, OnErr, IsTrue};
 ghost use Rattle.stream_state.specs.Blocks.{no_blocks, block_of, bytes_in, part, has_range, with_block, without_block, zeros, sized, written_over};
 
 use crate::block::Block;

@@ -1,5 +1,5 @@
 //! What a command reads of a bucket into result memories.
-ghost use Rattle.std.specs.Prelude.{◌≡◌, ◌+◌, ◌≤◌, ◌<◌, ◌^◌, length, take, IsTrue, IsErr, IfOk};
+ghost use Rattle.std.specs.Prelude.{◌≡◌, ◌≤◌, ◌<◌, ◌^◌, length, take, IsTrue, IsErr, IfOk};
 ghost use Rattle.gpu_cmd.specs.Spans.{span_at};
 ghost use Rattle.gpu_cmd.specs.Lawful.{IsLawfulAreas};
 ghost use Rattle.stream_state.specs.Verdict.{has_bytes};

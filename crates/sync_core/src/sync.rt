@@ -1,4 +1,4 @@
-ghost use Rattle.std.specs.Prelude.{◌≡◌, ◌↔◌, ℕ, ◌+◌, ◌<◌, ◌≤◌, ◌^◌, List, [], ◌∷◌, length, true, false, Ok, Err, OnOk, OnErr, IfOk, IsSome, IsErrOf};
+ghost use Rattle.std.specs.Prelude.{◌≡◌, ◌↔◌, ◌+◌, ◌<◌, ◌≤◌, ◌^◌, List, [], ◌∷◌, length, true, false, OnOk, OnErr, IfOk, IsSome, IsErrOf};
 ghost use Rattle.sync_core.specs.Standing.{at, IsKnown, first_order};
 ghost use Rattle.sync_core.specs.Events.{SyncEvent, Ordered, Waited, Released, Finished, WasLost, WasClosed};
 ghost use Rattle.sync_core.specs.Core.{StandsFor, HasRoom, left_of, blocked, judgement};

@@ -1,4 +1,4 @@
-ghost use Rattle.std.specs.Prelude.{◌≡◌, ◌+◌, ◌<◌, ◌≤◌, ◌^◌, length, IfOk};
+ghost use Rattle.std.specs.Prelude.{◌+◌, ◌<◌, ◌≤◌, ◌^◌, length, IfOk};
 ghost use Rattle.journal_reader.specs.Reading.{whole_lines};
 ghost use Rattle.verify_input.specs.Parts.{before};
 ghost use Rattle.verify_input.specs.Found.{Finds};

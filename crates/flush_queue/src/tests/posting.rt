@@ -3,7 +3,7 @@ ghost use Rattle.gpu_cmd.specs.Lawful.{places_of};
 ghost use Rattle.gpu_plan.specs.Passes.{flushes};
 ghost use Rattle.shm_words.specs.Seen.{client_at, service_at};
 ghost use Rattle.flush_queue.specs.Clients.{HasPostedAll};
-ghost use Rattle.flush_queue.specs.Seen.{EndData, note_of, one_more};
+ghost use Rattle.flush_queue.specs.Seen.{note_of, one_more};
 
 use crate::{FlushQueue, Poster, Taker, make};
 use gpu_plan::parse;

@@ -1,5 +1,5 @@
 //! What is known of the hall at each moment that its lock is got.
-ghost use Rattle.std.specs.Prelude.{◌≡◌, length};
+ghost use Rattle.std.specs.Prelude.{◌≡◌};
 ghost use Rattle.gpu_journal.specs.Legal.{IsLegal};
 ghost use Rattle.house_core.specs.Core.{names_of};
 ghost use Rattle.gpu_house.specs.Waiting.{HaveTargets, FormNoCycle};

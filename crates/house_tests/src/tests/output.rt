@@ -2,7 +2,6 @@ use gpu_house::{Doing, Report};
 use gpu_journal::{End, Event, journal_text, picture_text, stream_text};
 use std::alloc::Global;
 use std::test::Fail;
-use wait_hooks::Marker;
 
 // How the one stream of a run ended, if it has.
 fn end_of(doing: Doing, events: &[Event]) -> Option<End> {

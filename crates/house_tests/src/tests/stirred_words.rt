@@ -7,7 +7,6 @@ use gpu_house::Report;
 use std::alloc::Global;
 use std::marker::Brand;
 use std::test::Fail;
-use wait_hooks::Marker;
 
 /// A client that flushes a CreateImage, and then puts 0 at places 0 and 2.
 const CREATES: &str =

@@ -1,5 +1,5 @@
 // A writer and its viewer on two threads.
-ghost use Rattle.std.specs.Prelude.{◌≡◌, ◌++◌};
+ghost use Rattle.std.specs.Prelude.{◌++◌};
 ghost use Rattle.live_view.specs.Versions.{IsLatest};
 
 use super::fixture::{clear, create, noted, pair, published};

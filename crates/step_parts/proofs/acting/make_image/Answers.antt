@@ -1,5 +1,4 @@
-use Rattle.std.proofs.Common.{refl, ◌∙◌, ap}
-use Rattle.gpu_store.specs.declared.op.Answer.{Answer}
+use Rattle.std.proofs.Common.{refl}
 use Rattle.step_parts.proofs.Executed.{image_made, image_executes}
 use Rattle.step_parts.proofs.acting.make_image.Goals as goal
 

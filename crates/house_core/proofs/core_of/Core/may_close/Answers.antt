@@ -1,4 +1,4 @@
-use Rattle.std.proofs.Common.{◌≡◌, ◌↔◌, List, refl, sym, ap, subst, ◌∙◌, IsTrue}
+use Rattle.std.proofs.Common.{◌≡◌, ◌↔◌, List, sym, ap, subst, ◌∙◌, IsTrue}
 use Rattle.gpu_plan.specs.declared.plan.Action.{Action}
 use Rattle.gpu_plan.specs.Plans.{PlanData, plan_of}
 use Rattle.sync_core.specs.Standing.{is_open}
@@ -7,8 +7,8 @@ use Rattle.gpu_journal.specs.Legal.{MayClose}
 use Rattle.gpu_journal.proofs.Following.{plan_here}
 use Rattle.house_core.specs.Walks.{HasWalked}
 use Rattle.house_core.specs.Desks.{DeskData, desk_at}
-use Rattle.house_core.specs.Core.{CoreData, books_of, outs_of}
-use Rattle.house_core.specs.Invariant.{Parts, DeskFits, seen}
+use Rattle.house_core.specs.Core.{CoreData}
+use Rattle.house_core.specs.Invariant.{Parts, DeskFits}
 use Rattle.house_core.proofs.Rows.{books_stay, outs_stay}
 use Rattle.house_core.proofs.Fits.{fits_walk}
 use Rattle.house_core.proofs.Again.{Place, seats_stay, stays}
