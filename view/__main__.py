@@ -20,7 +20,7 @@ class Words(argparse.ArgumentParser):
     """Words that are no command are told in one line, as the program tells them."""
 
     def error(self, message):
-        self.exit(USAGE, f"bad command line: {message}\n'./zorvleid --help' names the commands\n")
+        self.exit(USAGE, f"bad command line: {message}\n")
 
 
 def scale(text):

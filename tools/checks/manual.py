@@ -41,11 +41,10 @@ def check_text(name, text, before, tally):
 
 
 def check_status_line(top, program, tally):
-    """Words that are no command get one line more, which names the help."""
-    help_line = b"'./zorvleid --help' names the commands\n"
+    """Words that are no command line are told in one line."""
     for words in (["timeline"], ["pictures", "--scale", "0"], ["pictures", "--in", "x"], ["explain", "x"]):
         ran = subprocess.run([top / "zorvleid", *words], input=b"", capture_output=True, check=False)
-        is_so = ran.returncode == 2 and ran.stderr.endswith(help_line) and ran.stderr.count(b"\n") == 2
+        is_so = ran.returncode == 2 and ran.stderr.startswith(b"bad command line: ") and ran.stderr.count(b"\n") == 1
         tally.tell(f"zorvleid {' '.join(words)}", None if is_so else str(ran))
 
 

@@ -1,0 +1,54 @@
+"""What `./zorvleid` calls for words: python3 -m command_line WORD ..
+
+It writes the help or the version, starts a tool, or says why the words are refused, with status 2. For a command line of
+the program that is right it does nothing, and ends with 0.
+"""
+
+import os
+import sys
+
+from . import help, judge, version
+from .table import COMMANDS, TOP
+
+USAGE, WRITE_FAULT, MISSING = 2, 4, 127
+
+
+def write(text: str) -> int:
+    """Writes a text to standard output."""
+    try:
+        sys.stdout.write(text)
+        sys.stdout.flush()
+    except OSError as error:
+        os.dup2(os.open(os.devnull, os.O_WRONLY), 1)
+        print(f"write fault: standard output: {error.strerror}", file=sys.stderr)
+        return WRITE_FAULT
+    return 0
+
+
+def start(words: list[str]) -> int:
+    """Puts the tool of a command in the place of this process."""
+    tool = COMMANDS[words[0]].tool
+    try:
+        os.execv(TOP / tool[0], [str(TOP / tool[0]), *tool[1:], *words[1:]])
+    except OSError as error:
+        print(f"{TOP / tool[0]}: {error.strerror}", file=sys.stderr)
+    return MISSING
+
+
+def main() -> int:
+    """Answers the words of this process."""
+    words = sys.argv[1:]
+    if words[:1] and words[0] in COMMANDS and not {"--help", "-h"}.isdisjoint(words[1:]):
+        words = ["help", words[0]]
+    if (why := judge.reason(words)) is not None:
+        print(f"bad command line: {why}", file=sys.stderr)
+        return USAGE
+    if words[0] in judge.HELP:
+        return write(help.text(words[1:]))
+    if words[0] in judge.VERSION:
+        return write(version.text())
+    return start(words) if COMMANDS[words[0]].tool else 0
+
+
+if __name__ == "__main__":
+    sys.exit(main())

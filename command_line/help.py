@@ -1,0 +1,96 @@
+"""The help, from the table: all of it, or the part of one command."""
+
+from collections.abc import Iterator
+
+from .table import COMMANDS, Command
+
+USAGE = "usage: ./zorvleid COMMAND [WORD ..]"
+COLUMN = 36  # where the sentences begin
+WIDTH = 120
+
+STATUSES = """\
+Where the status is not 0, a line on standard error says why:
+
+    1   all was written, and a stream was lost     7   the input is too long
+    2   the words are no command line              8   a stream was lost for want of memory
+    3   standard input or a named file failed      9   the journal breaks a rule
+    4   standard output or a file failed          10   the journal is legal and not complete
+    5   the input is no script, or no output      11   the journal is missing, or is none
+    6   memory was wanted
+    126 where the program is not built, 127 where the toolchain or what a tool needs is missing"""
+
+EXAMPLES = """\
+Examples:
+
+    ./zorvleid run examples/two_texels.script
+    ./zorvleid run examples/compositor.script | ./zorvleid pictures --into pictures --scale 16
+    ./zorvleid run examples/compositor.script | ./zorvleid timeline --page timeline.html
+    (cat examples/names.script; echo journal; sed 's/^order 2 2/order 2 3/' examples/names.stdout) | ./zorvleid explain"""
+
+BUILD = """\
+The first run proves and builds the program, which takes long. On a terminal, or with ZORVLEID_PROGRESS=1, standard error
+tells how far that is."""
+
+
+def words_of(command: Command) -> str:
+    """The name of a command with its operands."""
+    names = [value.name for value in command.operands]
+    sure = len(names) - command.may_lack
+    parts = [command.name, *(["COMMAND .."] if command.takes_command else []), *names[:sure]]
+    return " ".join(parts + [f"[{name}]" for name in names[sure:]])
+
+
+def row(words: str, says: str, indent: int) -> Iterator[str]:
+    """Words and what is said of them, which goes on below where the line is full."""
+    line = " " * indent + words
+    line += " " * max(2, COLUMN - len(line))
+    for word in says.split():
+        if len(line) + len(word) > WIDTH:
+            yield line.rstrip()
+            line = " " * COLUMN
+        line += word + " "
+    yield line.rstrip()
+
+
+def rows_of(command: Command) -> Iterator[str]:
+    """A command and its options, a row each."""
+    yield from row(words_of(command), command.says, 4)
+    for option in command.options:
+        yield from row(f"{option.name} {option.value.name}", option.says, 8)
+
+
+def whole() -> Iterator[str]:
+    """The help with all commands."""
+    rows = COMMANDS.values()
+    yield from (USAGE, "", "Commands of the program. Without FILE, or with `-` for it, they read standard input:", "")
+    for command in rows:
+        if not command.tool:
+            yield from rows_of(command)
+    yield from ("", "Tools beside the program, which claim nothing that it does not write:", "")
+    for command in rows:
+        if command.tool:
+            yield from rows_of(command)
+    yield ""
+    yield from row("help [COMMAND]", "this text, or the part of one command, as --help behind it", 4)
+    yield from row("--help, -h", "the same", 4)
+    yield from row("--version, version", "the version, the commit, the kit, and whether the program is proved", 4)
+    yield from ("", BUILD, "", STATUSES, "", EXAMPLES, "", "The manual page says more: man ./docs/zorvleid.1")
+
+
+def of_command(command: Command) -> Iterator[str]:
+    """The help of one command."""
+    options = " [OPTION ..]" if command.options else ""
+    name, _, operands = words_of(command).partition(" ")
+    yield f"usage: ./zorvleid {name}{options}{' ' if operands else ''}{operands}"
+    yield ""
+    yield from rows_of(command)
+    if command.reads:
+        from_where = "FILE, or standard input," if command.operands else "Standard input"
+        yield from ("", f"{from_where[0].upper()}{from_where[1:]} is {command.reads}.")
+
+
+def text(names: list[str]) -> str:
+    """The help, of one command where one is named."""
+    command = COMMANDS.get(names[0]) if names else None
+    lines = of_command(command) if command else whole()
+    return "".join(line + "\n" for line in lines)

@@ -1,0 +1,55 @@
+"""What this is: the version, the commit, the kit, and whether the program at hand is proved and of this commit."""
+
+import subprocess
+from collections.abc import Iterator
+
+from .table import TOP
+
+VERSION = "0.1.0"
+RELEASE = TOP / "RELEASE"
+PROGRAM = TOP / "crates/script_main/out/script_main"
+
+
+def said(*words: str) -> str | None:
+    """What a command writes, without its last line feed, or None where it fails."""
+    try:
+        ran = subprocess.run(words, cwd=TOP, capture_output=True, text=True, check=False)
+    except OSError:
+        return None
+    return ran.stdout.rstrip("\n") if ran.returncode == 0 else None
+
+
+def commit_of_tree() -> tuple[str | None, bool]:
+    """The commit of the tree, and whether the tree was changed. A repository that this lies in is not its own."""
+    if said("git", "rev-parse", "--show-prefix") != "":
+        return None, False
+    return said("git", "rev-parse", "HEAD"), said("git", "status", "--porcelain") != ""
+
+
+def of_tree() -> Iterator[str]:
+    """What a tree of sources is."""
+    commit, is_changed = commit_of_tree()
+    yield f"commit: {commit or 'not known, since git tells none'}{', with changes' if is_changed else ''}"
+    kit = said("rt", "version")
+    yield f"kit: {kit.splitlines()[0] if kit else 'none, since the toolchain (rt) is not on the path'}"
+    if not PROGRAM.exists():
+        yield "program: not built; the first run proves and builds it"
+    elif said(str(TOP / "tools/build"), "--fresh") is None:
+        yield "program: older than its sources; the next run proves and builds it anew"
+    else:
+        of = "this changed tree" if is_changed else "this commit" if commit else "these sources"
+        yield f"program: proved and built by tools/build, of {of}"
+
+
+def of_release() -> Iterator[str]:
+    """What a release is, by its own file. Only a proved program that passed the gate is packed."""
+    facts = dict(line.split(": ", 1) for line in RELEASE.read_text(encoding="utf-8").splitlines() if ": " in line)
+    yield f"commit: {facts.get('commit', 'not known')}"
+    yield f"kit: {facts.get('toolchain', 'not known')}"
+    yield f"program: proved, of this commit; {facts.get('gate', 'nothing is known of the gate')}"
+
+
+def text() -> str:
+    """The lines of --version."""
+    lines = [f"zorvleid {VERSION}", *(of_release() if RELEASE.exists() else of_tree())]
+    return "".join(line + "\n" for line in lines)
