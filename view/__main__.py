@@ -29,6 +29,12 @@ def scale(text):
     return int(text)
 
 
+def file_name(text):
+    if not text:
+        raise argparse.ArgumentTypeError("the name of the file is empty")
+    return text
+
+
 def words():
     parser = Words(prog="zorvleid", allow_abbrev=False)
     tools = parser.add_subparsers(dest="tool", required=True, parser_class=Words)
@@ -36,13 +42,16 @@ def words():
     tool.add_argument("--into", metavar="FOLDER", type=Path, default=Path("pictures"), help="where to (left out: pictures)")
     tool.add_argument("--scale", metavar="N", type=scale, default=1, help="repeat each texel N times (left out: 1)")
     tool = tools.add_parser("timeline", allow_abbrev=False, help="write the history of an output as a trace or as a page")
-    tool.add_argument("--trace", metavar="FILE", type=Path, help="for Perfetto and chrome://tracing")
-    tool.add_argument("--page", metavar="FILE", type=Path, help="one HTML file that needs nothing else")
+    tool.add_argument("--trace", metavar="FILE", type=file_name, help="for Perfetto and chrome://tracing")
+    tool.add_argument("--page", metavar="FILE", type=file_name, help="one HTML file that needs nothing else")
     tool = tools.add_parser("explain", allow_abbrev=False, help="run verify, and say what its answer means")
     tool.add_argument("--program", metavar="FILE", type=Path, help="the program that verifies (left out: that of ./zorvleid)")
     asked = parser.parse_args()
-    if asked.tool == "timeline" and not (asked.trace or asked.page):
-        tools.choices["timeline"].error("timeline needs --trace FILE or --page FILE")
+    if asked.tool == "timeline":
+        names = [name for name in (asked.trace, asked.page) if name]
+        if not names:
+            parser.error("timeline needs --trace FILE or --page FILE")
+        files.targets_of(names)  # before anything is read
     return asked
 
 
@@ -61,7 +70,7 @@ def complain(line, status):
 def show(asked, data):
     """Writes what was asked for, of an output."""
     if not data:
-        print("note: the output is empty, as that of a run without streams, or of one that failed", file=sys.stderr)
+        return complain("refused: the output is empty, and nothing is written: did the run before fail?", REFUSED)
     output = read_output(data)
     if asked.tool == "pictures":
         pictures.write(output, asked.into, asked.scale)
@@ -72,20 +81,22 @@ def show(asked, data):
 
 def main():
     signal.signal(signal.SIGPIPE, signal.SIG_DFL)
-    asked = words()
     try:
+        asked = words()
         data = read()
         return explain.explain(data, asked.program) if asked.tool == "explain" else show(asked, data)
     except Refused as refused:
         return complain(refused, REFUSED)
-    except pictures.TooLarge as large:
-        return complain(f"bad command line: {large}", USAGE)
+    except (pictures.TooLarge, files.WrongName) as wrong:
+        return complain(f"bad command line: {wrong}", USAGE)
     except files.WriteFault as fault:
         return complain(fault, WRITE_FAULT)
     except MemoryError:
         return complain("no memory", NO_MEMORY)
     except KeyboardInterrupt:
         return 128 + signal.SIGINT
+    except Exception as fault:  # a fault of the tool itself
+        return complain(f"fault of the tool: {type(fault).__name__}: {' '.join(str(fault).split())}", WRITE_FAULT)
 
 
 if __name__ == "__main__":

@@ -1,9 +1,9 @@
 """The images of an output as PNG files, with exactly the texels that are printed, and a sheet that shows them all."""
 
-import io
 from pathlib import Path
 
 from . import files
+from .png import png
 
 PIXELS_AT_MOST = 1 << 26
 SCALE_AT_MOST = 64
@@ -13,18 +13,11 @@ class TooLarge(Exception):
     """An image that would have too many pixels."""
 
 
-def png(image, scale):
+def picture(image, scale):
     """The bytes of a PNG file that repeats each texel `scale` times in both directions."""
-    from PIL import Image  # the other tools do without it
-
     if image.width * image.height * scale * scale > PIXELS_AT_MOST:
-        raise TooLarge(f"image {image.number} would have more than {PIXELS_AT_MOST} pixels")
-    picture = Image.frombytes("RGBA", (image.width, image.height), image.texels)
-    if scale > 1:
-        picture = picture.resize((image.width * scale, image.height * scale), Image.Resampling.NEAREST)
-    written = io.BytesIO()
-    picture.save(written, "PNG")
-    return written.getvalue()
+        raise TooLarge(f"image {image.number} would have more than {PIXELS_AT_MOST:,} pixels")
+    return png(image.width, image.height, image.texels, scale)
 
 
 def name_of(image):
@@ -45,7 +38,7 @@ def figure(image):
 
 def sheet(images, scale):
     count = "no image" if not images else "1 image" if len(images) == 1 else f"{len(images)} images"
-    repeated = f"; the files repeat each texel {scale} times in both directions" if scale > 1 else ""
+    repeated = f"; the files repeat each texel {scale} times in both directions" if images and scale > 1 else ""
     page = files.part_of_page("sheet.html")
     page = page.replace("{{summary}}", f"The output has {count}{repeated}.")
     return page.replace("{{figures}}", "\n".join(map(figure, images)))
@@ -53,7 +46,7 @@ def sheet(images, scale):
 
 def write(output, folder, scale=1):
     """Writes the pictures of an output and the sheet into a folder."""
-    made = {Path(folder) / name_of(image): png(image, scale) for image in output.images}
-    made[Path(folder) / "index.html"] = sheet(output.images, scale).encode()
+    made = [(Path(folder) / name_of(image), picture(image, scale)) for image in output.images]
+    made.append((Path(folder) / "index.html", sheet(output.images, scale).encode()))
     files.make_folder(folder)
     files.write_all(made)

@@ -10,9 +10,9 @@ def write(output, trace_path, page_path):
     if output.is_verdict:
         raise Refused(1, "the output of verify has no journal")
     history = History(output)
-    made = {}
-    if trace_path:
-        made[trace_path] = trace.text(history).encode()
-    if page_path:
-        made[page_path] = page.text(history).encode()
+    made = []
+    if trace_path is not None:
+        made.append((trace_path, trace.text(history).encode()))
+    if page_path is not None:
+        made.append((page_path, page.text(history).encode()))
     files.write_all(made)

@@ -24,9 +24,10 @@ REPEATED_AT_MOST = 4096  # larger images are drawn once
 
 def check(top, program, tally):
     """Tells a fault for each output whose pictures are not its own."""
+    check_wrapper(top, tally)
     python = outputs.python_with("PIL.Image")
     if python is None:
-        tally.skip("pictures of every case", "Pillow is missing (apt install python3-pil)")
+        tally.skip("pictures of every case", "Pillow is missing (apt install python3-pil), which reads them back")
         return
     with tempfile.TemporaryDirectory() as folder, ThreadPoolExecutor(WORKERS) as pool:
         names = []
@@ -38,7 +39,6 @@ def check(top, program, tally):
         for part, told in zip(parts, pool.map(lambda part: draw_part(python, folder, part), parts)):
             for name, number in part:
                 tally.tell(f"pictures of {name}", told.get(str(number), "nothing was drawn"))
-    check_wrapper(top, tally)
 
 
 def draw_part(python, folder, part):
@@ -52,7 +52,7 @@ def draw_part(python, folder, part):
 
 
 def check_wrapper(top, tally):
-    """The command as it is called, and where there is no Python with Pillow."""
+    """The command as it is called."""
     output = (top / "examples/compositor.stdout").read_bytes()
     tool = [top / "zorvleid", "pictures"]
     with tempfile.TemporaryDirectory() as folder:
@@ -68,18 +68,6 @@ def check_wrapper(top, tally):
         tally.tell("pictures of an output without its end", None if is_told else str(ran))
         ran = subprocess.run([*tool, "--into", "/dev/null/none"], input=output, capture_output=True, cwd=folder, check=False)
         tally.tell("pictures into no folder", None if ran.returncode == 4 and ran.stderr.startswith(b"write fault") else str(ran))
-        check_without_pillow(top, Path(folder), tally)
-
-
-def check_without_pillow(top, folder, tally):
-    """Where no Python has Pillow, one line says what to install."""
-    (folder / "python3").write_text("#!/bin/sh\nexit 1\n")
-    (folder / "python3").chmod(0o755)
-    starter = (top / "view/run").read_text().replace("/usr/bin/python3", "/nowhere/python3")
-    path = {"PATH": f"{folder}:/usr/bin:/bin"}
-    ran = subprocess.run(["sh", "-c", starter, "run", "pictures"], capture_output=True, text=True, env=path, check=False)
-    is_told = ran.returncode == 127 and "apt install python3-pil" in ran.stderr and ran.stderr.count("\n") == 1
-    tally.tell("pictures without Pillow", None if is_told else str(ran))
 
 
 # --- The part that needs Pillow ---
