@@ -1,4 +1,5 @@
-"""The words of the command line: the table of all commands, its help, and why a line, a script or a journal is refused.
+"""The words of the command line: all commands, their help, and why words or an input are refused.
 
-`./zorvleid` calls this package for all words that the program does not take. The program decides which words those are.
+`./zorvleid` calls this package for words that the program does not take, and after a refusal. Which
+words are a command line of the program, the program decides.
 """

@@ -1,7 +1,7 @@
 """What `./zorvleid` calls for words: python3 -m command_line WORD ..
 
-It writes the help or the version, starts a tool, or says why the words are refused, with status 2. For a command line of
-the program that is right it does nothing, and ends with 0.
+It writes the help or the version, starts a tool, or says why the words are refused, with status 2.
+For a command line of the program that is right it does nothing, and ends with 0.
 """
 
 import os

@@ -4,9 +4,7 @@ from collections.abc import Iterator
 
 from .table import COMMANDS, Command
 
-USAGE = "usage: ./zorvleid COMMAND [WORD ..]"
-COLUMN = 36  # where the sentences begin
-WIDTH = 120
+COLUMN, WIDTH = 30, 100  # where the sentences begin, and where they end
 
 STATUSES = """\
 Where the status is not 0, a line on standard error says why:
@@ -25,22 +23,23 @@ Examples:
     ./zorvleid run examples/two_texels.script
     ./zorvleid run examples/compositor.script | ./zorvleid pictures --into pictures --scale 16
     ./zorvleid run examples/compositor.script | ./zorvleid timeline --page timeline.html
-    (cat examples/names.script; echo journal; sed 's/^order 2 2/order 2 3/' examples/names.stdout) | ./zorvleid explain"""
+    (cat examples/names.script; echo journal; sed 's/^order 2 2/order 2 3/' examples/names.stdout) |
+        ./zorvleid explain"""
 
 BUILD = """\
-The first run proves and builds the program, which takes long. On a terminal, or with ZORVLEID_PROGRESS=1, standard error
-tells how far that is."""
+The first run proves and builds the program, which takes long. On a terminal, or with
+ZORVLEID_PROGRESS=1, standard error tells how far that is."""
 
 
 def words_of(command: Command) -> str:
     """The name of a command with its operands."""
     names = [value.name for value in command.operands]
     sure = len(names) - command.may_lack
-    parts = [command.name, *(["COMMAND .."] if command.takes_command else []), *names[:sure]]
-    return " ".join(parts + [f"[{name}]" for name in names[sure:]])
+    front = [command.name, "COMMAND .."] if command.takes_command else [command.name]
+    return " ".join([*front, *names[:sure], *(f"[{name}]" for name in names[sure:])])
 
 
-def row(words: str, says: str, indent: int) -> Iterator[str]:
+def row(words: str, says: str, indent: int = 4) -> Iterator[str]:
     """Words and what is said of them, which goes on below where the line is full."""
     line = " " * indent + words
     line += " " * max(2, COLUMN - len(line))
@@ -54,39 +53,41 @@ def row(words: str, says: str, indent: int) -> Iterator[str]:
 
 def rows_of(command: Command) -> Iterator[str]:
     """A command and its options, a row each."""
-    yield from row(words_of(command), command.says, 4)
+    yield from row(words_of(command), command.says)
     for option in command.options:
-        yield from row(f"{option.name} {option.value.name}", option.says, 8)
+        yield from row(f"{option.name} {option.value.name}", option.says, indent=8)
 
 
 def whole() -> Iterator[str]:
     """The help with all commands."""
     rows = COMMANDS.values()
-    yield from (USAGE, "", "Commands of the program. Without FILE, or with `-` for it, they read standard input:", "")
+    yield from ("usage: ./zorvleid COMMAND [WORD ..]", "")
+    yield from ("The program. Without FILE, or with `-` for it, standard input is read:", "")
     for command in rows:
         if not command.tool:
             yield from rows_of(command)
-    yield from ("", "Tools beside the program, which claim nothing that it does not write:", "")
+    yield from ("", "Tools beside it, which claim nothing that it does not write:", "")
     for command in rows:
         if command.tool:
             yield from rows_of(command)
     yield ""
-    yield from row("help [COMMAND]", "this text, or the part of one command, as --help behind it", 4)
-    yield from row("--help, -h", "the same", 4)
-    yield from row("--version, version", "the version, the commit, the kit, and whether the program is proved", 4)
-    yield from ("", BUILD, "", STATUSES, "", EXAMPLES, "", "The manual page says more: man ./docs/zorvleid.1")
+    yield from row("help [COMMAND]", "this text, or the part of one command")
+    yield from row("--help, -h", "the same, also behind a command")
+    yield from row("version, --version", "the version, the commit, the kit and the program at hand")
+    yield from ("", BUILD, "", STATUSES, "", EXAMPLES, "")
+    yield "The manual page says more: man ./docs/zorvleid.1"
 
 
 def of_command(command: Command) -> Iterator[str]:
     """The help of one command."""
-    options = " [OPTION ..]" if command.options else ""
-    name, _, operands = words_of(command).partition(" ")
-    yield f"usage: ./zorvleid {name}{options}{' ' if operands else ''}{operands}"
+    name, *operands = words_of(command).split(" ", 1)
+    options = ["[OPTION ..]"] if command.options else []
+    yield " ".join(["usage: ./zorvleid", name, *options, *operands])
     yield ""
     yield from rows_of(command)
     if command.reads:
-        from_where = "FILE, or standard input," if command.operands else "Standard input"
-        yield from ("", f"{from_where[0].upper()}{from_where[1:]} is {command.reads}.")
+        source = "FILE, or standard input without it," if command.operands else "Standard input"
+        yield from ("", f"{source} is {command.reads}.")
 
 
 def text(names: list[str]) -> str:

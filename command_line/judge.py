@@ -14,61 +14,58 @@ class Wrong(Exception):
 
 
 def meant(word: str, names: Iterable[str]) -> str:
-    """The name that somebody may have meant."""
+    """A question for the name that may have been meant."""
     near = difflib.get_close_matches(word.lower(), list(names), 1)
     return f"; did you mean '{near[0]}'?" if near else ""
 
 
 def listed(parts: Sequence[str]) -> str:
     """Parts of a sentence as a list."""
-    return " and ".join(parts) if len(parts) < 3 else f"{', '.join(parts[:-1])} and {parts[-1]}"
+    return " and ".join(filter(None, [", ".join(parts[:-1]), parts[-1]]))
 
 
-def is_option(command: Command, word: str) -> bool:
+def is_option(word: str) -> bool:
     """Whether a word is meant as an option: `-` is standard input, and a number may have a sign."""
-    return word.startswith("--") or (word.startswith("-") and len(word) > 1 and not word[1:].isdigit())
+    return word.startswith("-") and word != "-" and not word[1:].isdigit()
 
 
 def takes(command: Command) -> str:
-    """What the operands of a command are."""
-    if not command.operands:
-        return f"{command.name} takes {'options alone' if command.options else 'no word behind it'}"
-    return f"{command.name} takes {listed([value.what for value in command.operands])}"
+    """What stands behind a command, beside its options."""
+    if command.operands:
+        return f"{command.name} takes {listed([value.what for value in command.operands])}"
+    return f"{command.name} takes {'options alone' if command.options else 'no word behind it'}"
 
 
 def check_operands(command: Command, words: Sequence[str]) -> None:
-    """Refuses operands that are wrong, missing, or too many."""
+    """Refuses operands that are wrong, too many, or missing."""
     for word, value in zip(words, command.operands):
         if not value.fits(word):
             raise Wrong(f"{takes(command)}, not '{word}'")
-    if len(words) > len(command.operands):
-        extra = words[len(command.operands)]
-        raise Wrong(f"{takes(command)}, and '{extra}' is one word more" if command.operands
-                    else f"{takes(command)}, not '{extra}'")
-    if len(words) < len(command.operands) - command.may_lack:
-        missing = command.operands[len(words)]
-        raise Wrong(f"{takes(command)}, and {missing.name} is missing")
+    if len(words) > (count := len(command.operands)):
+        extra = "and '{}' is one word too many" if count else "not '{}'"
+        raise Wrong(f"{takes(command)}, {extra.format(words[count])}")
+    if len(words) < count - command.may_lack:
+        raise Wrong(f"{takes(command)}, and {command.operands[len(words)].name} is missing")
 
 
 def option_of(command: Command, word: str) -> Option:
     """The option that a word names."""
     name = word.partition("=")[0]
-    if (option := command.option(name)) is None:
-        near = meant(name, [option.name for option in command.options] + ["--help"])
-        file = Path(word).exists() and any(value.name == "FILE" for value in command.operands)
-        raise Wrong(f"{command.name} has no option '{name}'{f'; the file is ./{word}' if file else near}")
-    return option
+    if (option := command.option(name)) is not None:
+        return option
+    near = meant(name, [*(option.name for option in command.options), "--help"])
+    if command.operands and Path(word).exists():
+        near = f"; the file of this name is './{word}'"
+    raise Wrong(f"{command.name} has no option '{name}'{near}")
 
 
 def check_place(option: Option, words: Sequence[str], at: int) -> None:
-    """Refuses an option that has to stand behind another one, and does not."""
-    if not option.behind:
-        return
-    spellings = [word.partition("=")[0] for word in words]
-    if option.behind not in spellings:
+    """Refuses an option that does not stand behind the one that it needs."""
+    if option.behind not in (word.partition("=")[0] for word in words):
         raise Wrong(f"{option.name} needs {option.behind}")
     if words[at] != option.name or at < 2 or words[at - 2] != option.behind:
-        raise Wrong(f"{option.name} stands behind {option.behind}, as in '{option.behind} 4 {option.name} 2'")
+        example = f"{option.behind} 4 {option.name} 2"
+        raise Wrong(f"{option.name} stands behind {option.behind}, as in '{example}'")
     if words[at - 1] == "0":
         raise Wrong(f"{option.name} needs {option.behind} from 1 to 8, not '0'")
 
@@ -79,31 +76,40 @@ def check_words(command: Command, words: Sequence[str]) -> None:
     operands: list[str] = []
     at = 0
     while at < len(words):
-        word = words[at]
-        if not is_option(command, word):
+        word, at = words[at], at + 1
+        if not is_option(word):
             operands.append(word)
-            at += 1
             continue
         option = option_of(command, word)
         if operands and command.operands:
-            raise Wrong(f"{option.name} stands before the file '{operands[0]}', not behind it")
+            raise Wrong(f"{option.name} stands before '{operands[0]}', not behind it")
         if option.name in seen:
             raise Wrong(f"{option.name} stands twice")
         seen.add(option.name)
-        _, equals, value = word.partition("=")
-        if not equals:
-            at += 1
+        here = at - 1
+        value = word.partition("=")[2]
+        if word == option.name:
             if at == len(words):
-                raise Wrong(f"{option.name} takes {option.value.what}, and nothing stands behind it")
-            value = words[at]
+                raise Wrong(f"{option.name} takes {option.value.what}, and has nothing behind it")
+            value, at = words[at], at + 1
         if not option.value.fits(value):
             raise Wrong(f"{option.name} takes {option.value.what}, not '{value}'")
-        check_place(option, words, at - (not equals))
-        at += 1
+        if option.behind:
+            check_place(option, words, here)
     check_operands(command, operands)
     if command.needs_one and not seen:
-        choices = " or ".join(f"{option.name} {option.value.name}" for option in command.options)
-        raise Wrong(f"{command.name} needs {choices}")
+        choices = (f"{option.name} {option.value.name}" for option in command.options)
+        raise Wrong(f"{command.name} needs {' or '.join(choices)}")
+
+
+def command_of(name: str) -> Command:
+    """The row of a name."""
+    if name in COMMANDS:
+        return COMMANDS[name]
+    if Path(name).is_file():
+        raise Wrong(f"no command '{name}'; did you mean 'run {name}'?")
+    kind = "option" if name.startswith("-") else "command"
+    raise Wrong(f"no {kind} '{name}'{meant(name, [*COMMANDS, *HELP, *VERSION])}")
 
 
 def check(words: Sequence[str]) -> None:
@@ -111,29 +117,21 @@ def check(words: Sequence[str]) -> None:
     if not words:
         raise Wrong(f"a command is missing; the commands are {listed(list(COMMANDS))}")
     name, rest = words[0], words[1:]
-    if name in HELP or name in VERSION:
-        if len(rest) > (name in HELP):
-            raise Wrong(f"{name} takes {'one command' if name in HELP else 'no word behind it'}, not '{rest[-1]}'")
+    if name in VERSION and rest:
+        raise Wrong(f"{name} takes no word behind it, not '{rest[0]}'")
+    if name in HELP and len(rest) > 1:
+        raise Wrong(f"{name} takes one command, and '{rest[1]}' is one word too many")
+    if name in HELP + VERSION:
         if rest and rest[0] not in HELP + VERSION:
             command_of(rest[0])
         return
     command = command_of(name)
-    if command.takes_command:
-        if not rest or rest[0] not in COMMANDS or COMMANDS[rest[0]].tool:
-            raise Wrong(f"{name} takes a command of the program, as in '{name} run FILE'")
-        check(rest)
-    else:
+    if not command.takes_command:
         check_words(command, rest)
-
-
-def command_of(name: str) -> Command:
-    """The row of a name."""
-    if name not in COMMANDS:
-        is_file = Path(name).is_file()
-        near = f"; did you mean 'run {name}'?" if is_file else meant(name, [*COMMANDS, "help", "version", "--help", "--version"])
-        kind = "option" if name.startswith("-") else "command"
-        raise Wrong(f"no {kind} '{name}'{near}")
-    return COMMANDS[name]
+    elif not rest or rest[0] not in COMMANDS or COMMANDS[rest[0]].tool:
+        raise Wrong(f"{name} takes a command of the program, as in '{name} run FILE'")
+    else:
+        check(rest)
 
 
 def reason(words: Sequence[str]) -> str | None:

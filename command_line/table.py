@@ -1,6 +1,7 @@
 """The table of commands: a row each, with what runs it, its operands and its options.
 
-The help, the reasons for refused command lines and the start of the tools come from here. A tool is added by one row.
+The help, the reasons for refused command lines and the start of the tools come from here. A tool
+is added by one row.
 """
 
 from collections.abc import Callable
@@ -12,7 +13,7 @@ TOP = Path(__file__).resolve().parent.parent
 
 
 def is_number(least: int, most: int, digits: int, text: str) -> bool:
-    """Whether a word is a decimal number between two others, and has no more digits than that."""
+    """Whether a word is a decimal number between two others, with no more digits than these."""
     is_decimal = text.isascii() and text.isdigit() and len(text) <= digits
     return is_decimal and least <= int(text) <= most
 
@@ -23,7 +24,7 @@ class Value:
 
     name: str
     what: str
-    fits: Callable[[str], bool] = bool  # as it is, any word that is not empty
+    fits: Callable[[str], bool] = bool  # where nothing is said, any word that is not empty
 
 
 def numbers(name: str, what: str, least: int, most: int, digits: int = 1) -> Value:
@@ -38,7 +39,7 @@ class Option:
     name: str
     value: Value
     says: str
-    behind: str = ""  # the option that has to stand before this one, with both as two words
+    behind: str = ""  # the option that stands right before this one, where both are two words
 
 
 @dataclass(frozen=True)
@@ -47,7 +48,7 @@ class Command:
 
     name: str
     says: str
-    tool: tuple[str, ...] = ()  # the path of a tool, seen from the top, and its first words; none: the program
+    tool: tuple[str, ...] = ()  # its path, seen from the top, and its first words; or the program
     operands: tuple[Value, ...] = ()
     may_lack: int = 0  # how many of the last operands may be left out
     options: tuple[Option, ...] = ()
@@ -67,40 +68,44 @@ class Command:
 FILE = Value("FILE", "the name of a file")
 FOLDER = Value("FOLDER", "the name of a folder")
 SIZE = numbers("SIZE", "a size from 1 to 2,000", 1, 2000, 10)
-SEED = numbers("SEED", "a seed from 0 to 4,294,967,295", 0, 2**32 - 1, 10)
+SEED = numbers("SEED", "a seed below 2^32", 0, 2**32 - 1, 10)
 
 RUN = (
     Option("--workers", numbers("N", "1 to 8", 0, 8),
-           "on threads, with N workers, from 1 to 8; left out, or with 0, on one thread"),
+           "on threads, with 1 to 8 workers; left out, or 0: on one thread"),
     Option("--views", numbers("V", "1 to 4", 1, 4),
-           "with V viewers, from 1 to 4, that look meanwhile; stands behind --workers N", "--workers"),
+           "behind --workers N: with 1 to 4 viewers, which look meanwhile", "--workers"),
 )
 PICTURES = (
     Option("--into", FOLDER, "where the files go; left out: pictures"),
     Option("--scale", numbers("N", "1 to 64", 1, 64, 10),
-           "repeats each texel N times in both directions, from 1 to 64; left out: 1"),
+           "repeats each texel 1 to 64 times in both directions; left out: 1"),
 )
 TIMELINE = (
     Option("--trace", FILE, "the history for Perfetto and chrome://tracing"),
     Option("--page", FILE, "the history as one HTML file that needs nothing else"),
 )
 EXPLAIN = (Option("--program", FILE, "the program that verifies; left out: that of ./zorvleid"),)
-SCRIPT, OUTPUT, BOTH = "a script", "an output of run", "a script, a line `journal`, and a journal"
+SCRIPT, OUTPUT = "a script", "an output of run"
+SCRIPT_AND_JOURNAL = "a script, a line `journal`, and a journal"
 
 ROWS = (
-    Command("run", "runs a script, and writes what the run gives", (), (FILE,), 1, RUN, reads=SCRIPT),
-    Command("check", "reads a script, and counts its streams, actions and flushes", (), (FILE,), 1, reads=SCRIPT),
-    Command("generate", "writes a script that the two numbers determine", (), (SIZE, SEED)),
-    Command("trial", "runs that script, and sums up what it gives in one line", (), (SIZE, SEED)),
-    Command("verify", "judges whether a journal is a legal and complete history of a script", (), (FILE,), 1,
-            reads=BOTH),
-    Command("pictures", "writes each image of an output as a PNG file, and a sheet of them", ("view/run", "pictures"),
-            options=PICTURES, reads=OUTPUT),
-    Command("timeline", "writes the history of an output for Perfetto, or as a page to look at",
+    Command("run", "runs a script, and writes what the run gives",
+            operands=(FILE,), may_lack=1, options=RUN, reads=SCRIPT),
+    Command("check", "reads a script, and counts its streams, actions and flushes",
+            operands=(FILE,), may_lack=1, reads=SCRIPT),
+    Command("generate", "writes a script that the two numbers determine", operands=(SIZE, SEED)),
+    Command("trial", "runs that script, and sums up what it gives in one line",
+            operands=(SIZE, SEED)),
+    Command("verify", "judges whether a journal is a legal and complete history of a script",
+            operands=(FILE,), may_lack=1, reads=SCRIPT_AND_JOURNAL),
+    Command("pictures", "writes each image as a PNG file, and a sheet of them",
+            ("view/run", "pictures"), options=PICTURES, reads=OUTPUT),
+    Command("timeline", "writes the history for Perfetto, or as a page to look at",
             ("view/run", "timeline"), options=TIMELINE, needs_one=True, reads=OUTPUT),
-    Command("explain", "runs verify, and says what its answer means", ("view/run", "explain"), options=EXPLAIN,
-            reads=BOTH),
-    Command("preview", "runs a command of a program that is built without proof", ("tools/preview",),
+    Command("explain", "runs verify, and says what its answer means",
+            ("view/run", "explain"), options=EXPLAIN, reads=SCRIPT_AND_JOURNAL),
+    Command("preview", "runs a program that is built without proof", ("tools/preview",),
             takes_command=True),
 )
 COMMANDS = {row.name: row for row in ROWS if row.is_there()}

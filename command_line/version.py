@@ -1,4 +1,4 @@
-"""What this is: the version, the commit, the kit, and whether the program at hand is proved and of this commit."""
+"""The version, the commit, the kit, and whether the program at hand is proved and of the commit."""
 
 import subprocess
 from collections.abc import Iterator
@@ -20,7 +20,7 @@ def said(*words: str) -> str | None:
 
 
 def commit_of_tree() -> tuple[str | None, bool]:
-    """The commit of the tree, and whether the tree was changed. A repository that this lies in is not its own."""
+    """The commit of the tree, and whether the tree was changed; no commit without a repository."""
     if said("git", "rev-parse", "--show-prefix") != "":
         return None, False
     return said("git", "rev-parse", "HEAD"), said("git", "status", "--porcelain") != ""
@@ -29,9 +29,10 @@ def commit_of_tree() -> tuple[str | None, bool]:
 def of_tree() -> Iterator[str]:
     """What a tree of sources is."""
     commit, is_changed = commit_of_tree()
-    yield f"commit: {commit or 'not known, since git tells none'}{', with changes' if is_changed else ''}"
+    changes = ", with changes" if is_changed else ""
+    yield f"commit: {commit}{changes}" if commit else "commit: not known, since git tells none"
     kit = said("rt", "version")
-    yield f"kit: {kit.splitlines()[0] if kit else 'none, since the toolchain (rt) is not on the path'}"
+    yield f"kit: {kit.splitlines()[0]}" if kit else "kit: none, since no rt is on the path"
     if not PROGRAM.exists():
         yield "program: not built; the first run proves and builds it"
     elif said(str(TOP / "tools/build"), "--fresh") is None:
@@ -43,7 +44,8 @@ def of_tree() -> Iterator[str]:
 
 def of_release() -> Iterator[str]:
     """What a release is, by its own file. Only a proved program that passed the gate is packed."""
-    facts = dict(line.split(": ", 1) for line in RELEASE.read_text(encoding="utf-8").splitlines() if ": " in line)
+    lines = RELEASE.read_text(encoding="utf-8").splitlines()
+    facts = dict(line.split(": ", 1) for line in lines if ": " in line)
     yield f"commit: {facts.get('commit', 'not known')}"
     yield f"kit: {facts.get('toolchain', 'not known')}"
     yield f"program: proved, of this commit; {facts.get('gate', 'nothing is known of the gate')}"

@@ -56,8 +56,9 @@ def words():
 
 
 def read():
+    """Standard input, with line feeds alone at the ends of its lines."""
     try:
-        return sys.stdin.buffer.read()
+        return sys.stdin.buffer.read().replace(b"\r\n", b"\n")
     except (OSError, AttributeError):
         raise SystemExit(complain("read fault", READ_FAULT)) from None
 

@@ -16,6 +16,7 @@ from .standing import Standing
 
 WRAPPER = Path(__file__).resolve().parent.parent / "zorvleid"
 NO, NOT_COMPLETE, NO_JOURNAL = 9, 10, 11
+ANSWER = re.compile(r"no: event \d+ rule \d+|not complete|refused: journal line \d+")
 EVENT_FORMS = "order S N C, step S I:V .., finish S N, lost S CODE I:V .., lost S memory, close S"
 
 
@@ -118,8 +119,8 @@ def explain(data, program=None):
     sys.stderr.flush()
     sys.stdout.buffer.write(ran.stdout)
     if ran.returncode in (NO, NOT_COMPLETE, NO_JOURNAL):
-        last = ran.stderr.decode("latin-1").rstrip("\n").rpartition("\n")[2]
-        for line in meaning(ran.returncode, last, data):
+        said = next(filter(ANSWER.fullmatch, ran.stderr.decode("latin-1").split("\n")), "")
+        for line in meaning(ran.returncode, said, data):
             sys.stdout.buffer.write(printable(line).encode() + b"\n")
     sys.stdout.flush()
     return ran.returncode
