@@ -1,0 +1,1 @@
+"""What tools/prove_crates, which proves the crates of the program side by side, is made of."""

@@ -1,0 +1,177 @@
+"""Has the toolchain prove crate after crate, side by side, and build the program."""
+
+import ctypes
+import errno
+import os
+import signal
+import subprocess
+import time
+from collections.abc import Mapping
+from dataclasses import dataclass
+from pathlib import Path
+
+from .crates import PROGRAM
+from .machine import free_disk
+from .plan import Plan
+from .rooms import Room
+from .telling import Teller, clock, minutes
+
+TICK = 0.05
+FULL = 50_000_000  # bytes: with fewer left, a proof that broke off did so for want of disk
+NO_SPACE = os.strerror(errno.ENOSPC)
+
+
+class Refusal(Exception):
+    """Why no program is built, in one line."""
+
+
+class Interrupted(Exception):
+    """The signal that a build was told to stop by."""
+
+    def __init__(self, number: int) -> None:
+        super().__init__(number)
+        self.number = number
+
+
+class Signals:
+    """Notes a signal that asks to stop, so that what is under way ends before it counts."""
+
+    def __init__(self) -> None:
+        self.number = 0
+        for number in (signal.SIGINT, signal.SIGTERM, signal.SIGHUP):
+            if signal.getsignal(number) is not signal.SIG_IGN:
+                signal.signal(number, self.note)
+
+    def note(self, number: int, _: object) -> None:
+        self.number = number
+
+    def wait(self) -> None:
+        """Waits a little, and raises where a signal came."""
+        time.sleep(TICK)
+        if self.number:
+            raise Interrupted(self.number)
+
+
+@dataclass(frozen=True)
+class Proof:
+    """A call of the toolchain that goes on."""
+
+    room: Room
+    process: subprocess.Popen[bytes]
+    began: float
+    log: Path
+
+
+@dataclass(frozen=True)
+class Sources:
+    """What is proved: each crate's row of crates.txt and the sum of its sources, and when they were read."""
+
+    top: Path
+    rows: Mapping[str, str]
+    sums: Mapping[str, str]
+    read: float
+
+
+def die_with_parent() -> None:
+    """Has the system end this process with the one that started it, however that one ends."""
+    ctypes.CDLL(None).prctl(1, signal.SIGKILL)
+
+
+class Build:
+    """The proofs of a plan, as far as they are."""
+
+    def __init__(self, sources: Sources, plan: Plan, below: Mapping[str, list[str]], teller: Teller) -> None:
+        self.sources, self.plan, self.below, self.teller = sources, plan, below, teller
+        self.proofs: list[Proof] = []
+        self.began = time.monotonic()
+        self.whole = plan.seconds_left(self.began)
+
+    def run(self, signals: Signals) -> None:
+        """Proves all; where that ends early, no proof goes on and no room is left, but all that was proved stands."""
+        try:
+            while self.plan.left() or self.proofs:
+                for crate, jobs in self.plan.next(time.monotonic()):
+                    self.begin(crate, jobs)
+                self.teller.show(self.standing())
+                signals.wait()
+                for proof in [it for it in self.proofs if it.process.poll() is not None]:
+                    self.end(proof)
+        finally:
+            self.leave()
+
+    def begin(self, crate: str, jobs: int) -> None:
+        room = Room(self.sources.top, crate)
+        log = room.home / "build.log"
+        room.home.mkdir(exist_ok=True)
+        words = ["rt", "run" if crate == PROGRAM else "lib", "--jobs", str(jobs)]
+        try:
+            room.furnish({it: self.sources.rows[it] for it in self.below[crate]})
+            with log.open("wb") as file:
+                process = subprocess.Popen(words, cwd=room.place, stdin=subprocess.DEVNULL, stdout=file,
+                                           stderr=subprocess.STDOUT, preexec_fn=die_with_parent)
+        except BaseException:
+            room.leave()
+            raise
+        self.proofs.append(Proof(room, process, time.monotonic(), log))
+        self.teller.event(f"{crate} begins, jobs: {jobs} ({self.count()})")
+
+    def end(self, proof: Proof) -> None:
+        """Brings home what a proof made, or says why it made nothing."""
+        crate, status = proof.room.crate, proof.process.returncode
+        if status in (-signal.SIGINT, 128 + signal.SIGINT):
+            raise Interrupted(signal.SIGINT)
+        # The status of `rt run` is the program's own.
+        if status != 0 and crate != PROGRAM or not proof.room.bring_home(self.sources.sums[crate], self.sources.read):
+            raise Refusal(f"{self.why(proof)}; {self.kept()}")
+        proof.room.leave()
+        proof.log.unlink()
+        self.proofs.remove(proof)
+        self.plan.end(crate)
+        self.teller.event(f"{crate} is proved, after {clock(time.monotonic() - proof.began)} ({self.count()})")
+
+    def leave(self) -> None:
+        """Ends the proofs that go on, and keeps what they have come to."""
+        for proof in self.proofs:
+            if proof.process.poll() is None:
+                proof.process.kill()
+            proof.process.wait()
+        if self.proofs:
+            time.sleep(4 * TICK)  # the toolchain's own processes end once it has ended
+        for proof in self.proofs:
+            proof.room.leave()
+        self.proofs.clear()
+        self.teller.clear()
+
+    def why(self, proof: Proof) -> str:
+        """Why a proof made nothing, and where the toolchain says more."""
+        crate, log = proof.room.crate, proof.log.relative_to(self.sources.top)
+        said = proof.log.read_text(encoding="utf-8", errors="replace")
+        if NO_SPACE in said or free_disk(proof.log.parent) < FULL:
+            return f"the disk is full: {crate} could not be proved, see {log}"
+        match proof.process.returncode:
+            case -9 | 137 | 247:
+                return f"{crate}: its proof was killed, most likely for want of memory, see {log}; try --jobs 1"
+            case 2 if crate != PROGRAM:
+                return f"{crate}: the toolchain stopped and judged nothing, see {log}"
+            case 3 if crate != PROGRAM:
+                return f"{crate}: the toolchain could not tell whether it is proved, see {log}"
+        return f"{crate} is not proved, see {log}"
+
+    def kept(self) -> str:
+        return f"{len(self.plan.done)} of {len(self.plan.below)} crates stand, and the next build goes on from there"
+
+    def count(self) -> str:
+        return f"{len(self.plan.done)} of {len(self.plan.below)} done, {self.time_left()}"
+
+    def time_left(self) -> str:
+        """By the times of the crates, and once a part is done by how much longer or shorter it took than they say."""
+        now = time.monotonic()
+        left = self.plan.seconds_left(now)
+        passed = self.whole - left
+        pace = (now - self.began) / passed if passed > self.whole / 20 else 1.0
+        return f"about {minutes(left * pace)} left"
+
+    def standing(self) -> str:
+        now = time.monotonic()
+        running = ", ".join(f"{it.room.crate} {clock(now - it.began)}" for it in self.proofs)
+        return f"{self.count()}: {running}"
