@@ -46,11 +46,11 @@ class Plan:
         return [it for it in self.below if it not in self.done and it not in self.running]
 
     def left_of(self, crate: str, now: float) -> float:
-        """The seconds of a processor that a crate may still take."""
+        """The seconds of a processor that a crate may still take: a tenth of them as long as it has not ended."""
         if crate in self.done:
             return 0.0
         began, _ = self.running.get(crate, (now, 0))
-        return max(0.0, self.seconds[crate] - (now - began))
+        return max(self.seconds[crate] / 10, self.seconds[crate] - (now - began))
 
     def behind(self, now: float) -> dict[str, float]:
         """For each crate that has not ended, the seconds of the longest chain that begins with it."""

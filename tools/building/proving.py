@@ -92,7 +92,8 @@ class Build:
             while self.plan.left() or self.proofs:
                 for crate, jobs in self.plan.next(time.monotonic()):
                     self.begin(crate, jobs)
-                self.teller.show(self.standing())
+                if self.teller.is_terminal:
+                    self.teller.show(self.standing())
                 signals.wait()
                 for proof in [it for it in self.proofs if it.process.poll() is not None]:
                     self.end(proof)
@@ -122,6 +123,8 @@ class Build:
             raise Interrupted(signal.SIGINT)
         # The status of `rt run` is the program's own.
         if status != 0 and crate != PROGRAM or not proof.room.bring_home(self.sources.sums[crate], self.sources.read):
+            proof.room.leave()
+            self.proofs.remove(proof)
             raise Refusal(f"{self.why(proof)}; {self.kept()}")
         proof.room.leave()
         proof.log.unlink()
@@ -139,6 +142,7 @@ class Build:
             time.sleep(4 * TICK)  # the toolchain's own processes end once it has ended
         for proof in self.proofs:
             proof.room.leave()
+            proof.log.unlink(missing_ok=True)
         self.proofs.clear()
         self.teller.clear()
 

@@ -16,6 +16,7 @@ from .sums import SUM
 
 KEPT = "incremental"  # what the toolchain keeps of a proof, ended or not, for the next one
 ROOM = "room"
+HOW_IT_RUNS = ("args", "status")  # files of a program, which its stamp is made of too
 
 
 @dataclass(frozen=True)
@@ -46,6 +47,9 @@ class Room:
             for part in SOURCES:
                 if (of / part).is_dir():
                     shutil.copytree(of / part, to / part)
+            for name in HOW_IT_RUNS:
+                if (of / name).is_file():
+                    shutil.copy2(of / name, to / name)
             (to / "out").mkdir(parents=True)
             if (of / "out/rlib").is_dir():
                 shutil.copytree(of / "out/rlib", to / "out/rlib", copy_function=link_or_copy)

@@ -9,7 +9,7 @@ import subprocess
 import sys
 
 PARTS = ("workers", "refuse_memory", "refuse_io", "soak", "costs", "memory", "pictures", "traces", "mutations", "explaining",
-         "manual", "releases", "pages")
+         "manual", "releases", "pages", "building", "previews", "times")
 ASIDE = ("greatest",)  # parts that take long, and come only where they or the large size are asked for
 
 # Faults that the parts have to find, for the test of the check itself: a part, a file, what stands there, what is put there.
@@ -36,6 +36,9 @@ PLANTED = (
     ("explaining", "view/due.py", "standing.drawn + 1", "standing.drawn"),
     ("manual", "docs/zorvleid.1", ".It Cm explain", ".It Cm expound"),
     ("releases", "tools/release", '"view",', ""),
+    ("building", "tools/building/plan.py", "key=lambda it: (-behind[it], it)", "key=lambda it: it"),
+    ("previews", "tools/preview", "return int(ended[1])", "return 0"),
+    ("times", "tools/gate_times", "{**seconds, crate: 0.0}", "seconds"),
 )
 
 

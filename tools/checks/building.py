@@ -75,6 +75,18 @@ log("end", crate)
 sys.exit(2 if verb == "run" else 0)
 '''
 
+# What a build reads first, so that there is no room for one crate's files.
+FULL_DISK = """
+import errno, os, shutil
+copytree = shutil.copytree
+def until_full(one, other, *words, **how):
+    if "crates/long/out" in str(other):
+        os.makedirs(other)
+        raise OSError(errno.ENOSPC, os.strerror(errno.ENOSPC), str(other))
+    return copytree(one, other, *words, **how)
+shutil.copytree = until_full
+"""
+
 
 @dataclass(frozen=True)
 class Place:
@@ -247,7 +259,8 @@ def check_stops(top: Path, tally: Tally) -> None:
                     event[1] for event in it.events() if event[0] == "begin" and goes_on(event[3])]))
             else:
                 tally.tell(f"a build under {name}", one_line(ran, status, "interrupted", "goes on from there"))
-                tally.tell(f"what {name} leaves", it.half())
+                tally.tell(f"what {name} leaves", it.half() or unlike([], [
+                    str(log.parent) for log in (it.top / "crates").glob("*/out/build.log")]))
                 tally.tell(f"what the proof had kept, {name}", unlike(True, it.out("long", "incremental/kept").exists()))
             count = len(it.events())
             tally.tell(f"the build after {name}", unlike(0, it.build().returncode))
@@ -271,8 +284,14 @@ def check_faults(top: Path, tally: Tally) -> None:
             tally.tell(f"the log of {fault}", None if is_said else f"it has {said!r}")
             tally.tell(f"what {fault} leaves", it.half() or unlike((True, False, ["base", "long"]), (
                 it.out("base", "rlib/stamp").exists(), it.out("long", "rlib").exists(), it.begun())))
-            tally.tell(f"the build after {fault}", unlike(0, it.build().returncode))
-            tally.tell(f"the log after {fault}", unlike(False, (it.top / log).exists()))
+            if fault == "disk":
+                tally.tell(f"the build after {fault}", unlike(0, it.build().returncode))
+                tally.tell(f"the log after {fault}", unlike(False, (it.top / log).exists()))
+    with place(top) as it:
+        (it.top / "sitecustomize.py").write_text(FULL_DISK)
+        ran = it.build("--jobs", "1", PYTHONPATH=str(it.top))
+        tally.tell("a disk that is full before a proof", one_line(ran, 126, "the disk is full"))
+        tally.tell("what that leaves", it.half() or unlike((["base"], 0), (it.begun(), it.build().returncode)))
     with place(top) as it:
         it.build()
         (it.top / "crates/long/src/lib.rt").write_text("edited\n")
