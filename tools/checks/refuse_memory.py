@@ -20,8 +20,8 @@ from model_script import Reader
 # What is run by each check: a case, with so many workers and viewers.
 SMALL = (("runs/two_texels", 0, 0), ("waits/guard_and_release", 0, 0), ("lost/buckets", 0, 0),
          ("runs/two_texels", 2, 0), ("waits/compositor", 2, 0), ("runs/views", 2, 2))
-CASES = ("runs/two_texels", "waits/guard_and_release", "lost/buckets", "random/158", "results/results", "words/check",
-         "words/generate", "words/trial", "verify/guard_and_release", "verify/names")
+CASES = ("runs/two_texels", "waits/guard_and_release", "waits/rounds_of_guards", "lost/buckets", "random/158",
+         "results/results", "words/check", "words/generate", "words/trial", "verify/guard_and_release", "verify/names")
 CASES_WITH_WORKERS = ("runs/two_texels", "waits/guard_and_release", "lost/buckets", "waits/compositor", "results/results",
                       "runs/views")
 NO_MEMORY = (6, b"", b"no memory\n")

@@ -1,104 +1,144 @@
-ghost use Rattle.std.specs.Prelude.{◌≡◌, ◌≢◌, [], length, true, false, OnOk, OnErr, IfSome, IfNone, if◌then◌else◌};
+ghost use Rattle.std.specs.Prelude.{◌≡◌, ℕ, ◌<◌, ◌==◌, [], length, filter, false, Some, None, OnOk, IfOk};
+ghost use Rattle.std.specs.List.{list_any};
 ghost use Rattle.std.specs.List.Sorted.{IsStrictlySortedBy};
 ghost use Rattle.std.specs.BTreeMap.{is_at};
 ghost use Rattle.std.specs.BTreeSet.{insert_key};
 ghost use Rattle.std.specs.Set.{remove_key};
+ghost use Rattle.slab.specs.Slab.{get, ContainsKey, HasRoomFor, SameValues, Updates};
 ghost use Rattle.sync_core.specs.declared.wait.Wait.{Wait};
 ghost use Rattle.sync_core.specs.Keys.{wait_cmp};
-ghost use Rattle.sync_core.specs.Queues.{has, GoesLast};
+ghost use Rattle.sync_core.specs.Records.{waits_of};
+ghost use Rattle.sync_core.specs.Queues.{GoesLast, is_of, is_other};
 
-use crate::keys::Place;
 use crate::wait::Wait;
+use crate::which::{Whose, is_of};
 use slab::Slab;
 use std::alloc::{AllocError, Global};
-use std::collections::BTreeMap;
 use std::marker::Model;
 
-/// The records of the pending waits, which lie in a slab, and their slots in the order of the
-/// waits.
+/// The records of the pending waits, which lie in a slab, and how many there are of each order
+/// number.
 #[derive(Drop)]
 pub struct Records {
     slots: Slab<Wait>,
-    places: BTreeMap<Place, usize>,
+    counts: Vec<usize>,
 }
 
 impl Model for Records {
-    ghost use Rattle.std.specs.Prelude.{List};
-    ghost use Rattle.sync_core.specs.declared.wait.Wait.{Wait};
-    ghost use Rattle.sync_core.specs.Slots.{waits_of, HoldRecords};
+    ghost use Rattle.std.specs.Prelude.{length};
+    ghost use Rattle.sync_core.specs.Records.{Held, HoldRecords};
 
-    ghost Value = { List Wait };
+    ghost Value = { Held };
 
-    ghost view = { λ r. waits_of r.slots r.places.entries };
+    ghost view = { λ r. record { slab = r.slots; numbers = length r.counts.items } };
 
-    ghost invariant = { λ r. HoldRecords r.slots r.places.entries };
+    ghost invariant = { λ r. HoldRecords r.slots r.counts.items };
 }
 
 impl Records {
     /// No waits.
     pub fn new(alloc: Global) -> Records
-        ensures { result ≡ [] }
+        ensures { result.slab.slots ≡ [] }
     {
         Records {
             slots: Slab::new(alloc),
-            places: BTreeMap::new(alloc),
+            counts: Vec::new(alloc),
         }
     }
 
     /// How many waits there are.
     pub fn len(&self) -> usize
-        ensures len { result ≡ length self.now }
-        ensures rising { IsStrictlySortedBy wait_cmp self.now }
+        ensures len { result ≡ length (waits_of self.now.slab) }
+        ensures rising { IsStrictlySortedBy wait_cmp (waits_of self.now.slab) }
     {
-        self.places.len()
+        self.slots.len()
     }
 
-    /// The first wait of an order number.
-    #[inline(always)]
-    pub fn first_of(&self, order: u32) -> Option<Wait>
-        ensures order { IfSome result (λ w. w.order ≡ order) }
-        ensures member { IfSome result (λ w. has self.now w ≡ true) }
-        ensures none { IfNone result ((q : Wait) → has self.now q ≡ true → q.order ≢ order) }
+    /// Whether a wait of an order number is there.
+    pub fn has_of(&self, order: u32) -> bool
+        ensures { result ≡ list_any (λ (w : Wait). w.order == order) (waits_of self.now.slab) }
     {
-        let from = Place {
-            order,
-            stream: 0,
-            position: 0,
-        };
-        match self.places.range(from..).next() {
-            Some((place, slot)) if place.order == order => self.slots.get(*slot).copied(),
-            _ => None,
+        match self.counts.get(order as usize) {
+            Some(count) => 0 < *count,
+            None => false,
         }
     }
 
-    /// Puts a wait in its place.
-    pub fn insert(&mut self, wait: Wait) -> Result<(), AllocError>
-        requires { GoesLast wait self.old }
-        ensures ok { OnOk result (self.new ≡ insert_key wait_cmp self.old wait) }
-        ensures updates { OnOk result
-            ((q : Wait) → has self.new q
-            ≡ (if is_at (wait_cmp wait) q then true else has self.old q)) }
-        ensures err { OnErr result (self.new ≡ self.old) }
+    /// The wait in a slot.
+    #[inline(always)]
+    pub fn get(&self, slot: usize) -> Option<Wait>
+        ensures { result ≡ get self.now.slab slot }
     {
-        self.slots.reserve(1)?;
-        self.places
-            .insert(Place::of(wait), self.slots.vacant_key())?;
-        let _slot = self.slots.insert_reserved(wait);
-        Ok(())
+        self.slots.get(slot).copied()
     }
 
-    /// Takes a wait out.
-    pub fn remove(&mut self, wait: Wait)
-        requires { has self.old wait ≡ true }
-        ensures value { self.new ≡ remove_key (is_at (wait_cmp wait)) self.old }
-        ensures updates { (q : Wait)
-            → has self.new q ≡ (if is_at (wait_cmp wait) q then false else has self.old q) }
+    /// Takes room for a wait of an order number, and gives the slot into which it will go.
+    pub fn reserve(&mut self, order: u32) -> Result<usize, AllocError>
+        ensures room { OnOk result (HasRoomFor self.new.slab 1) }
+        ensures counted { OnOk result (order < self.new.numbers) }
+        ensures slot { IfOk result (λ slot. slot ≡ self.new.slab.vacant_key) }
+        ensures same { self.new.slab.slots ≡ self.old.slab.slots }
     {
-        match self.places.remove(&Place::of(wait)) {
-            Some(slot) => {
-                let _wait = self.slots.remove(slot);
+        self.slots.reserve(1)?;
+        while self.counts.len() <= order as usize {
+            self.counts.push(0)?;
+        }
+        Ok(self.slots.vacant_key())
+    }
+
+    /// Puts a wait into the slot that is next.
+    pub fn insert(&mut self, wait: Wait)
+        requires room { HasRoomFor self.old.slab 1 }
+        requires counted { wait.order < self.old.numbers }
+        requires last { GoesLast wait (waits_of self.old.slab) }
+        ensures vacant { get self.old.slab self.old.slab.vacant_key ≡ None }
+        ensures updates { Updates self.old.slab self.new.slab self.old.slab.vacant_key (Some wait) }
+        ensures waits { waits_of self.new.slab ≡ insert_key wait_cmp (waits_of self.old.slab) wait }
+    {
+        let _slot = self.slots.insert_reserved(wait);
+        let _waiting = self.slots.len();
+        self.counts[wait.order as usize] += 1;
+    }
+
+    /// Takes a wait out of its slot.
+    pub fn remove(&mut self, slot: usize, wait: Wait)
+        requires { get self.old.slab slot ≡ Some wait }
+        ensures updates { Updates self.old.slab self.new.slab slot None }
+        ensures waits { waits_of self.new.slab
+            ≡ remove_key (is_at (wait_cmp wait)) (waits_of self.old.slab) }
+    {
+        let _wait = self.slots.remove(slot);
+        self.counts[wait.order as usize] -= 1;
+    }
+
+    /// Takes the wait in a slot away, if there is one that goes.
+    fn drop_in(&mut self, slot: usize, whose: Whose)
+        ensures fewer { (i : ℕ) (w : Wait) → get self.new.slab i ≡ Some w → get self.old.slab i ≡ Some w }
+        ensures gone { (w : Wait) → get self.new.slab slot ≡ Some w → is_of whose w ≡ false }
+        ensures others { filter (is_other whose) (waits_of self.new.slab)
+            ≡ filter (is_other whose) (waits_of self.old.slab) }
+    {
+        if let Some(wait) = self.get(slot) {
+            if is_of(whose, wait) {
+                self.remove(slot, wait);
             }
-            None => {}
+        }
+    }
+
+    /// A number above all slots that have a wait.
+    pub fn bound(&self) -> usize
+        ensures { (i : ℕ) (w : Wait) → get self.now.slab i ≡ Some w → i < result }
+    {
+        self.slots.capacity()
+    }
+
+    /// Takes all waits of an order number or of a stream away.
+    pub fn drop_all(&mut self, whose: Whose)
+        ensures fewer { (i : ℕ) (w : Wait) → get self.new.slab i ≡ Some w → get self.old.slab i ≡ Some w }
+        ensures waits { waits_of self.new.slab ≡ filter (is_other whose) (waits_of self.old.slab) }
+    {
+        for slot in 0..self.bound() {
+            self.drop_in(slot, whose);
         }
     }
 }
