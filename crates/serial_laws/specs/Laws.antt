@@ -49,6 +49,6 @@ SerialWantsNoMemory = (p : PlansData) → AreLawfulPlans p → All (λ event. wa
 abbrev pub UnfinishedGoesOn : Type 0
 UnfinishedGoesOn = (p : PlansData) (h : List Event) → AreLawfulPlans p → IsLegal p h → IsIdle p h → (IsComplete p h → ⊥) → CanGoOn p h
 
--- after every legal history that is not complete some event is legal
+-- after every legal history that is not complete some event is legal that is no loss for want of memory
 abbrev pub UnfinishedHasEvent : Type 0
-UnfinishedHasEvent = (p : PlansData) (h : List Event) → AreLawfulPlans p → IsLegal p h → (IsComplete p h → ⊥) → (e : Event) × IsLegal p (e ∷ h)
+UnfinishedHasEvent = (p : PlansData) (h : List Event) → AreLawfulPlans p → IsLegal p h → (IsComplete p h → ⊥) → (e : Event) × (wants_memory e ≡ false) × IsLegal p (e ∷ h)

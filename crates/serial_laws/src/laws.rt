@@ -9,8 +9,8 @@ pub fn played_histories_are_legal()
 {}
 
 /// The law of the end: after a legal history the rule for one thread gives no event exactly where the history is complete.
-/// After a legal history that is not complete some event is legal; where no number is left, an open stream has a flush to
-/// order that its client can come to, or it may close.
+/// After a legal history that is not complete some event is legal that is no loss for want of memory; where no number is
+/// left, an open stream has a flush to order that its client can come to, or it may close.
 #[tactic(auto, using(crate::proofs::Ends::ends_where_complete, crate::proofs::Ends::unfinished_goes_on, crate::proofs::Further::unfinished_has_event))]
 pub fn histories_go_on_until_complete()
     ensures ends { EndsWhereComplete }

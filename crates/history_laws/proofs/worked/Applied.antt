@@ -37,7 +37,7 @@ use Rattle.gpu_journal.specs.Lines.{journal_head, dump_text}
 use Rattle.gpu_journal.specs.World.{known, state_of}
 use Rattle.gpu_journal.specs.Folds.{steps_of, StateIsFold}
 use Rattle.gpu_journal.specs.Laws.{DifferentNumbers, EventsAreApart, OthersBegin, is_other}
-use Rattle.gpu_journal.specs.Waits.{left_of, pending_in}
+use Rattle.gpu_journal.specs.Waits.{left_of, pending_in, IsOpen}
 use Rattle.gpu_journal.specs.Facts.{flush_of, reach}
 use Rattle.gpu_journal.specs.Legal.{IsLegal}
 use Rattle.gpu_journal.specs.Complete.{IsComplete}
@@ -160,9 +160,13 @@ no_dump apart others event behind other stream place index value same = both_way
 
 -- ---- histories
 
--- a legal history after which no event is legal is complete, or at least not incomplete
-stuck_complete : UnfinishedHasEvent → (p : PlansData) (h : List Event) → AreLawfulPlans p → IsLegal p h → ((e : Event) → IsLegal p (e ∷ h) → ⊥) → (IsComplete p h → ⊥) → ⊥
-stuck_complete law p h lawful legal stuck unfinished = let more = law p h lawful legal unfinished in stuck more.0 more.1
+-- a legal history after which every legal event is a loss for want of memory is complete, or at least not incomplete
+stuck_complete : UnfinishedHasEvent → (p : PlansData) (h : List Event) → AreLawfulPlans p → IsLegal p h → ((e : Event) → IsLegal p (e ∷ h) → wants_memory e ≡ true) → (IsComplete p h → ⊥) → ⊥
+stuck_complete law p h lawful legal stuck unfinished = let more = law p h lawful legal unfinished in both_ways (wants_memory more.0) more.1 (stuck more.0 more.2)
+
+-- some legal event alone would say less: wherever a stream is open, its loss for want of memory is legal
+loss_is_legal : (p : PlansData) (h : List Event) (s : ℕ) → IsLegal p h → IsOpen p h s → IsLegal p (events.Lost s Memory [] ∷ h)
+loss_is_legal p h s legal open' = (record { rule_1 = tt; rule_2 = tt; rule_3 = tt; rule_4 = tt; rule_5 = tt; rule_6 = tt; rule_7 = tt; rule_8 = tt; rule_9 = tt; rule_10 = tt; rule_11 = (open', refl); rule_12 = tt }, legal)
 
 -- no serial history ends with a loss for want of memory
 no_memory : SerialWantsNoMemory → (p : PlansData) (s : ℕ) (h : List Event) → AreLawfulPlans p → serial p ≡ events.Lost s Memory [] ∷ h → ⊥
