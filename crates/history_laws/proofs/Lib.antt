@@ -4,4 +4,6 @@ pub mod Dumps
 pub mod Outputs
 pub mod Events
 pub mod Six
+pub mod Counting
+pub mod Waits
 mod worked

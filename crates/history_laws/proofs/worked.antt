@@ -16,5 +16,6 @@ mod Priorities
 mod ThreeErrors
 mod LostWithDump
 mod ClosesUnrun
+mod ClosesWaiting
 mod MayBeTold
 mod Applied

@@ -1,18 +1,23 @@
 -- Laws of scripts, of the history that a script has on one thread, and of what is printed of histories.
-use Rattle.std.specs.Prelude.{◌≡◌, ℕ, ◌≤◌, List, ◌++◌, length, take, IfOk}
+use Rattle.std.specs.Prelude.{◌≡◌, ℕ, ◌≤◌, List, [], ◌∷◌, ◌++◌, length, take, IfOk, Some}
+use Rattle.std.specs.List.{All}
 use Rattle.gpu_plan.specs.Plans.{PlansData, plan_of}
 use Rattle.gpu_plan.specs.Passes.{flushes}
 use Rattle.gpu_plan.specs.Script.{script_of}
 use Rattle.sync_core.specs.declared.ending.Ending.{Ending}
+use Rattle.sync_core.specs.Standing.{first_order}
 use Rattle.gpu_journal.specs.declared.event.Event.{Event}
+use Rattle.gpu_journal.specs.declared.event.Event.TheVariants.{Finish}
 use Rattle.gpu_journal.specs.World.{known}
-use Rattle.gpu_journal.specs.Legal.{RunsFirstNumber, RunsUnblocked, RunsReachedFlush, IsLegal}
+use Rattle.gpu_journal.specs.Waits.{left_of, pending_in, endings_in}
+use Rattle.gpu_journal.specs.Legal.{OfRun, RunsFirstNumber, RunsUnblocked, RunsReachedFlush, IsLegal}
 use Rattle.gpu_journal.specs.Complete.{IsComplete}
 use Rattle.gpu_journal.specs.Serial.{most_events, serial}
 use Rattle.gpu_journal.specs.Written.{result_at}
 use Rattle.gpu_journal.specs.Dumps.{MayDump, AreDumpLines, dump_lines}
 use Rattle.gpu_journal.specs.Output.{output}
 use Rattle.serial_laws.specs.Scripts.{AreLawfulPlans}
+use Rattle.history_laws.specs.Kept.{HaveEnded, HasCause}
 
 -- ---- scripts
 
@@ -39,6 +44,29 @@ DumpsMayBeTold = (p : PlansData) → AreLawfulPlans p → AreDumpLines p (serial
 abbrev pub LaterMayBeTold : Type 0
 LaterMayBeTold = (p : PlansData) (later between past : List Event) (s : ℕ) (dump : ℕ × ℕ) → flushes (take dump.0 (plan_of p s).actions) ≤ (known p past s).finished
     → MayDump p (later ++ (between ++ past)) s dump (result_at p (between ++ past) s dump.1)
+
+-- ---- waits
+
+-- no step, finish or loss by an error of a stream comes while a kept wait of its first number is pending
+abbrev pub NoneRunsWaiting : Type 0
+NoneRunsWaiting = (p : PlansData) (g : List Event) (e : Event) → IsLegal p (e ∷ g)
+    → OfRun (λ s. All (λ w. w.stream ≡ s → first_order (left_of p g s) ≡ Some w.order → ⊥) (pending_in p g)) e
+
+-- when one comes, each kept wait of that number has exactly one ending
+abbrev pub RunsAfterEndings : Type 0
+RunsAfterEndings = (p : PlansData) (g : List Event) (e : Event) → IsLegal p (e ∷ g) → OfRun (λ s. (n : ℕ) → first_order (left_of p g s) ≡ Some n → HaveEnded p g s n) e
+
+-- and so it stays once the number is finished
+abbrev pub FinishedHaveEnded : Type 0
+FinishedHaveEnded = (p : PlansData) (later g : List Event) (s n : ℕ) → IsLegal p (later ++ Finish s n ∷ g) → HaveEnded p (later ++ Finish s n ∷ g) s n
+
+-- each ending has its event
+abbrev pub EndingsHaveCauses : Type 0
+EndingsHaveCauses = (p : PlansData) (h : List Event) → All (HasCause p h) (endings_in p h)
+
+-- after a legal and complete history no wait is pending
+abbrev pub CompleteWaitsForNone : Type 0
+CompleteWaitsForNone = (p : PlansData) (h : List Event) → IsLegal p h → IsComplete p h → pending_in p h ≡ []
 
 -- ---- outputs
 

@@ -1,4 +1,4 @@
-ghost use Rattle.history_laws.specs.Laws.{ScriptsAreLawful, ScriptsRunLegally, ScriptsRunToTheEnd, DumpsMayBeTold, LaterMayBeTold, SameOutputIsSameHistory, SameRunIsSameHistory, SerialIsShort, MostEventsAreFew, SixAlwaysHolds};
+ghost use Rattle.history_laws.specs.Laws.{ScriptsAreLawful, ScriptsRunLegally, ScriptsRunToTheEnd, DumpsMayBeTold, LaterMayBeTold, NoneRunsWaiting, RunsAfterEndings, FinishedHaveEnded, EndingsHaveCauses, CompleteWaitsForNone, SameOutputIsSameHistory, SameRunIsSameHistory, SerialIsShort, MostEventsAreFew, SixAlwaysHolds};
 
 /// The law of scripts: the plans of each text that is a script are lawful, so its serial history is legal and complete.
 #[tactic(auto, using(crate::proofs::Scripts::scripts_are_lawful, crate::proofs::Runs::scripts_run_legally, crate::proofs::Runs::scripts_run_to_the_end))]
@@ -14,6 +14,18 @@ pub fn scripts_are_lawful()
 pub fn dumps_may_be_told()
     ensures serial { DumpsMayBeTold }
     ensures later { LaterMayBeTold }
+{}
+
+/// The law of kept waits. No step, finish or loss by an error of a stream comes while a kept wait of its first number is
+/// pending; when it comes, and ever after the finish, each kept wait of that number has exactly one ending. Each ending has
+/// the event that made it. After a legal and complete history no wait is pending.
+#[tactic(auto, using(crate::proofs::Waits::none_runs_waiting, crate::proofs::Waits::runs_after_endings, crate::proofs::Waits::finished_have_ended, crate::proofs::Waits::endings_have_causes, crate::proofs::Waits::complete_waits_for_none))]
+pub fn kept_waits_are_followed()
+    ensures waiting { NoneRunsWaiting }
+    ensures ended { RunsAfterEndings }
+    ensures finished { FinishedHaveEnded }
+    ensures causes { EndingsHaveCauses }
+    ensures complete { CompleteWaitsForNone }
 {}
 
 /// The law of the whole output: it tells its history, in either version, and with no look at the script. So does an output

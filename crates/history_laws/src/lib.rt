@@ -4,6 +4,6 @@
 mod laws;
 
 pub use laws::{
-    dumps_may_be_told, outputs_tell_histories, rule_six_always_holds, scripts_are_lawful,
-    serial_histories_are_short,
+    dumps_may_be_told, kept_waits_are_followed, outputs_tell_histories, rule_six_always_holds,
+    scripts_are_lawful, serial_histories_are_short,
 };

@@ -1,9 +1,9 @@
 -- Laws on which no other proof rests, each applied once: if one of them said less, its case here could not be shown.
-use Rattle.std.proofs.Common.{◌≡◌, ℕ, suc, ◌+◌, ◌*◌, ◌^◌, ◌<◌, ◌≤◌, lit<, true, false, Some, Result, Ok, IfOk, List, [], ◌∷◌, ◌++◌, length, map, take, refl, sym, ap, subst, ◌∙◌, arith}
-use Rattle.std.proofs.lemmas.Bool.{both_ways}
-use Rattle.std.specs.Prelude.{AllPairs, Contains}
+use Rattle.std.proofs.Common.{◌≡◌, ℕ, suc, Bool, cond, ◌+◌, ◌*◌, ◌^◌, ◌<◌, ◌≤◌, lit<, true, false, Some, Result, Ok, IfOk, List, [], ◌∷◌, ◌++◌, length, map, take, refl, sym, ap, subst, ◌∙◌, arith}
+use Rattle.std.proofs.lemmas.Bool.{both_ways, and_from, eq-eqb}
+use Rattle.std.specs.Prelude.{AllPairs, Contains, filter}
 use Rattle.std.specs.List.{All}
-use Rattle.std.proofs.lemmas.List.Elements.{All-head}
+use Rattle.std.proofs.lemmas.List.Elements.{All-head, All-contains}
 use Rattle.std.proofs.lemmas.List.Kept.{AllPairs-from_increasing}
 use Rattle.gpu_word.specs.Header.{size_of, id_of, SplitsJoined, JoinsSplit}
 use Rattle.gpu_cmd.specs.declared.areas.Areas.{Areas}
@@ -24,6 +24,7 @@ use Rattle.stream_state.specs.Told.{ReleasesRise}
 use Rattle.stream_state.specs.Laws.{IsTaken, AreTaken, StepsMoveOn, StatesAreBounded, ResultsAreLastWritten, WritesRise, written}
 use Rattle.sync_core.specs.declared.wait.Wait.{Wait}
 use Rattle.sync_core.specs.declared.ending.Ending.{Ending}
+use Rattle.sync_core.specs.declared.ending.How.TheVariants as how
 use Rattle.sync_core.specs.Standing.{first_order}
 use Rattle.sync_core.specs.Events.{SyncEvent, standing, left}
 use Rattle.sync_core.specs.Pending.{is_kept, is_blocked, still, kept_waits, pending}
@@ -37,7 +38,7 @@ use Rattle.gpu_journal.specs.Lines.{journal_head, dump_text}
 use Rattle.gpu_journal.specs.World.{known, state_of}
 use Rattle.gpu_journal.specs.Folds.{steps_of, StateIsFold}
 use Rattle.gpu_journal.specs.Laws.{DifferentNumbers, EventsAreApart, OthersBegin, is_other}
-use Rattle.gpu_journal.specs.Waits.{left_of, pending_in, IsOpen}
+use Rattle.gpu_journal.specs.Waits.{sync_of, standing_of, left_of, pending_in, endings_in, IsOpen}
 use Rattle.gpu_journal.specs.Facts.{flush_of, reach}
 use Rattle.gpu_journal.specs.Legal.{IsLegal}
 use Rattle.gpu_journal.specs.Complete.{IsComplete}
@@ -48,7 +49,8 @@ use Rattle.gpu_journal.specs.Output.{output}
 use Rattle.serial_laws.specs.Scripts.{AreLawfulPlans}
 use Rattle.serial_laws.specs.Going.{wants_memory}
 use Rattle.serial_laws.specs.Laws.{UnfinishedHasEvent, SerialWantsNoMemory}
-use Rattle.history_laws.specs.Laws.{ScriptsAreLawful, ScriptsRunLegally, ScriptsRunToTheEnd, DumpsMayBeTold, LaterMayBeTold, SameOutputIsSameHistory, SameRunIsSameHistory, SerialIsShort, MostEventsAreFew, SixAlwaysHolds}
+use Rattle.history_laws.specs.Kept.{kept_in, is_wait, is_end, EndsSo, HasCause}
+use Rattle.history_laws.specs.Laws.{ScriptsAreLawful, ScriptsRunLegally, ScriptsRunToTheEnd, DumpsMayBeTold, LaterMayBeTold, SameOutputIsSameHistory, SameRunIsSameHistory, NoneRunsWaiting, RunsAfterEndings, FinishedHaveEnded, EndingsHaveCauses, CompleteWaitsForNone, SerialIsShort, MostEventsAreFew, SixAlwaysHolds}
 
 -- ---- headers
 
@@ -211,6 +213,58 @@ same_runs : SameRunIsSameHistory → ScriptsRunLegally → ScriptsAreLawful → 
 same_runs law legal lawful text other p q mark is its same =
     law p q mark mark (serial p) (serial q) (of_script AreLawfulPlans (script_of text) p (lawful text) is) (of_script AreLawfulPlans (script_of other) q (lawful other) its)
     (of_script (λ p. IsLegal p (serial p)) (script_of text) p (legal text) is) (of_script (λ p. IsLegal p (serial p)) (script_of other) q (legal other) its) same
+
+-- ---- kept waits
+
+-- no stream steps while a wait of its first number is pending
+waiting_stays : NoneRunsWaiting → (p : PlansData) (g : List Event) (w : Wait) (words : List (ℕ × ℕ)) → Contains (pending_in p g) w → first_order (left_of p g w.stream) ≡ Some w.order → IsLegal p (events.Step w.stream words ∷ g) → ⊥
+waiting_stays law p g w words among first legal =
+    All-contains (λ (v : Wait). v.stream ≡ w.stream → first_order (left_of p g w.stream) ≡ Some v.order → ⊥) (pending_in p g) w (law p g (events.Step w.stream words) legal) among refl first
+
+-- the wait is one of its own number, stream and release
+own_wait : (w : Wait) → length (filter (is_wait w.stream w.order w.target w.release) (w ∷ [])) ≡ 1
+own_wait w =
+    let same : is_wait w.stream w.order w.target w.release w ≡ true =
+    and_from _ _ (eq-eqb w.stream w.stream refl) (and_from _ _ (eq-eqb w.order w.order refl) (and_from _ _ (eq-eqb w.target w.target refl) (eq-eqb w.release w.release refl))) in
+    ap (λ (b : Bool). length (cond b (w ∷ []) [])) same
+
+-- a number whose one wait was kept is not run before an ending is told
+not_before : RunsAfterEndings → (p : PlansData) (g : List Event) (w : Wait) (words : List (ℕ × ℕ)) → kept_in p g ≡ w ∷ [] → endings_in p g ≡ [] → first_order (left_of p g w.stream) ≡ Some w.order → IsLegal p (events.Step w.stream words ∷ g) → ⊥
+not_before law p g w words kept none first legal =
+    let same = law p g (events.Step w.stream words) legal w.order first w.target w.release in
+    let ended : length (filter (is_end w.stream w.order w.target w.release) (endings_in p g)) ≡ 0 = ap (λ (es : List Ending). length (filter (is_end w.stream w.order w.target w.release) es)) none in
+    let one : length (filter (is_wait w.stream w.order w.target w.release) (kept_in p g)) ≡ 1 = ap (λ (ws : List Wait). length (filter (is_wait w.stream w.order w.target w.release) ws)) kept ∙ own_wait w in
+    omega (arith, same, ended, one)
+
+-- once it is finished there is an ending, whatever comes later
+told_once : FinishedHaveEnded → (p : PlansData) (later g : List Event) (w : Wait) → IsLegal p (later ++ events.Finish w.stream w.order ∷ g) → kept_in p (later ++ events.Finish w.stream w.order ∷ g) ≡ w ∷ []
+    → length (filter (is_end w.stream w.order w.target w.release) (endings_in p (later ++ events.Finish w.stream w.order ∷ g))) ≡ 1
+told_once law p later g w legal kept = law p later g w.stream w.order legal w.target w.release ∙ ap (λ (ws : List Wait). length (filter (is_wait w.stream w.order w.target w.release) ws)) kept ∙ own_wait w
+
+-- where a wait is told to have ended by close, its target was closed
+has_close : EndingsHaveCauses → (p : PlansData) (h : List Event) (ending : Ending) → endings_in p h ≡ ending ∷ [] → ending.how ≡ how.Closed → (later before : List Event) × (later ++ events.Close ending.target ∷ before ≡ h)
+has_close law p h ending are closed =
+    let cause = All-head (HasCause p h) ending [] (subst (All (HasCause p h)) are (law p h)) in
+    let close : cause.event ≡ events.Close cause.wait.target = subst (EndsSo cause.event (standing (sync_of p cause.before)) (standing (sync_of p (cause.event ∷ cause.before))) cause.wait) closed cause.ended in
+    let target : cause.wait.target ≡ ending.target = sym (ap (λ (e : Ending). e.target) cause.told) in
+    let is : cause.event ≡ events.Close ending.target = close ∙ ap events.Close target in
+    (cause.later, cause.before, subst (λ (e : Event). cause.later ++ e ∷ cause.before ≡ h) is cause.whole)
+
+-- and by release, that its target came to the release
+has_release : EndingsHaveCauses → (p : PlansData) (h : List Event) (ending : Ending) → endings_in p h ≡ ending ∷ [] → ending.how ≡ how.Release → (later past : List Event) × (later ++ past ≡ h) × (ending.release ≤ (standing_of p past ending.target).release)
+has_release law p h ending are released =
+    let cause = All-head (HasCause p h) ending [] (subst (All (HasCause p h)) are (law p h)) in
+    let ends = subst (EndsSo cause.event (standing (sync_of p cause.before)) (standing (sync_of p (cause.event ∷ cause.before))) cause.wait) released cause.ended in
+    let target : cause.wait.target ≡ ending.target = sym (ap (λ (e : Ending). e.target) cause.told) in
+    let release : cause.wait.release ≡ ending.release = sym (ap (λ (e : Ending). e.release) cause.told) in
+    let after = subst (λ (t : ℕ). cause.wait.release ≤ (standing_of p (cause.event ∷ cause.before) t).release) target ends.1 in
+    (cause.later, cause.event ∷ cause.before, cause.whole, subst (λ (r : ℕ). r ≤ (standing_of p (cause.event ∷ cause.before) ending.target).release) release after)
+
+-- no run of a script leaves a wait behind
+none_left_waiting : CompleteWaitsForNone → ScriptsRunLegally → ScriptsRunToTheEnd → (text : List ℕ) (p : PlansData) → script_of text ≡ Ok p → pending_in p (serial p) ≡ []
+none_left_waiting law legal complete text p is = law p (serial p) (of_script (λ p. IsLegal p (serial p)) (script_of text) p (legal text) is) (of_script (λ p. IsComplete p (serial p)) (script_of text) p (complete text) is)
+
+-- ---- rule 6
 
 -- a number that can be finished is of a flush that its client can have come to
 finish_reached : SixAlwaysHolds → (p : PlansData) (g : List Event) (s n : ℕ) → AreLawfulPlans p → IsLegal p g → first_order (left_of p g s) ≡ Some n → is_blocked s (left_of p g s) (pending_in p g) ≡ false → flush_of p g s ≤ reach p g s
