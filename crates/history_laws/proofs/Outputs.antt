@@ -21,20 +21,20 @@ use Rattle.gpu_journal.specs.declared.end.End.{End}
 use Rattle.gpu_journal.specs.Digits.{number_text}
 use Rattle.gpu_journal.specs.Text.{event_text, journal_text, stream_text, tally_of}
 use Rattle.gpu_journal.specs.Picture.{head_text, image_text, picture_text}
-use Rattle.gpu_journal.specs.Lines.{journal_head, name_text, mark_text, dump_text}
+use Rattle.gpu_journal.specs.Lines.{journal_head, name_text, mark_text, dump_text, view_text}
 use Rattle.gpu_journal.specs.World.{state_of, replay}
 use Rattle.gpu_journal.specs.Waits.{endings_in}
 use Rattle.gpu_journal.specs.Facts.{flush_of, reach}
 use Rattle.gpu_journal.specs.Legal.{MayHaveBeenPut, Obeys, IsLegal}
 use Rattle.gpu_journal.specs.Output.{streams_of, end_of, head_lines, stream_lines, mark_lines, output}
-use Rattle.gpu_journal.specs.Dumps.{dumps_of, dump_line, dump_lines}
+use Rattle.gpu_journal.specs.Dumps.{AreDumps, AreDumpsOf, dumps_of, dump_line, dump_lines}
 use Rattle.gpu_journal.specs.Laws.{HasWords, is_other}
 use Rattle.gpu_journal.proofs.Numerals.{behind_first, number_cut}
 use Rattle.gpu_journal.proofs.Telling.{output_tells}
 use Rattle.serial_laws.specs.Scripts.{AreLawfulPlans}
 use Rattle.serial_laws.proofs.Passed.{lawful_of}
 use Rattle.serial_laws.proofs.Spent.{obeys_known}
-use Rattle.history_laws.specs.Laws.{SameOutputIsSameHistory, SameRunIsSameHistory}
+use Rattle.history_laws.specs.Laws.{SameOutputIsSameHistory, SameRunIsSameHistory, look_lines, SameThreadedRunIsSameHistory}
 
 -- ---- the words of a legal history have 32 bits
 
@@ -184,3 +184,26 @@ same_output_is_same_history p q mark other g h lawful lawful' legal legal' e =
 
 pub same_run_is_same_history : SameRunIsSameHistory
 same_run_is_same_history p q mark other g h lawful lawful' legal legal' e = same_text p q mark other g h (dump_lines p g) (dump_lines q h) lawful lawful' legal legal' (lines_follow p g) (lines_follow q h) e
+
+-- ---- runs on threads
+
+told_follow : (p : PlansData) (h : List Event) (s : ℕ) (dumps : List (ℕ × ℕ)) (text behind : List ℕ) → AreDumps p h s dumps text → CanFollow behind → CanFollow (text ++ behind)
+unfolding dump_text
+told_follow p h s [] text behind are can = subst (λ (x : List ℕ). CanFollow (x ++ behind)) (sym are) can
+told_follow p h s (dump ∷ dumps) text behind are can = subst (λ (x : List ℕ). CanFollow (x ++ behind)) (sym are.3) (refl, refl)
+
+all_told_follow : (p : PlansData) (h : List Event) (streams : List ℕ) (text behind : List ℕ) → AreDumpsOf p h streams text → CanFollow behind → CanFollow (text ++ behind)
+all_told_follow p h [] text behind are can = subst (λ (x : List ℕ). CanFollow (x ++ behind)) (sym are) can
+all_told_follow p h (s ∷ streams) text behind are can =
+    subst (λ (x : List ℕ). CanFollow (x ++ behind)) (sym are.3)
+    (subst CanFollow (sym (append_assoc are.0 are.1 behind)) (told_follow p h s (dumps_of p h s) are.0 (are.1 ++ behind) are.2 (all_told_follow p h streams are.1 behind are.4 can)))
+
+looks_follow : (looks : List (ℕ × ℕ × ℕ)) → CanFollow (look_lines looks)
+unfolding view_text
+looks_follow [] = (refl, refl)
+looks_follow (look ∷ looks) = (refl, refl)
+
+pub same_threaded_run_is_same_history : SameThreadedRunIsSameHistory
+same_threaded_run_is_same_history p q mark other g h dumps more looks others lawful lawful' legal legal' told told' e =
+    same_text p q mark other g h (dumps ++ look_lines looks) (more ++ look_lines others) lawful lawful' legal legal'
+    (all_told_follow p g (streams_of p) dumps (look_lines looks) told (looks_follow looks)) (all_told_follow q h (streams_of q) more (look_lines others) told' (looks_follow others)) e

@@ -1,6 +1,6 @@
 -- Laws of scripts, of the history that a script has on one thread, and of what is printed of histories.
 use Rattle.std.specs.Prelude.{◌≡◌, ℕ, ◌≤◌, List, [], ◌∷◌, ◌++◌, length, take, IfOk, Some}
-use Rattle.std.specs.List.{All}
+use Rattle.std.specs.List.{All, flat_map}
 use Rattle.gpu_plan.specs.Plans.{PlansData, plan_of}
 use Rattle.gpu_plan.specs.Passes.{flushes}
 use Rattle.gpu_plan.specs.Script.{script_of}
@@ -8,6 +8,7 @@ use Rattle.sync_core.specs.declared.ending.Ending.{Ending}
 use Rattle.sync_core.specs.Standing.{first_order}
 use Rattle.gpu_journal.specs.declared.event.Event.{Event}
 use Rattle.gpu_journal.specs.declared.event.Event.TheVariants.{Finish}
+use Rattle.gpu_journal.specs.Lines.{view_text}
 use Rattle.gpu_journal.specs.World.{known}
 use Rattle.gpu_journal.specs.Waits.{left_of, pending_in, endings_in}
 use Rattle.gpu_journal.specs.Legal.{OfRun, RunsFirstNumber, RunsUnblocked, RunsReachedFlush, IsLegal}
@@ -79,6 +80,16 @@ SameOutputIsSameHistory = (p q : PlansData) (mark other : Ending → ℕ) (g h :
 abbrev pub SameRunIsSameHistory : Type 0
 SameRunIsSameHistory = (p q : PlansData) (mark other : Ending → ℕ) (g h : List Event) → AreLawfulPlans p → AreLawfulPlans q → IsLegal p g → IsLegal q h
     → output p mark g ++ dump_lines p g ≡ output q other h ++ dump_lines q h → g ≡ h
+
+-- the lines of looks, each with its viewer, its number of events and its sum
+abbrev pub look_lines : List (ℕ × ℕ × ℕ) → List ℕ
+look_lines looks = flat_map (λ look. view_text look.0 look.1 look.2) looks
+
+-- and so they are where threads ran them: whatever may be told of their dumps, and whatever looks are printed behind
+abbrev pub SameThreadedRunIsSameHistory : Type 0
+SameThreadedRunIsSameHistory = (p q : PlansData) (mark other : Ending → ℕ) (g h : List Event) (dumps more : List ℕ) (looks others : List (ℕ × ℕ × ℕ))
+    → AreLawfulPlans p → AreLawfulPlans q → IsLegal p g → IsLegal q h → AreDumpLines p g dumps → AreDumpLines q h more
+    → output p mark g ++ (dumps ++ look_lines looks) ≡ output q other h ++ (more ++ look_lines others) → g ≡ h
 
 -- ---- the number of events
 

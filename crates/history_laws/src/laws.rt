@@ -1,4 +1,4 @@
-ghost use Rattle.history_laws.specs.Laws.{ScriptsAreLawful, ScriptsRunLegally, ScriptsRunToTheEnd, DumpsMayBeTold, LaterMayBeTold, NoneRunsWaiting, RunsAfterEndings, FinishedHaveEnded, EndingsHaveCauses, CompleteWaitsForNone, SameOutputIsSameHistory, SameRunIsSameHistory, SerialIsShort, MostEventsAreFew, SixAlwaysHolds};
+ghost use Rattle.history_laws.specs.Laws.{ScriptsAreLawful, ScriptsRunLegally, ScriptsRunToTheEnd, DumpsMayBeTold, LaterMayBeTold, NoneRunsWaiting, RunsAfterEndings, FinishedHaveEnded, EndingsHaveCauses, CompleteWaitsForNone, SameOutputIsSameHistory, SameRunIsSameHistory, SameThreadedRunIsSameHistory, SerialIsShort, MostEventsAreFew, SixAlwaysHolds};
 
 /// The law of scripts: the plans of each text that is a script are lawful, so its serial history is legal and complete.
 #[tactic(auto, using(crate::proofs::Scripts::scripts_are_lawful, crate::proofs::Runs::scripts_run_legally, crate::proofs::Runs::scripts_run_to_the_end))]
@@ -29,11 +29,12 @@ pub fn kept_waits_are_followed()
 {}
 
 /// The law of the whole output: it tells its history, in either version, and with no look at the script. So does an output
-/// with the lines of its dumps behind it, which is what a run prints.
-#[tactic(auto, using(crate::proofs::Outputs::same_output_is_same_history, crate::proofs::Outputs::same_run_is_same_history))]
+/// with the lines of its dumps behind it, which is what a run on one thread prints, or with those of any run on threads.
+#[tactic(auto, using(crate::proofs::Outputs::same_output_is_same_history, crate::proofs::Outputs::same_run_is_same_history, crate::proofs::Outputs::same_threaded_run_is_same_history))]
 pub fn outputs_tell_histories()
     ensures output { SameOutputIsSameHistory }
     ensures dumps { SameRunIsSameHistory }
+    ensures threads { SameThreadedRunIsSameHistory }
 {}
 
 /// The law of the number of events: the serial history of a script has at most 409,800,016.

@@ -34,7 +34,7 @@ use Rattle.gpu_journal.specs.declared.event.Event.TheVariants as events
 use Rattle.gpu_journal.specs.declared.event.Why.TheVariants.{Memory}
 use Rattle.gpu_journal.specs.Digits.{number_text}
 use Rattle.gpu_journal.specs.Text.{event_text}
-use Rattle.gpu_journal.specs.Lines.{journal_head, dump_text}
+use Rattle.gpu_journal.specs.Lines.{journal_head, dump_text, view_text}
 use Rattle.gpu_journal.specs.World.{known, state_of}
 use Rattle.gpu_journal.specs.Folds.{steps_of, StateIsFold}
 use Rattle.gpu_journal.specs.Laws.{DifferentNumbers, EventsAreApart, OthersBegin, is_other}
@@ -50,7 +50,7 @@ use Rattle.serial_laws.specs.Scripts.{AreLawfulPlans}
 use Rattle.serial_laws.specs.Going.{wants_memory}
 use Rattle.serial_laws.specs.Laws.{UnfinishedHasEvent, SerialWantsNoMemory}
 use Rattle.history_laws.specs.Kept.{kept_in, is_wait, is_end, EndsSo, HasCause}
-use Rattle.history_laws.specs.Laws.{ScriptsAreLawful, ScriptsRunLegally, ScriptsRunToTheEnd, DumpsMayBeTold, LaterMayBeTold, SameOutputIsSameHistory, SameRunIsSameHistory, NoneRunsWaiting, RunsAfterEndings, FinishedHaveEnded, EndingsHaveCauses, CompleteWaitsForNone, SerialIsShort, MostEventsAreFew, SixAlwaysHolds}
+use Rattle.history_laws.specs.Laws.{ScriptsAreLawful, ScriptsRunLegally, ScriptsRunToTheEnd, DumpsMayBeTold, LaterMayBeTold, SameOutputIsSameHistory, SameRunIsSameHistory, SameThreadedRunIsSameHistory, NoneRunsWaiting, RunsAfterEndings, FinishedHaveEnded, EndingsHaveCauses, CompleteWaitsForNone, SerialIsShort, MostEventsAreFew, SixAlwaysHolds}
 
 -- ---- headers
 
@@ -213,6 +213,11 @@ same_runs : SameRunIsSameHistory → ScriptsRunLegally → ScriptsAreLawful → 
 same_runs law legal lawful text other p q mark is its same =
     law p q mark mark (serial p) (serial q) (of_script AreLawfulPlans (script_of text) p (lawful text) is) (of_script AreLawfulPlans (script_of other) q (lawful other) its)
     (of_script (λ p. IsLegal p (serial p)) (script_of text) p (legal text) is) (of_script (λ p. IsLegal p (serial p)) (script_of other) q (legal other) its) same
+
+-- nor does it hang on what is told of dumps, or on the looks of viewers
+same_looked : SameThreadedRunIsSameHistory → (p : PlansData) (mark : Ending → ℕ) (g h : List Event) (dumps : List ℕ) (viewer events sum : ℕ) → AreLawfulPlans p → IsLegal p g → IsLegal p h → AreDumpLines p g dumps → AreDumpLines p h []
+    → output p mark g ++ (dumps ++ []) ≡ output p mark h ++ ([] ++ (view_text viewer events sum ++ [])) → g ≡ h
+same_looked law p mark g h dumps viewer events sum lawful legal also told none same = law p p mark mark g h dumps [] [] ((viewer, events, sum) ∷ []) lawful lawful legal also told none same
 
 -- ---- kept waits
 
