@@ -3,7 +3,7 @@ use Rattle.std.proofs.Common.{◌≡◌, ℕ, ◌+◌, ◌<◌, ◌≤◌, List,
 use Rattle.std.specs.Prelude.{slice_index_or, Result, Ok, Err, IsErr}
 use Rattle.std.specs.List.{concat}
 use Rattle.std.specs.Io.KnownBytes.{Appends}
-use Rattle.std.proofs.lemmas.List.{append-nil, take_more, take-append-drop}
+use Rattle.std.proofs.lemmas.List.{append-nil, take_more, take-append-drop, length-append}
 use Rattle.std.proofs.lemmas.List.Folds.{concat-append}
 use Rattle.gpu_io.specs.Faults.{HasRisen}
 use Rattle.run_output.specs.Pieces.{AppendsFront, Adds, IsPut, Puts}
@@ -130,3 +130,16 @@ module _ {K : Type 0} (w : K → Option (List ℕ)) (n : K → ℕ) where
       let whole : concat (take (i + 1) lines) ++ concat (drop (i + 1) lines) ≡ concat lines = sym (concat-append (take (i + 1) lines) (drop (i + 1) lines)) ∙ ap concat (take-append-drop (i + 1) lines) in
       let cut_here : Puts {T = T} {E = F} w n a f c h (Err error) (concat (take (i + 1) lines)) = subst (Puts w n a f c h (Err error)) (concat_more lines i lt) here in
       subst (Puts w n a f c k result) whole (puts_failed w n a c f h k error result (concat (take (i + 1) lines)) (concat (drop (i + 1) lines)) fails cut_here)
+
+-- where all lines stay below a limit, the next one behind those that are put does so too
+pub line_below : {K T E : Type 0} (w : K → Option (List ℕ)) (n : K → ℕ) (a b : K) (f g : List ℕ) (lines : List (List ℕ)) (i limit : ℕ) (done : T) → i < length lines → Puts {T = T} {E = E} w n a f b g (Ok done) (concat (take i lines))
+    → length f + length (concat lines) < limit → length g + length (slice_index_or lines i []) < limit
+line_below w n a b f g lines i limit done lt put all =
+    let gathered = length-append put.all.given g in
+    let put_so = length-append f (concat (take i lines)) in
+    let same : length (put.all.given ++ g) ≡ length (f ++ concat (take i lines)) = ap length put.all.whole in
+    let more : length (concat (take i lines) ++ slice_index_or lines i []) ≡ length (concat (take (i + 1) lines)) = ap length (concat_more lines i lt) in
+    let one = length-append (concat (take i lines)) (slice_index_or lines i []) in
+    let whole : length (concat (take (i + 1) lines) ++ concat (drop (i + 1) lines)) ≡ length (concat lines) = ap length (sym (concat-append (take (i + 1) lines) (drop (i + 1) lines)) ∙ ap concat (take-append-drop (i + 1) lines)) in
+    let rest = length-append (concat (take (i + 1) lines)) (concat (drop (i + 1) lines)) in
+    omega (arith, gathered, put_so, same, more, one, whole, rest)

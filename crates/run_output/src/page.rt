@@ -137,7 +137,8 @@ impl Page {
         settle(&mut self.sheet, sink)
     }
 
-    /// Puts lines behind those that are gathered. After a fault a front of all of them stands in the sink.
+    /// Puts lines behind those that are gathered. After a fault a front of all of them stands in the sink. Where all of them stay
+    /// below the limit nothing is written.
     pub(crate) fn put_all<K: Sink, L: Lines>(
         &mut self,
         sink: &mut K,
@@ -147,6 +148,8 @@ impl Page {
         ensures puts { Puts K.written K.faults sink.old self.old.gathered sink.new
             self.new.gathered result
             (concat (L.lines lines.now)) }
+        ensures below { length self.old.gathered + length (concat (L.lines lines.now))
+            < self.old.limit → sink.new ≡ sink.old }
         ensures limit { self.new.limit ≡ self.old.limit }
     {
         for index in 0..lines.count() {
