@@ -1,8 +1,8 @@
 ghost use Rattle.std.specs.Prelude.{◌≡◌, ◌+◌, ◌*◌, ◌≤◌, ◌<◌, [], length, slice_index, IfOk, IsTrue};
 ghost use Rattle.gpu_store.specs.Picture.{texel_at, row_of, IsWhole, painted, rectangle, fits, texel_count, drawn};
 
+use crate::canvas::Canvas;
 use crate::rect::Rect;
-use crate::rows;
 use gpu_word::Memory;
 use std::alloc::Global;
 use std::marker::Model;
@@ -12,7 +12,7 @@ use std::marker::Model;
 pub struct Image {
     width: u32,
     height: u32,
-    texels: Vec<u32>,
+    texels: Canvas,
 }
 
 impl Model for Image {
@@ -23,10 +23,10 @@ impl Model for Image {
     ghost view = { λ image. record {
       width = image.width;
       height = image.height;
-      texels = image.texels.items;
+      texels = image.texels;
     } };
 
-    ghost invariant = { λ image. IsStored image.width image.height image.texels.items };
+    ghost invariant = { λ image. IsStored image.width image.height image.texels };
 }
 
 impl Image {
@@ -36,7 +36,7 @@ impl Image {
         requires height { height ≤ 4096 }
         ensures { IfOk result (λ image. image ≡ painted width height (λ x y. 0)) }
     {
-        let texels = vec![in alloc; 0; width as usize * height as usize]?;
+        let texels = Canvas::zeros(alloc, width as usize * height as usize)?;
         Ok(Image {
             width,
             height,
@@ -51,7 +51,7 @@ impl Image {
         Image {
             width: 0,
             height: 0,
-            texels: Vec::new(alloc),
+            texels: Canvas::empty(alloc),
         }
     }
 
@@ -88,7 +88,7 @@ impl Image {
         ensures narrow { length result.now ≤ 4096 }
     {
         let start = y as usize * self.width as usize;
-        &self.texels[start..start + self.width as usize]
+        self.texels.part(start, self.width as usize)
     }
 
     /// Writes one texel into a rectangle.
@@ -96,7 +96,7 @@ impl Image {
         requires { IsTrue (fits self.old rect) }
         ensures { self.new ≡ drawn self.old rect (λ x y. texel) }
     {
-        rows::fill(&mut self.texels, self.width as usize, rect, texel);
+        self.texels.fill(self.width as usize, rect, texel);
     }
 
     /// Writes texels into a rectangle, row by row.
@@ -105,15 +105,8 @@ impl Image {
         requires count { length texels.now ≡ rect.w * rect.h }
         ensures { self.new ≡ drawn self.old rect (λ x y. slice_index texels.now (y * rect.w + x)) }
     {
-        rows::put(
-            &mut self.texels,
-            self.width as usize,
-            rect,
-            texels,
-            rect.w as usize,
-            0,
-            0,
-        );
+        self.texels
+            .put(self.width as usize, rect, texels, rect.w as usize, 0, 0);
     }
 
     /// Copies a rectangle of another image, from column `sx` of row `sy` on, into a rectangle of this one.
@@ -122,8 +115,7 @@ impl Image {
         requires source_fits { IsTrue (fits source.now (rectangle sx sy rect.w rect.h)) }
         ensures { self.new ≡ drawn self.old rect (λ x y. texel_at source.now (sx + x) (sy + y)) }
     {
-        rows::put(
-            &mut self.texels,
+        self.texels.copy(
             self.width as usize,
             rect,
             &source.texels,
@@ -139,6 +131,6 @@ impl Image {
         requires source_fits { IsTrue (fits self.old (rectangle sx sy rect.w rect.h)) }
         ensures { self.new ≡ drawn self.old rect (λ x y. texel_at self.old (sx + x) (sy + y)) }
     {
-        rows::shift(&mut self.texels, self.width as usize, rect, sx, sy);
+        self.texels.shift(self.width as usize, rect, sx, sy);
     }
 }

@@ -1,6 +1,7 @@
 //! The images that all streams share: their texels, and the operations on them.
 #![tactic(auto)]
 
+mod canvas;
 mod conversion;
 mod image;
 mod images;
