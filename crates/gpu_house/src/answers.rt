@@ -17,6 +17,17 @@ pub enum Doing {
     Closed,
 }
 
+/// What is kept of waits.
+#[derive(Clone, Copy, Debug, PartialEq, Eq)]
+pub struct WaitsKept {
+    /// How many waits are pending.
+    pub pending: usize,
+    /// The first unprocessed number of a stream.
+    pub front: Option<u32>,
+    /// Whether a wait of that number is pending.
+    pub blocked: bool,
+}
+
 /// What a step left its run to do.
 #[derive(Clone, Copy, Debug, PartialEq, Eq)]
 pub enum Next {

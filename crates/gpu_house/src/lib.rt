@@ -20,7 +20,7 @@ mod runs;
 mod slot;
 mod steps;
 
-pub use answers::{Doing, Next, OrderRefused, Progress};
+pub use answers::{Doing, Next, OrderRefused, Progress, WaitsKept};
 pub use batch::Batch;
 pub use house::House;
 pub use house_core::Closing;

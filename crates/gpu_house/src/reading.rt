@@ -4,8 +4,9 @@ ghost use Rattle.std.specs.Option.{IsSomeAnd};
 ghost use Rattle.sync_core.specs.Standing.{IsKnown, is_open};
 ghost use Rattle.gpu_journal.specs.Waits.{standing_of};
 ghost use Rattle.gpu_house.specs.Names.{table_at};
-ghost use Rattle.gpu_house.specs.Waiting.{HaveTargets, FormNoCycle};
+ghost use Rattle.gpu_house.specs.Waiting.{AreWaitsOf, HaveTargets, FormNoCycle};
 
+use crate::answers::WaitsKept;
 use crate::house::House;
 use crate::naming::Naming;
 use gpu_fetch::ServiceSide;
@@ -26,6 +27,18 @@ impl<N: Naming, P: ServiceSide, H: Hook> House<N, P, H> {
         ensures { result ≡ is_open (standing_of N.plans self.now.core.past stream) }
     {
         self.core.is_open(stream)
+    }
+
+    /// What the service really keeps of waits: how many are pending, and of a stream its first unprocessed number and whether a
+    /// wait of that is pending. It is what the journal says.
+    pub fn waits(&self, stream: u32) -> WaitsKept
+        ensures { AreWaitsOf N.plans self.now.core.past stream result }
+    {
+        WaitsKept {
+            pending: self.core.waiting(),
+            front: self.core.front(stream),
+            blocked: self.core.blocked(stream),
+        }
     }
 
     /// What the type of a house keeps, for a house that comes out of a lock: each pending wait names another stream, which is neither

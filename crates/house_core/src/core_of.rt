@@ -1,10 +1,11 @@
 ghost use Rattle.std.specs.Prelude.{◌≡◌, ◌<◌, ◌≤◌, ◌+◌, ◌^◌, [], length, replicate, IfOk, OnOk};
 ghost use Rattle.std.specs.List.{All};
 ghost use Rattle.gpu_plan.specs.Passes.{greatest};
-ghost use Rattle.sync_core.specs.Standing.{IsKnown, is_open};
+ghost use Rattle.sync_core.specs.Standing.{IsKnown, is_open, first_order};
+ghost use Rattle.sync_core.specs.Pending.{is_blocked};
 ghost use Rattle.serial_laws.specs.Scripts.{AreLawfulPlans};
 ghost use Rattle.gpu_journal.specs.World.{known, state_of, replay};
-ghost use Rattle.gpu_journal.specs.Waits.{standing_of, endings_in, pending_in};
+ghost use Rattle.gpu_journal.specs.Waits.{standing_of, left_of, endings_in, pending_in};
 ghost use Rattle.gpu_journal.specs.Legal.{IsLegal};
 ghost use Rattle.house_core.specs.Desks.{at_home};
 ghost use Rattle.house_core.specs.Core.{names_of, IsFresh, is_done};
@@ -149,6 +150,21 @@ impl Core {
         ensures { result ≡ length (pending_in self.now.plans self.now.past) }
     {
         self.scene.sync.waiting()
+    }
+
+    /// The first unprocessed number of a stream, or `None` where it has none.
+    pub fn front(&self, stream: u32) -> Option<u32>
+        ensures { result ≡ first_order (left_of self.now.plans self.now.past stream) }
+    {
+        self.scene.sync.front(stream)
+    }
+
+    /// Whether a wait of the first unprocessed number of a stream is pending.
+    pub fn blocked(&self, stream: u32) -> bool
+        ensures { result ≡ is_blocked stream (left_of self.now.plans self.now.past stream)
+            (pending_in self.now.plans self.now.past) }
+    {
+        self.scene.sync.blocked(stream)
     }
 
     /// How many flushes of a stream are finished.
