@@ -57,18 +57,22 @@ impl<N: Naming, P: NamedSide, H: Hook> Hall<N, P, H> {
         true
     }
 
-    // Takes the flushes of a stream until none is left.
+    /// Takes flushes from the queue of a stream until that is empty, and orders each, as `collect` does for all streams. It says
+    /// how many it took.
     #[tactic(auto, using(crate::proofs::Collected::none_collected, crate::proofs::Collected::next_collected))]
-    fn collect_from<R: Wait>(&mut self, rt: &R, stream: u32, queue: &FlushQueue)
+    pub fn collect_from<R: Wait>(&mut self, rt: &R, stream: u32, queue: &FlushQueue) -> u32
         requires known { IsKnown (length N.plans.plans) stream }
         requires queue { queue.now ≡ table_at N.queues stream }
         ensures { HasCollected N.plans self.old self.new }
     {
+        let mut count = 0u32;
         for _ in rt.forever() {
             if !self.collect_next(rt, stream, queue) {
-                return;
+                return count;
             }
+            count = count.saturating_add(1);
         }
+        unreachable!()
     }
 
     /// For each stream in rising number, takes flushes from its queue until that is empty, and orders each. Those of a lost stream are

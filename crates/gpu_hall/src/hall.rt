@@ -1,6 +1,7 @@
 ghost use Rattle.std.specs.Prelude.{◌≡◌, [], length, IfSome};
 ghost use Rattle.sync_core.specs.Standing.{IsKnown};
 ghost use Rattle.gpu_journal.specs.World.{known};
+ghost use Rattle.gpu_plan.specs.Passes.{greatest};
 ghost use Rattle.gpu_journal.specs.Legal.{IsLegal};
 ghost use Rattle.gpu_house.specs.Ending.{doing_of};
 ghost use Rattle.gpu_house.specs.Waiting.{HaveTargets, FormNoCycle};
@@ -79,6 +80,14 @@ impl<N: Naming, P: NamedSide, H: Hook> Hall<N, P, H> {
         ensures { result ≡ (known N.plans self.now stream).finished }
     {
         self.house.finishes(stream)
+    }
+
+    /// The greatest token that a stream has set, or 0.
+    pub fn greatest(&self, stream: u32) -> u32
+        requires { IsKnown (length N.plans.plans) stream }
+        ensures { result ≡ greatest (known N.plans self.now stream).tokens }
+    {
+        self.house.greatest(stream)
     }
 
     /// What holds whenever the lock is free: the journal is legal, each pending wait names another stream, which is neither lost nor

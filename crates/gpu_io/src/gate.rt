@@ -9,7 +9,8 @@ pub enum Place {
     AfterFetch { stream: u32 },
     /// The client of this stream is about to order its flush of this number.
     BeforeFlush { stream: u32, flush: u32 },
-    /// This order of this stream was finished, and the view was published.
+    /// This order of this stream was finished, and the view was published. The thread that tells so may have its next run in hand, which
+    /// no other thread can take then.
     AfterFinish { stream: u32, order: u32 },
     /// This viewer is about to take its look of this number.
     BeforeLook { viewer: u32, look: u32 },

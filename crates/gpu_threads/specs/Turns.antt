@@ -1,8 +1,8 @@
 -- What a turn of a client comes to.
-use Rattle.std.specs.Prelude.{◌⊎◌}
+use Rattle.std.specs.Prelude.{◌⊎◌, ⊤}
 use Rattle.shm_words.specs.declared.client.Acted.TheVariants.{NotYet, AtClose}
-use Rattle.gpu_threads.specs.declared.turns.How.{How}
-use Rattle.gpu_threads.specs.declared.turns.How.TheVariants as how
+use Rattle.gpu_threads.specs.declared.client.Act.{Act}
+use Rattle.gpu_threads.specs.declared.client.Act.TheVariants as act
 use Rattle.gpu_threads.specs.declared.turns.ClientTurn.{ClientTurn}
 use Rattle.gpu_threads.specs.declared.turns.ClientTurn.TheVariants.{Went, Waiting, Ended}
 use Rattle.gpu_threads.specs.Clients.{ClientData, IsSameClient}
@@ -13,14 +13,17 @@ use Rattle.gpu_threads.specs.Acts.{HasGone, IsFull, IsUnread, HasTried}
 abbrev pub HasStopped : ClientData → ClientData → Type 0
 HasStopped old new = HasTried old new NotYet ⊎ (IsFull new ⊎ (IsUnread old new ⊎ HasTried old new AtClose))
 
+-- an action came to this; but a client that stood at its Close may have come to its end
+abbrev pub TurnsSo : ClientData → ClientData → Act → Type 0
+TurnsSo old new act.Went = HasGone old new
+TurnsSo old new act.Full = IsFull new
+TurnsSo old new act.NotYet = HasTried old new NotYet
+TurnsSo old new act.Unread = IsUnread old new
+TurnsSo old new act.AtClose = HasTried old new AtClose
+TurnsSo old new act.End = ⊤
+
 -- the client that comes back is of the same stream, words, plan, queue and result words. It went where it did one action, posted the
 -- note that it held, or read the dump that was due; and it waits only where it could not go on
-abbrev pub TurnsSo : ClientData → ClientData → How → Type 0
-TurnsSo old new how.Went = IsSameClient old new × HasGone old new
-TurnsSo old new how.Waiting = IsSameClient old new × HasStopped old new
-TurnsSo old new how.Ended = IsSameClient old new
-
--- the same of a client that is given away and comes back with the answer
 abbrev pub Turns : ClientData → ClientTurn → Type 0
 Turns old (Went new) = IsSameClient old new × HasGone old new
 Turns old (Waiting new) = IsSameClient old new × HasStopped old new

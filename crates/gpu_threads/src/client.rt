@@ -180,6 +180,20 @@ impl Client {
         self.stream
     }
 
+    /// How many flushes it has made.
+    pub(crate) fn flushed(&self) -> u32 {
+        self.flushed
+    }
+
+    /// How many of them it has posted.
+    pub(crate) fn posted(&self) -> u32 {
+        if self.held.is_some() {
+            self.flushed.saturating_sub(1)
+        } else {
+            self.flushed
+        }
+    }
+
     /// Whether it has read all dumps of its plan.
     pub(crate) fn is_whole(&self) -> bool
         ensures { IsTrue result → IsWhole self.now }

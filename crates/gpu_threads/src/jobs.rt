@@ -1,15 +1,18 @@
 //! What each thread of a run does.
-ghost use Rattle.std.specs.Prelude.{◌≡◌};
+ghost use Rattle.std.specs.Prelude.{◌≡◌, length};
+ghost use Rattle.sync_core.specs.Standing.{IsKnown};
 ghost use Rattle.gpu_house.specs.Names.{table_at};
 ghost use Rattle.gpu_threads.specs.Clients.{IsClientOf, IsSameClient, AreClientsOf};
 ghost use Rattle.gpu_threads.specs.Rows.{AreShared};
 
-use crate::client::Client;
+use crate::chain::serve_on;
+use crate::client::{Act, Client};
 use crate::full_pass::FullPass;
-use crate::over::all_over;
+use crate::pace::Pace;
 use crate::rows::words_of;
-use crate::serving::{Turn, serve_turn};
-use crate::turns::{How, turn};
+use crate::shift::Leave;
+use crate::signals::{ROOM, Signals};
+use crate::turns::{is_ended, turn};
 use flush_queue::FlushQueue;
 use gpu_hall::Hall;
 use gpu_house::Naming;
@@ -18,27 +21,55 @@ use gpu_word::Memory;
 use result_words::ResultWords;
 use shm_words::SharedWords;
 use std::alloc::Global;
-use std::sync::{Mutex, MutexGuard, Wait};
+use std::sync::{Mutex, Wait};
 use std::thread;
 use std::thread::Threads;
 use wait_hooks::Hook;
 
-// A turn of a worker. Where nothing can run, other threads have to come first.
-fn serve_or_yield<N: Naming, H: Hook, R: Wait, G: Gate>(
+// A thread that waits serves where fewer threads do than are wanted, or where it has waited for long. Then it sleeps until its bell is
+// rung, which it was where it got what it waits for.
+fn wait<N: Naming, H: Hook, R: Wait, G: Gate>(
     rt: &R,
     hall: &Mutex<Hall<N, FullPass, H>>,
     words: &[(SharedWords, ResultWords)],
     queues: &[FlushQueue],
     gate: &G,
-) -> Turn
+    pace: &mut Pace<'_>,
+) -> Leave
     requires shared { AreShared N.plans N.words N.result_words N.queues words.now queues.now }
 {
-    let turn = serve_turn(rt, hall, words, queues, gate);
-    match turn {
-        Turn::Ran => {}
-        Turn::NothingRunnable => thread::yield_now(),
+    let leave = if pace.may_serve() {
+        serve_on(rt, hall, words, queues, gate, pace.shift())
+    } else {
+        Leave::NothingRunnable
+    };
+    pace.sleep(rt);
+    leave
+}
+
+// A client that could not go on says what it needs, and is to try again. Where it still can't go on then, it waits, unless its stream is
+// lost or closed: the answer says so.
+fn pause<N: Naming, H: Hook, R: Wait, G: Gate>(
+    rt: &R,
+    hall: &Mutex<Hall<N, FullPass, H>>,
+    words: &[(SharedWords, ResultWords)],
+    queues: &[FlushQueue],
+    gate: &G,
+    stream: u32,
+    needs: u64,
+    pace: &mut Pace<'_>,
+) -> bool
+    requires known { IsKnown (length N.plans.plans) stream }
+    requires shared { AreShared N.plans N.words N.result_words N.queues words.now queues.now }
+{
+    if pace.asks(needs) {
+        return false;
     }
-    turn
+    if pace.may_be_over() && is_ended(rt, stream, hall) {
+        return true;
+    }
+    wait(rt, hall, words, queues, gate, pace);
+    false
 }
 
 // A client has turns until it has come to its end. While it waits it serves, so that it comes to its end alone.
@@ -49,6 +80,7 @@ fn play_on<N: Naming, H: Hook, R: Wait, G: Gate>(
     words: &[(SharedWords, ResultWords)],
     queues: &[FlushQueue],
     gate: &G,
+    signals: &Signals,
     client: &mut Client,
 )
     requires client { IsClientOf N.plans N.words N.result_words N.queues client.old }
@@ -57,13 +89,27 @@ fn play_on<N: Naming, H: Hook, R: Wait, G: Gate>(
     requires shared { AreShared N.plans N.words N.result_words N.queues words.now queues.now }
     ensures { IsSameClient client.old client.new }
 {
+    let mut pace = Pace::of_client(signals, client.stream());
     for _ in rt.forever() {
+        pace.listen();
+        let stream = client.stream();
+        let posted = client.posted();
         match turn(rt, client, hall, own, queues, gate) {
-            How::Went => {}
-            How::Waiting => {
-                serve_or_yield(rt, hall, words, queues, gate);
+            Act::Went => pace.go(client.posted() != posted),
+            Act::End => {
+                pace.end();
+                return;
             }
-            How::Ended => return,
+            act => {
+                let needs = if act == Act::Full {
+                    ROOM
+                } else {
+                    u64::from(client.flushed())
+                };
+                if pause(rt, hall, words, queues, gate, stream, needs, &mut pace) {
+                    return;
+                }
+            }
         }
     }
 }
@@ -75,6 +121,7 @@ pub(crate) fn play<N: Naming, H: Hook, R: Wait, G: Gate>(
     words: &[(SharedWords, ResultWords)],
     queues: &[FlushQueue],
     gate: &G,
+    signals: &Signals,
     client: &mut Client,
 )
     requires client { IsClientOf N.plans N.words N.result_words N.queues client.old }
@@ -82,7 +129,7 @@ pub(crate) fn play<N: Naming, H: Hook, R: Wait, G: Gate>(
     ensures { IsSameClient client.old client.new }
 {
     let own = words_of::<N, FullPass>(words, client.stream());
-    play_on(rt, hall, own, words, queues, gate, client);
+    play_on(rt, hall, own, words, queues, gate, signals, client);
 }
 
 // A worker serves until nothing is left to do for any stream.
@@ -92,18 +139,16 @@ fn serve<N: Naming, H: Hook, R: Wait, G: Gate>(
     words: &[(SharedWords, ResultWords)],
     queues: &[FlushQueue],
     gate: &G,
+    signals: &Signals,
+    worker: usize,
 )
     requires shared { AreShared N.plans N.words N.result_words N.queues words.now queues.now }
 {
+    let mut pace = Pace::of_worker(signals, worker);
     for _ in rt.forever() {
-        let turn = serve_or_yield(rt, hall, words, queues, gate);
-        if turn == Turn::NothingRunnable {
-            let hall = hall.lock(rt);
-            let over = all_over(&hall);
-            MutexGuard::unlock(hall);
-            if over {
-                return;
-            }
+        pace.listen();
+        if wait(rt, hall, words, queues, gate, &mut pace) == Leave::AllOver {
+            return;
         }
     }
 }
@@ -120,6 +165,7 @@ pub(crate) fn play_all<
     words: &[(SharedWords, ResultWords)],
     queues: &[FlushQueue],
     gate: &G,
+    signals: &Signals,
     clients: &mut [Client],
 )
     requires clients { AreClientsOf N.plans N.words N.result_words N.queues clients.old }
@@ -135,7 +181,7 @@ pub(crate) fn play_all<
             requires { IsClientOf N.plans N.words N.result_words N.queues client.now
                 × AreShared N.plans N.words N.result_words N.queues words.now queues.now }
             ensures { IsSameClient client.entry.now client.exit.now }
-        { play(rt, hall, words, queues, gate, client) },
+        { play(rt, hall, words, queues, gate, signals, client) },
     );
 }
 
@@ -157,6 +203,7 @@ pub(crate) fn serve_all<
     words: &[(SharedWords, ResultWords)],
     queues: &[FlushQueue],
     gate: &G,
+    signals: &Signals,
 ) -> Result<(), Memory>
     requires { AreShared N.plans N.words N.result_words N.queues words.now queues.now }
 {
@@ -164,9 +211,9 @@ pub(crate) fn serve_all<
         rt,
         alloc,
         workers as usize,
-        &|_: usize|
+        &|worker: usize|
             requires { AreShared N.plans N.words N.result_words N.queues words.now queues.now }
-        { serve(rt, hall, words, queues, gate) },
+        { serve(rt, hall, words, queues, gate, signals, worker) },
     )?;
     Ok(())
 }

@@ -1,14 +1,19 @@
 //! Runs of whole scripts on threads: a client for each stream, workers, and viewers.
 #![tactic(auto)]
 
+mod bell;
+mod chain;
 mod client;
 mod full_pass;
 mod jobs;
 mod over;
+mod pace;
 mod parts;
 mod reading;
 mod rows;
 mod serving;
+mod shift;
+mod signals;
 #[cfg(test)]
 mod tests;
 mod threads;

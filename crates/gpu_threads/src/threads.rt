@@ -20,6 +20,7 @@ use crate::parts::Parts;
 use crate::reading::{all_read, all_through};
 use crate::rows::words_of;
 use crate::serving::serve_turn;
+use crate::signals::Signals;
 use crate::turns::turn;
 use crate::views::{Views, end_writer, show_all, watch_all};
 use crate::watch::Watch;
@@ -110,6 +111,7 @@ fn run_clients<N: Naming + Send + Sync, H: Hook + Send, G: Gate + Sync, R: Threa
     words: &[(SharedWords, ResultWords)],
     queues: &[FlushQueue],
     gate: &G,
+    signals: &Signals,
     clients: &mut [Client],
 ) -> Result<(), Memory>
     requires clients { AreClientsOf N.plans N.words N.result_words N.queues clients.old }
@@ -120,12 +122,12 @@ fn run_clients<N: Naming + Send + Sync, H: Hook + Send, G: Gate + Sync, R: Threa
         rt,
         &mut ||
             requires { AreShared N.plans N.words N.result_words N.queues words.now queues.now }
-        { serve_all(rt, alloc, workers, hall, words, queues, gate) },
+        { serve_all(rt, alloc, workers, hall, words, queues, gate, signals) },
         &mut ||
             requires { AreClientsOf N.plans N.words N.result_words N.queues clients.now
                 × AreShared N.plans N.words N.result_words N.queues words.now queues.now }
             ensures { AreClientsOf N.plans N.words N.result_words N.queues clients.exit.now }
-        { play_all(rt, hall, words, queues, gate, clients) },
+        { play_all(rt, hall, words, queues, gate, signals, clients) },
     );
     served
 }
@@ -139,6 +141,7 @@ fn run_all<N: Naming + Send + Sync, H: Hook + Send, G: Gate + Sync, R: Threads +
     words: &[(SharedWords, ResultWords)],
     queues: &[FlushQueue],
     gate: &G,
+    signals: &Signals,
     clients: &mut [Client],
     watches: &mut [Watch],
 ) -> Result<(), Memory>
@@ -158,7 +161,11 @@ fn run_all<N: Naming + Send + Sync, H: Hook + Send, G: Gate + Sync, R: Threads +
             requires { AreClientsOf N.plans N.words N.result_words N.queues clients.now
                 × AreShared N.plans N.words N.result_words N.queues words.now queues.now }
             ensures { AreClientsOf N.plans N.words N.result_words N.queues clients.exit.now }
-        { run_clients(rt, alloc, workers, hall, words, queues, gate, clients) },
+        {
+            run_clients(
+                rt, alloc, workers, hall, words, queues, gate, signals, clients,
+            )
+        },
     );
     served
 }
@@ -209,6 +216,7 @@ fn run_hall<N: Naming + Send + Sync, H: Hook + Send, G: Gate + Sync, R: Threads 
     words: &[(SharedWords, ResultWords)],
     queues: &[FlushQueue],
     gate: &G,
+    signals: &Signals,
 ) -> Result<(Report, Vec<Vec<Look>>, Vec<Dumps>), Memory>
     requires clients { AreClientsOf N.plans N.words N.result_words N.queues clients.items }
     requires watches { All (HasWatched N.view 0) watches.items }
@@ -233,6 +241,7 @@ fn run_hall<N: Naming + Send + Sync, H: Hook + Send, G: Gate + Sync, R: Threads 
         words,
         queues,
         gate,
+        signals,
         &mut clients,
         &mut watches,
     );
@@ -255,6 +264,7 @@ fn run_named<N: Naming + Send + Sync, H: Hook + Send, G: Gate + Sync, R: Threads
     parts: Parts,
     views: Views,
     gate: &G,
+    signals: &Signals,
 ) -> Result<(Report, Vec<Vec<Look>>, Vec<Dumps>), Memory>
     requires plans { plans ≡ N.plans }
     requires base { H.base hook ≡ N.base }
@@ -290,7 +300,7 @@ fn run_named<N: Naming + Send + Sync, H: Hook + Send, G: Gate + Sync, R: Threads
     };
     let hall = Hall::make(house, takers, writer);
     run_hall(
-        rt, alloc, workers, hall, clients, watches, &words, &queues, gate,
+        rt, alloc, workers, hall, clients, watches, &words, &queues, gate, signals,
     )
 }
 
@@ -325,7 +335,10 @@ pub fn run_threads<H: Hook + Send, G: Gate + Sync, R: Threads + Wait + Sync>(
     ensures dumps { IfOk result
         (λ ran. AreAllRead plans ran.0.past (streams_of plans) ran.2.items) }
 {
+    let signals = Signals::make(alloc, plans.count(), workers)?;
     let parts = Parts::make(rt, alloc, &plans)?;
     let viewers = Views::make(rt, alloc, views)?;
-    run_named::<Brand, H, G, R>(rt, alloc, plans, workers, hook, parts, viewers, gate)
+    run_named::<Brand, H, G, R>(
+        rt, alloc, plans, workers, hook, parts, viewers, gate, &signals,
+    )
 }

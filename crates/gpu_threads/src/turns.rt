@@ -1,9 +1,9 @@
 //! Turns of a client.
-ghost use Rattle.std.specs.Prelude.{◌≡◌, ◌⊎◌, length, true};
+ghost use Rattle.std.specs.Prelude.{◌≡◌, length, true};
 ghost use Rattle.gpu_plan.specs.Plans.{plan_of, is_closed};
 ghost use Rattle.sync_core.specs.Standing.{IsKnown};
 ghost use Rattle.gpu_house.specs.Names.{table_at};
-ghost use Rattle.gpu_threads.specs.Clients.{IsClientOf};
+ghost use Rattle.gpu_threads.specs.Clients.{IsClientOf, IsSameClient};
 ghost use Rattle.gpu_threads.specs.Turns.{Turns, TurnsSo};
 
 use crate::client::{Act, Client};
@@ -30,30 +30,18 @@ pub enum ClientTurn {
     Ended(Client),
 }
 
-/// The same of a client that stays where it is.
-#[derive(Clone, Copy, Debug, PartialEq, Eq)]
-pub(crate) enum How {
-    Went,
-    Waiting,
-    Ended,
-}
-
-// A client that could not go on waits, unless its stream is lost or closed.
-fn wait_or_end<N: Naming, P: NamedSide, H: Hook, R: Wait>(
+/// Whether a client that could not go on has come to its end: its stream is lost or closed.
+pub(crate) fn is_ended<N: Naming, P: NamedSide, H: Hook, R: Wait>(
     rt: &R,
     stream: u32,
     hall: &Mutex<Hall<N, P, H>>,
-) -> How
-    requires known { IsKnown (length N.plans.plans) stream }
-    ensures { (result ≡ How.Waiting) ⊎ (result ≡ How.Ended) }
+) -> bool
+    requires { IsKnown (length N.plans.plans) stream }
 {
     let hall = hall.lock(rt);
     let gone = is_gone(&hall, stream);
     MutexGuard::unlock(hall);
-    if gone {
-        return How::Ended;
-    }
-    How::Waiting
+    gone
 }
 
 // Closes a stream whose client stands at its Close, once all its flushes are collected. False where it is too early.
@@ -75,7 +63,8 @@ fn close<N: Naming, P: NamedSide, H: Hook, R: Wait>(
     closing != Closing::Early
 }
 
-/// A turn of a client that stays where it is.
+/// One action of a client that stays where it is. At its Close, where the flushes of all queues are ordered and the stream is closed, it
+/// comes to its end.
 pub(crate) fn turn<N: Naming, P: NamedSide, H: Hook, R: Wait, G: Gate>(
     rt: &R,
     client: &mut Client,
@@ -83,28 +72,26 @@ pub(crate) fn turn<N: Naming, P: NamedSide, H: Hook, R: Wait, G: Gate>(
     words: &(SharedWords, ResultWords),
     queues: &[FlushQueue],
     gate: &G,
-) -> How
+) -> Act
     requires client { IsClientOf N.plans N.words N.result_words N.queues client.old }
     requires words { words.now.0 ≡ table_at N.words client.old.stream }
     requires results { words.now.1 ≡ table_at N.result_words client.old.stream }
     requires queues { queues.now ≡ N.queues }
     requires many { length N.queues ≡ length N.plans.plans }
-    ensures { TurnsSo client.old client.new result }
+    ensures same { IsSameClient client.old client.new }
+    ensures acts { TurnsSo client.old client.new result }
 {
     let stream = client.stream();
     let queue = queue_of(queues, stream);
-    match client.act(rt, words, queue, gate) {
-        Act::Went => How::Went,
-        Act::Full => wait_or_end(rt, stream, hall),
-        Act::NotYet => wait_or_end(rt, stream, hall),
-        Act::Unread => wait_or_end(rt, stream, hall),
+    let act = client.act(rt, words, queue, gate);
+    match act {
         Act::AtClose => {
             if close(rt, stream, hall, queues) {
-                return How::Ended;
+                return Act::End;
             }
-            How::Waiting
+            Act::AtClose
         }
-        Act::End => How::Ended,
+        Act::Went | Act::Full | Act::NotYet | Act::Unread | Act::End => act,
     }
 }
 
@@ -128,9 +115,15 @@ pub fn client_turn<N: Naming, P: NamedSide, H: Hook, R: Wait, G: Gate>(
     ensures { Turns client result }
 {
     let mut client = client;
+    let stream = client.stream();
     match turn(rt, &mut client, hall, words, queues, gate) {
-        How::Went => ClientTurn::Went(client),
-        How::Waiting => ClientTurn::Waiting(client),
-        How::Ended => ClientTurn::Ended(client),
+        Act::Went => ClientTurn::Went(client),
+        Act::End => ClientTurn::Ended(client),
+        Act::Full | Act::NotYet | Act::Unread | Act::AtClose => {
+            if is_ended(rt, stream, hall) {
+                return ClientTurn::Ended(client);
+            }
+            ClientTurn::Waiting(client)
+        }
     }
 }

@@ -12,6 +12,7 @@ use crate::client::Client;
 use crate::full_pass::FullPass;
 use crate::jobs::play;
 use crate::parts::Parts;
+use crate::signals::Signals;
 use flush_queue::FlushQueue;
 use gpu_hall::{Hall, NamedSide};
 use gpu_house::{Doing, House, Naming, Report};
@@ -49,6 +50,7 @@ fn look_between<N: Naming, R: Wait>(
     hall: &Mutex<Hall<N, FullPass, Marker>>,
     words: &[(SharedWords, ResultWords)],
     queues: &[FlushQueue],
+    signals: &Signals,
     clients: &mut [Client],
 ) -> bool
     requires clients { AreClientsOf N.plans N.words N.result_words N.queues clients.old }
@@ -56,7 +58,7 @@ fn look_between<N: Naming, R: Wait>(
 {
     let mut two = true;
     for client in clients.iter_mut() {
-        play(rt, hall, words, queues, &OpenGate, client);
+        play(rt, hall, words, queues, &OpenGate, signals, client);
         two &= look(rt, hall) == 2;
     }
     two
@@ -77,6 +79,9 @@ fn looked<N: Naming, R: Wait>(
     requires books { names_of parts.books.items ≡ N.books }
     requires queues { parts.queues.items ≡ N.queues }
 {
+    let signals = Signals::make(alloc, plans.count(), 1)
+        .ok()
+        .ok_or("memory is ample")?;
     let Parts {
         words,
         clients,
@@ -91,7 +96,7 @@ fn looked<N: Naming, R: Wait>(
     let house = made.ok_or("memory is ample")?;
     let hall = Mutex::new(Hall::make(house, takers, None));
     let mut clients = clients;
-    let two = look_between(rt, &hall, &words, &queues, &mut clients);
+    let two = look_between(rt, &hall, &words, &queues, &signals, &mut clients);
     let report = hall.into_inner().end(rt);
     if !two {
         return Err("two streams".into());
