@@ -1,0 +1,19 @@
+"""Scripts of GPU command buffers: made, read and judged beside the program, for which nothing is claimed here.
+
+    from zorvleid import Script
+
+    script = Script()
+    painter = script.stream("normal", ring=16)
+    painter.create_image(image=1, width=2, height=1)
+    painter.clear_rect(image=1, x=0, y=0, w=2, h=1, texel=0xff0000ff)
+    painter.flush()
+    print(script.text(), end="")
+"""
+
+from .assembler import assemble
+from .disassembler import disassemble
+from .errors import Refused, ScriptError
+from .reader import read_script
+from .script import Script, Stream
+
+__all__ = ["Refused", "Script", "ScriptError", "Stream", "assemble", "disassemble", "read_script"]

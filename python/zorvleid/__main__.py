@@ -1,0 +1,85 @@
+"""The command line: zorvleid assemble | disassemble [FILE], which ./zorvleid calls.
+
+The status is 0 where all was written, 2 for words that are no command, 3 and 4 where reading or writing failed, 5 for a text
+that is wrong, and 7 for a script that is too long.
+"""
+
+import argparse
+import signal
+import sys
+
+from . import assembler, disassembler
+from .errors import Refused, ScriptError
+from .reader import read_script
+from .script import BYTES_AT_MOST
+
+USAGE, READ_FAULT, WRITE_FAULT, REFUSED, NO_MEMORY, TOO_LONG = 2, 3, 4, 5, 6, 7
+
+
+class Parser(argparse.ArgumentParser):
+    """Words that are no command are told in one line, as the program tells them."""
+
+    def error(self, message: str) -> None:  # type: ignore[override]
+        self.exit(USAGE, f"bad command line: {message}\n'./zorvleid --help' names the commands\n")
+
+
+def words() -> argparse.Namespace:
+    parser = Parser(prog="zorvleid", allow_abbrev=False)
+    tools = parser.add_subparsers(dest="tool", required=True, parser_class=Parser)
+    tool = tools.add_parser("assemble", allow_abbrev=False, help="turn a text of commands into a script")
+    tool.add_argument("--await", dest="awaits", action="store_true",
+                      help="put a finish before what would overwrite entries that the service may still read")
+    tool.add_argument("file", metavar="FILE", nargs="?", default="-", help="the text (left out, or -: standard input)")
+    tool = tools.add_parser("disassemble", allow_abbrev=False, help="turn a script into a text of commands")
+    tool.add_argument("file", metavar="FILE", nargs="?", default="-", help="the script (left out, or -: standard input)")
+    return parser.parse_args()
+
+
+def read(file: str) -> bytes:
+    if file == "-":
+        return sys.stdin.buffer.read()
+    with open(file, "rb") as opened:
+        return opened.read()
+
+
+def turned(asked: argparse.Namespace, data: bytes) -> str:
+    """The text that was asked for."""
+    if asked.tool == "disassemble":
+        return disassembler.disassemble(read_script(data, asked.file))
+    script = assembler.assemble(data, asked.file, asked.awaits)
+    try:
+        return script.text()
+    except ScriptError as error:
+        raise Refused(asked.file, data.count(b"\n") + 1, 1, error) from None
+
+
+def complain(line: object, status: int) -> int:
+    print(line, file=sys.stderr)
+    return status
+
+
+def main() -> int:
+    signal.signal(signal.SIGPIPE, signal.SIG_DFL)
+    asked = words()
+    try:
+        data = read(asked.file)
+    except (OSError, AttributeError, ValueError) as error:
+        return complain(f"{asked.file}: {getattr(error, 'strerror', None) or 'read fault'}", READ_FAULT)
+    if asked.tool == "disassemble" and len(data) > BYTES_AT_MOST:
+        return complain(f"{asked.file}: a script has at most {BYTES_AT_MOST:,} bytes", TOO_LONG)
+    try:
+        text = turned(asked, data).encode("utf-8", "surrogateescape")
+    except Refused as refused:
+        return complain(refused, REFUSED)
+    except MemoryError:
+        return complain("no memory", NO_MEMORY)
+    try:
+        sys.stdout.buffer.write(text)
+        sys.stdout.flush()
+    except (OSError, AttributeError, ValueError) as error:
+        return complain(f"standard output: {getattr(error, 'strerror', None) or 'write fault'}", WRITE_FAULT)
+    return 0
+
+
+if __name__ == "__main__":
+    sys.exit(main())
