@@ -13,7 +13,10 @@
 from .assembler import assemble
 from .disassembler import disassemble
 from .errors import Refused, ScriptError
+from .output import Output, OutputRefused, read_output
 from .reader import read_script
 from .script import Script, Stream
+from .verdict import ProgramFault, Verdict, verify
 
-__all__ = ["Refused", "Script", "ScriptError", "Stream", "assemble", "disassemble", "read_script"]
+__all__ = ["Output", "OutputRefused", "ProgramFault", "Refused", "Script", "ScriptError", "Stream", "Verdict", "assemble",
+           "disassemble", "read_output", "read_script", "verify"]

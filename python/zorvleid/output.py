@@ -1,0 +1,301 @@
+"""The reading of an output, line by line: the one place that knows how the parts of an output are written.
+
+`read_output` takes the bytes that `run` or `verify` wrote, of either version, and answers an `Output`, or raises
+`OutputRefused` with the number of the first line that cannot stand where it stands. What the lines say of each other, such as
+which order number a step belongs to, is not looked at.
+"""
+
+import re
+from dataclasses import dataclass, field
+from typing import NamedTuple, NoReturn
+
+SIDE_AT_MOST = 4096
+
+
+def up_to(greatest: int) -> str:
+    """A pattern of the decimal numbers from 0 to this one, which has no leading zeros."""
+    digits = str(greatest)
+    shapes = [digits, f"[1-9][0-9]{{0,{len(digits) - 2}}}", "0"]
+    for at, digit in enumerate(digits):
+        least = 1 if at == 0 else 0
+        if int(digit) > least:
+            shapes.append(f"{digits[:at]}[{least}-{int(digit) - 1}][0-9]{{{len(digits) - at - 1}}}")
+    return f"(?:{'|'.join(shapes)})"
+
+
+NUMBER = f"({up_to(2**32 - 1)})"
+LONG_NUMBER = f"({up_to(2**64 - 1)})"
+VALUE = "([0-9a-f]{8})"
+WORDS = f"((?: {up_to(2**32 - 1)}:[0-9a-f]{{8}})*)"
+
+EVENTS = {
+    "order": re.compile(f"order {NUMBER} {NUMBER} {NUMBER}"),
+    "step": re.compile(f"step {NUMBER}{WORDS}"),
+    "finish": re.compile(f"finish {NUMBER} {NUMBER}"),
+    "lost": re.compile(f"lost {NUMBER} (memory|[12346]{WORDS})"),
+    "close": re.compile(f"close {NUMBER}"),
+}
+HEAD = "gpu-journal 2"
+NAME = re.compile(f"name {NUMBER} {NUMBER} {LONG_NUMBER}")
+VERDICT = re.compile(f"yes events {NUMBER}")
+IMAGE = re.compile(f"image {NUMBER} {NUMBER} {NUMBER}")
+ROW = re.compile(r"[0-9a-f]{8}(?: [0-9a-f]{8})*")
+STREAM = re.compile(f"stream {NUMBER} (done|closed|lost memory|lost [12346]) entries {NUMBER} release {LONG_NUMBER} "
+                    f"token {NUMBER} words {NUMBER} errors {NUMBER} {NUMBER} {NUMBER}")
+MARK = re.compile(f"mark {NUMBER} {NUMBER} {NUMBER} {LONG_NUMBER} (release|guard|closed) {NUMBER}")
+DUMP = re.compile(f"dump {NUMBER} {NUMBER} {NUMBER} {VALUE}")
+VIEW = re.compile(f"view {NUMBER} {NUMBER} {VALUE}")
+
+NO_LINE_FEED = "\0"
+
+
+class OutputRefused(ValueError):
+    """The first line of a text that cannot stand there, and why."""
+
+    def __init__(self, line: int, why: str) -> None:
+        super().__init__(f"refused: line {line}: {why}")
+        self.line = line
+
+
+class Event(NamedTuple):
+    """One line of a journal. What its kind does not say is 0 or empty."""
+
+    kind: str
+    stream: int
+    number: int  # the order number of an order or a finish
+    actions: int  # of an order: how many actions stand before the flush
+    code: str  # of a loss: its error, or `memory`
+    words: str  # of a step or a loss: its words as they are printed
+    line: int
+    text: str
+
+    def fetched(self) -> list[tuple[int, int]]:
+        """The places and values of its words."""
+        return words_of(self.words)
+
+
+class Image(NamedTuple):
+    """An image: red, green, blue and alpha of each texel, row after row."""
+
+    number: int
+    width: int
+    height: int
+    texels: bytes
+
+    def texel(self, x: int, y: int) -> int:
+        """One texel as a number, red in the highest byte."""
+        if not (0 <= x < self.width and 0 <= y < self.height):
+            raise IndexError(f"image {self.number} has {self.width} by {self.height} texels")
+        at = 4 * (y * self.width + x)
+        return int.from_bytes(self.texels[at:at + 4], "big")
+
+
+class StreamEnd(NamedTuple):
+    """How a stream ended, and what was counted of it."""
+
+    number: int
+    end: str  # done, closed, lost memory, or lost with an error
+    entries: int
+    release: int
+    token: int
+    words: int
+    errors: tuple[int, int, int]  # how often there were 0501, 0502 and 0505
+    line: int
+
+
+class Mark(NamedTuple):
+    """A wait that ended: who waited for what, and how it ended."""
+
+    stream: int
+    number: int
+    target: int
+    release: int
+    how: str
+    value: int
+    line: int
+    text: str
+
+
+class Dump(NamedTuple):
+    """A word that a client read of its results."""
+
+    stream: int
+    action: int
+    place: int
+    value: int
+
+
+class View(NamedTuple):
+    """What a viewer saw: so many events, and the sum of all texels after them."""
+
+    viewer: int
+    events: int
+    sum: int
+
+
+@dataclass
+class Output:
+    """What was read of an output, part by part."""
+
+    version: int = 1
+    is_verdict: bool = False
+    names: list[tuple[int, int]] = field(default_factory=list)  # of version 2: namespace and id
+    events: list[Event] = field(default_factory=list)
+    images: list[Image] = field(default_factory=list)
+    streams: list[StreamEnd] = field(default_factory=list)
+    marks: list[Mark] = field(default_factory=list)
+    dumps: list[Dump] = field(default_factory=list)
+    views: list[View] = field(default_factory=list)
+    event_count: int = 0
+    picture: tuple[int, int] = (0, 0)  # where the lines of the images begin and end, counted in lines from 0
+
+
+class Lines:
+    """A text as lines with a place in them. A last line without its line feed is like no line that is looked for."""
+
+    def __init__(self, data: bytes, first: int = 1) -> None:
+        self.lines = data.decode("latin-1").split("\n")
+        last = self.lines.pop()
+        if last:
+            self.lines.append(last + NO_LINE_FEED)
+        self.at, self.first = 0, first
+
+    @property
+    def number(self) -> int:
+        """The number of this line."""
+        return self.first + self.at
+
+    def here(self) -> str:
+        """This line, or nothing behind the last one."""
+        return self.lines[self.at] if self.at < len(self.lines) else ""
+
+    def starts(self, word: str) -> bool:
+        """Whether this line begins so."""
+        return self.here().startswith(word)
+
+    def take(self, shape: re.Pattern[str]) -> re.Match[str] | None:
+        """What the shape finds in this line, which is then behind us; or None, and nothing happens."""
+        found = shape.fullmatch(self.here())
+        self.at += found is not None
+        return found
+
+    def refuse(self, why: str = "no line of an output that can stand here") -> NoReturn:
+        """Refuses this line."""
+        raise OutputRefused(self.number, why if self.at < len(self.lines) else "the output ends too early")
+
+
+def words_of(text: str) -> list[tuple[int, int]]:
+    """The places and values of words as they are printed."""
+    return [(int(word[:-9]), int(word[-8:], 16)) for word in text.split()]
+
+
+def read_event(text: str, line: int) -> Event | None:
+    """The event of a line, or None where it is no event's."""
+    kind = text.partition(" ")[0]
+    found = EVENTS[kind].fullmatch(text) if kind in EVENTS else None
+    if found is None:
+        return None
+    parts = found.groups()
+    stream, number, actions, code, words = int(parts[0]), 0, 0, "", ""
+    match kind:
+        case "order":
+            number, actions = int(parts[1]), int(parts[2])
+        case "finish":
+            number = int(parts[1])
+        case "step":
+            words = parts[1]
+        case "lost":
+            code, words = parts[1].partition(" ")[0], parts[2] or ""
+    return Event(kind, stream, number, actions, code, words, line, text)
+
+
+def read_head(lines: Lines, output: Output) -> None:
+    """The head and the names of version 2."""
+    if lines.here() == HEAD:
+        output.version = 2
+        lines.at += 1
+    while output.version == 2 and lines.starts("name "):
+        found = lines.take(NAME)
+        if found is None or int(found[1]) != len(output.names) + 1:
+            lines.at -= found is not None
+            lines.refuse("no name of the next stream")
+        output.names.append((int(found[2]), int(found[3])))
+
+
+def read_events(lines: Lines, output: Output) -> None:
+    """The journal."""
+    while (event := read_event(lines.here(), lines.number)) is not None:
+        output.events.append(event)
+        lines.at += 1
+    output.event_count = len(output.events)
+
+
+def read_row(lines: Lines, width: int) -> bytes:
+    """A row of texels."""
+    row = lines.here()
+    if len(row) != 9 * width - 1 or not ROW.fullmatch(row):
+        lines.refuse(f"no row of {width} texels")
+    lines.at += 1
+    return bytes.fromhex(row)
+
+
+def read_images(lines: Lines, output: Output) -> None:
+    """The images."""
+    begin = lines.at
+    while lines.starts("image "):
+        found = lines.take(IMAGE)
+        number, width, height = map(int, found.groups()) if found else (0, 0, 0)
+        follows = not output.images or number > output.images[-1].number
+        if not (1 <= width <= SIDE_AT_MOST and 1 <= height <= SIDE_AT_MOST and follows):
+            lines.at -= found is not None
+            lines.refuse("no head of a next image")
+        rows = [read_row(lines, width) for _ in range(height)]
+        output.images.append(Image(number, width, height, b"".join(rows)))
+    output.picture = (begin, lines.at)
+
+
+def read_streams(lines: Lines, output: Output) -> None:
+    """How the streams ended."""
+    while lines.starts("stream "):
+        line = lines.number
+        found = lines.take(STREAM)
+        if found is None or int(found[1]) != len(output.streams) + 1:
+            lines.at -= found is not None
+            lines.refuse("no line of the next stream")
+        number, end, *counts = found.groups()
+        entries, release, token, words, *errors = map(int, counts)
+        output.streams.append(StreamEnd(int(number), end, entries, release, token, words,
+                                        (errors[0], errors[1], errors[2]), line))
+    if output.version == 2 and len(output.names) != len(output.streams):
+        lines.refuse("there are not as many streams as names")
+
+
+def read_endings(lines: Lines, output: Output) -> None:
+    """The marks, the dumps and the lines of live views."""
+    while (found := lines.take(MARK)) is not None:
+        stream, number, target, release = map(int, found.groups()[:4])
+        output.marks.append(Mark(stream, number, target, release, found[5], int(found[6]), lines.number - 1, found[0]))
+    while (found := lines.take(DUMP)) is not None:
+        if not 1 <= int(found[1]) <= len(output.streams):
+            lines.at -= 1
+            lines.refuse("there is no such stream")
+        output.dumps.append(Dump(int(found[1]), int(found[2]), int(found[3]), int(found[4], 16)))
+    while (found := lines.take(VIEW)) is not None:
+        output.views.append(View(int(found[1]), int(found[2]), int(found[3], 16)))
+
+
+def read_output(data: bytes) -> Output:
+    """What an output says; the output of `verify` has images alone."""
+    lines, output = Lines(data), Output()
+    if (found := lines.take(VERDICT)) is not None:
+        output.is_verdict, output.event_count = True, int(found[1])
+        read_images(lines, output)
+    else:
+        read_head(lines, output)
+        read_events(lines, output)
+        read_images(lines, output)
+        read_streams(lines, output)
+        read_endings(lines, output)
+    if lines.at < len(lines.lines):
+        lines.refuse()
+    return output
