@@ -109,7 +109,7 @@ class Listing:
         wanted = self.rest or (size if 0 < size <= left else len(words))
         count = min(wanted, len(words))
         self.rest = wanted - count
-        return "word " + " ".join(f"0x{word:x}" for word in words[:count]), count, count
+        return "word " + " ".join(str(word) if word < 10 else f"0x{word:x}" for word in words[:count]), count, count
 
 
 def named(command: Command, arguments: dict[str, int], data: Sequence[int]) -> str:
