@@ -325,7 +325,15 @@ class Client:
         return self.lines
 
 
-def script(seed):
+class Brief(Client):
+    """A client of few stores, for scripts that are read and not raced."""
+
+    def __init__(self, draw, names, number):
+        super().__init__(draw, names, number)
+        self.haste = 1
+
+
+def script(seed, client=Client):
     """The script of a seed, as text."""
     draw = Draw(seed)
     version = 2 if draw.chance(25) else 1
@@ -333,5 +341,5 @@ def script(seed):
     names = Names(draw, version, streams)
     lines = [f"gpu-script {version}"]
     for number in range(1, streams + 1):
-        lines += Client(draw, names, number).script()
+        lines += client(draw, names, number).script()
     return "".join(line + "\n" for line in lines)

@@ -13,6 +13,7 @@ from .reader import Reader, Word, nearest
 from .script import Fence, Script
 
 HEXADECIMAL = re.compile(r"0[xX][0-9a-fA-F]+")
+NO_PREFIX = re.compile(r"[0-9]*[a-fA-F][0-9a-fA-F]*")  # hexadecimal digits of which one is not decimal
 BYTES = re.compile(r"(?:[0-9a-fA-F]{2})*")
 HANDS_OVER = {1: "flush [PUT] [after S:R ..]", 2: "flush [PUT] [after NS:ID:R ..]"}
 FENCES = {1: "S:R, a stream and a release", 2: "NS:ID:R, the name of a stream and a release"}
@@ -28,6 +29,12 @@ class Assembler(Reader):
         words = super().words_of(line)
         end = next((at for at, word in enumerate(words) if word.text.startswith("#")), None)
         return words[:end]
+
+    def number_of(self, what: str, word: Word, greatest: int = WORD, least: int = 0) -> int:
+        if NO_PREFIX.fullmatch(word.text):
+            self.columns[what] = word.column
+            raise ScriptError("hexadecimal", what, what=what, given=word.text)
+        return super().number_of(what, word, greatest, least)
 
     def parsed(self, text: str, greatest: int) -> int | None:
         """Numbers are decimal as in a script, or hexadecimal behind `0x`."""
@@ -114,7 +121,7 @@ class Assembler(Reader):
             if not equals:
                 raise ScriptError("pair", "key", word=key, command=command.name, keys=", ".join(keys))
             if key not in keys:
-                raise ScriptError("key", "key", command=command.name, key=key, nearest=nearest(key, keys))
+                raise ScriptError("key", "key", command=command.name, key=key, keys=", ".join(keys))
             if key in given:
                 raise ScriptError("double", "key", key=key)
             given[key] = Word(text, word.column + len(key) + 1)

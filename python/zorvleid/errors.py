@@ -1,6 +1,6 @@
 """What can be wrong with a script or with a text of commands: the one place that has the sentences.
 
-docs/FORMATS.md lists them, and tests/command_faults.tsv has a case of each.
+docs/FORMATS.md lists them, and tests/command_faults.tsv has cases of them.
 """
 
 MESSAGES = {
@@ -9,14 +9,14 @@ MESSAGES = {
     "line": "no line begins with '{word}'; the nearest word is '{nearest}'",
     "form": "the line has to be `{form}`",
     "number": "{what} has to be a number from {least} to {greatest}, not '{given}'",
+    "hexadecimal": "{what} has to be a number: '{given}' is hexadecimal where it is written 0x{given}",
     "value": "a value has 1 to 8 hexadecimal digits, unlike '{given}'",
     "priority": "the priority has to be high, normal or low, not '{given}'",
     "fence": "a fence is written {form}, not '{given}'",
     "unchecked": "after `unchecked` there has to be a command, a `word` line or a `put` line",
     # Keys of a command
     "pair": "'{word}' is not KEY=VALUE; the keys of {command} are {keys}",
-    "key": "{command} has no key '{key}'; the nearest is '{nearest}'",
-    "no key": "{command} has no key '{key}', since it takes no arguments",
+    "key": "{command} has no key '{key}'; its keys are {keys}",
     "double": "the key '{key}' stands twice",
     "missing": "{command} lacks {keys}",
     "format": "format has to be {names} or a number, not '{given}'",
