@@ -4,6 +4,7 @@ docs/FORMATS.md has the lines. Each line of a script may stand too.
 """
 
 import re
+import sys
 from collections.abc import Sequence
 
 from .calls import FORMAT_NAMED, entries_of_bytes
@@ -23,6 +24,7 @@ class Assembler(Reader):
     """Reads a text of commands into a script."""
 
     HEAD = "gpu-commands"
+    NOTES_AT_MOST = sys.maxsize
 
     def words_of(self, line: str) -> list[Word]:
         """The words of a line up to one that begins with `#`."""

@@ -7,7 +7,7 @@ from typing import NamedTuple
 
 from .commands import LONG, WORD
 from .errors import Refused, ScriptError
-from .script import PRIORITIES, Fence, Name, Script, Stream
+from .script import BYTES_AT_MOST, PRIORITIES, Fence, Name, Script, Stream
 
 WORDS = re.compile(r"[^ \t\r]+")
 VALUE = re.compile(r"[0-9a-fA-F]{1,8}")
@@ -25,6 +25,7 @@ class Reader:
     """Reads a script. The assembler reads more kinds of lines."""
 
     HEAD = "gpu-script"
+    NOTES_AT_MOST = BYTES_AT_MOST // 2  # bytes of a text whose lines that are passed over are kept
     FORMS = {
         "memory": "memory M WORDS", "results": "results M WORDS", "put": "put PLACE VALUE ..",
         "fill": "fill M INDEX VALUE ..", "finish": "finish", "token": "token T", "close": "close", "dump": "dump M INDEX",
@@ -34,10 +35,11 @@ class Reader:
 
     def __init__(self, file: str, awaits: bool = False) -> None:
         self.file, self.awaits, self.script = file, awaits, Script()
-        self.has_head, self.number, self.columns = False, 0, {"": 1}
+        self.has_head, self.keeps_notes, self.number, self.columns = False, True, 0, {"": 1}
 
     def read(self, data: bytes) -> Script:
         """The script of a text."""
+        self.keeps_notes = len(data) <= self.NOTES_AT_MOST
         lines = data.decode("utf-8", "surrogateescape").split("\n")
         if lines[-1] == "":
             lines.pop()
@@ -56,7 +58,8 @@ class Reader:
         """Takes a line, or passes it over."""
         words = self.words_of(line)
         if not words:
-            self.script.note(line.strip(" \t\r"))
+            if self.keeps_notes:
+                self.script.note(line.strip(" \t\r"))
             return
         self.columns = {"": words[0].column}
         if self.has_head:
@@ -204,5 +207,8 @@ def nearest(word: str, words: Sequence[str]) -> str:
 
 
 def read_script(data: bytes | str, file: str = "-") -> Script:
-    """A script of its text. What the program refuses raises `Refused`, with the line, the column and why."""
+    """A script of its text. What the program refuses raises `Refused`, with the line, the column and why.
+
+    The lines that are passed over are kept, but for a very long script, which might get too long with them.
+    """
     return Reader(file).read(data if isinstance(data, bytes) else data.encode("utf-8", "surrogateescape"))

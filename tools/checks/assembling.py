@@ -25,6 +25,7 @@ SHORT = Path("tests/short_inputs.tsv")
 FORMATS = Path("docs/FORMATS.md")
 SEEDS, TEXTS = 300, 1000
 SECONDS = 120
+TOO_LONG = 7
 REFUSED_LINE = re.compile(r"refused: line (\d+): \w+\n")
 HEAD = "gpu-commands 1\nstream 1 normal 16\n"
 
@@ -104,6 +105,8 @@ def check_scripts(pool: ThreadPoolExecutor, program: Path, tally: Any, name: str
 def fault_of_script(program: Path, data: bytes) -> str | None:
     """How a script and what its text assembles to differ for the program, or None."""
     ran = runs.run(program, ["run"], data, SECONDS)
+    if ran.status == TOO_LONG:
+        return None
     try:
         script = read_script(data)
     except Refused as refused:
