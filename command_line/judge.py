@@ -86,6 +86,10 @@ def check_words(command: Command, words: Sequence[str]) -> None:
         if option.name in seen:
             raise Wrong(f"{option.name} stands twice")
         seen.add(option.name)
+        if option.value is None:
+            if word != option.name:
+                raise Wrong(f"{option.name} takes no value")
+            continue
         here = at - 1
         value = word.partition("=")[2]
         if word == option.name:
@@ -98,7 +102,7 @@ def check_words(command: Command, words: Sequence[str]) -> None:
             check_place(option, words, here)
     check_operands(command, operands)
     if command.needs_one and not seen:
-        choices = (f"{option.name} {option.value.name}" for option in command.options)
+        choices = (option.form for option in command.options)
         raise Wrong(f"{command.name} needs {' or '.join(choices)}")
 
 

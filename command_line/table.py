@@ -34,12 +34,17 @@ def numbers(name: str, what: str, least: int, most: int, digits: int = 1) -> Val
 
 @dataclass(frozen=True)
 class Option:
-    """An option, and the value that it takes."""
+    """An option, and the value that it takes, if it takes one."""
 
     name: str
-    value: Value
+    value: Value | None
     says: str
     behind: str = ""  # the option that stands right before this one, where both are two words
+
+    @property
+    def form(self) -> str:
+        """How it is written."""
+        return f"{self.name} {self.value.name}" if self.value else self.name
 
 
 @dataclass(frozen=True)
@@ -86,6 +91,10 @@ TIMELINE = (
     Option("--page", FILE, "the history as one HTML file that needs nothing else"),
 )
 EXPLAIN = (Option("--program", FILE, "the program that verifies; left out: that of ./zorvleid"),)
+ASSEMBLE = (
+    Option("--await", None,
+           "puts a finish before what would overwrite entries that the service may still read"),
+)
 SCRIPT, OUTPUT = "a script", "an output of run"
 SCRIPT_AND_JOURNAL = "a script, a line `journal`, and a journal"
 
@@ -105,6 +114,10 @@ ROWS = (
             ("view/run", "timeline"), options=TIMELINE, needs_one=True, reads=OUTPUT),
     Command("explain", "runs verify, and says what its answer means",
             ("view/run", "explain"), options=EXPLAIN, reads=SCRIPT_AND_JOURNAL),
+    Command("assemble", "turns a text of commands into a script", ("python/run", "assemble"),
+            operands=(FILE,), may_lack=1, options=ASSEMBLE, reads="a text of commands"),
+    Command("disassemble", "turns a script into a text of commands", ("python/run", "disassemble"),
+            operands=(FILE,), may_lack=1, reads=SCRIPT),
     Command("preview", "runs a program that is built without proof", ("tools/preview",),
             takes_command=True),
 )

@@ -7,6 +7,7 @@ that is wrong, and 7 for a script that is too long.
 import argparse
 import signal
 import sys
+from typing import NoReturn
 
 from . import assembler, disassembler
 from .errors import Refused, ScriptError
@@ -19,8 +20,8 @@ USAGE, READ_FAULT, WRITE_FAULT, REFUSED, NO_MEMORY, TOO_LONG = 2, 3, 4, 5, 6, 7
 class Parser(argparse.ArgumentParser):
     """Words that are no command are told in one line, as the program tells them."""
 
-    def error(self, message: str) -> None:  # type: ignore[override]
-        self.exit(USAGE, f"bad command line: {message}\n'./zorvleid --help' names the commands\n")
+    def error(self, message: str) -> NoReturn:
+        self.exit(USAGE, f"bad command line: {message}\n")
 
 
 def words() -> argparse.Namespace:
@@ -36,10 +37,25 @@ def words() -> argparse.Namespace:
 
 
 def read(file: str) -> bytes:
+    """What a file says, or standard input."""
     if file == "-":
         return sys.stdin.buffer.read()
     with open(file, "rb") as opened:
         return opened.read()
+
+
+def why(error: Exception) -> str:
+    """Why a file cannot be read or written."""
+    match error:
+        case FileNotFoundError():
+            return "no such file"
+        case IsADirectoryError():
+            return "it is a folder"
+        case PermissionError():
+            return "it may not be read"
+        case OSError() if error.strerror:
+            return error.strerror
+    return "it is closed"
 
 
 def turned(asked: argparse.Namespace, data: bytes) -> str:
@@ -64,9 +80,9 @@ def main() -> int:
     try:
         data = read(asked.file)
     except (OSError, AttributeError, ValueError) as error:
-        return complain(f"{asked.file}: {getattr(error, 'strerror', None) or 'read fault'}", READ_FAULT)
+        return complain(f"read fault: {'standard input' if asked.file == '-' else asked.file}: {why(error)}", READ_FAULT)
     if asked.tool == "disassemble" and len(data) > BYTES_AT_MOST:
-        return complain(f"{asked.file}: a script has at most {BYTES_AT_MOST:,} bytes", TOO_LONG)
+        return complain("input too long", TOO_LONG)
     try:
         text = turned(asked, data).encode("utf-8", "surrogateescape")
     except Refused as refused:
@@ -77,7 +93,7 @@ def main() -> int:
         sys.stdout.buffer.write(text)
         sys.stdout.flush()
     except (OSError, AttributeError, ValueError) as error:
-        return complain(f"standard output: {getattr(error, 'strerror', None) or 'write fault'}", WRITE_FAULT)
+        return complain(f"write fault: standard output: {why(error)}", WRITE_FAULT)
     return 0
 
 
