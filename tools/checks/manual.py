@@ -4,8 +4,9 @@ import re
 import shutil
 import subprocess
 
-COMMANDS = ("run", "check", "generate", "trial", "verify", "pictures", "timeline", "explain", "--help", "--version")
-OPTIONS = ("--into", "--scale", "--trace", "--page", "--program")
+COMMANDS = ("run", "check", "generate", "trial", "verify", "pictures", "timeline", "explain",
+            "assemble", "disassemble", "--help", "--version")
+OPTIONS = ("--into", "--scale", "--trace", "--page", "--program", "--await")
 STATUSES = (*range(1, 12), 126, 127)
 EXAMPLE = re.compile(r"examples/\w+\.(?:script|stdout)")
 SENTENCES = range(3, 7)

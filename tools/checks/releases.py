@@ -118,6 +118,7 @@ def check_unpacked(top, archive, folder, commit, tally):
         run(["run"], script, output, f"run of {name}")
     run(["timeline", "--page", "page.html", "--trace", "trace.json"], output, b"", "timeline")
     run(["explain"], script + b"journal\n" + output, None, "explain")
+    run(["assemble"], read(there / "examples/compositor.commands"), script, "assemble")
     checker = ["sha256sum", "--check", "--quiet", "SHA256SUMS"]
     sums = subprocess.run(checker, cwd=there, capture_output=True, text=True, check=False)
     tally.tell("the release, its sums", sums.stderr.strip() or sums.stdout.strip() or None)
