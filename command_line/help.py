@@ -55,7 +55,7 @@ def rows_of(command: Command) -> Iterator[str]:
     """A command and its options, a row each."""
     yield from row(words_of(command), command.says)
     for option in command.options:
-        yield from row(option.form, option.says, indent=8)
+        yield from row(option.words, option.says, indent=8)
 
 
 def whole() -> Iterator[str]:

@@ -86,12 +86,12 @@ def check_words(command: Command, words: Sequence[str]) -> None:
         if option.name in seen:
             raise Wrong(f"{option.name} stands twice")
         seen.add(option.name)
-        if option.value is None:
-            if word != option.name:
-                raise Wrong(f"{option.name} takes no value")
-            continue
         here = at - 1
         value = word.partition("=")[2]
+        if option.value is None:
+            if word != option.name:
+                raise Wrong(f"{option.name} takes no value, not '{value}'")
+            continue
         if word == option.name:
             if at == len(words):
                 raise Wrong(f"{option.name} takes {option.value.what}, and has nothing behind it")
@@ -102,7 +102,7 @@ def check_words(command: Command, words: Sequence[str]) -> None:
             check_place(option, words, here)
     check_operands(command, operands)
     if command.needs_one and not seen:
-        choices = (option.form for option in command.options)
+        choices = (option.words for option in command.options)
         raise Wrong(f"{command.name} needs {' or '.join(choices)}")
 
 

@@ -34,7 +34,7 @@ def numbers(name: str, what: str, least: int, most: int, digits: int = 1) -> Val
 
 @dataclass(frozen=True)
 class Option:
-    """An option, and the value that it takes, if it takes one."""
+    """An option, and the value that it takes, or None."""
 
     name: str
     value: Value | None
@@ -42,8 +42,8 @@ class Option:
     behind: str = ""  # the option that stands right before this one, where both are two words
 
     @property
-    def form(self) -> str:
-        """How it is written."""
+    def words(self) -> str:
+        """The option with the name of its value."""
         return f"{self.name} {self.value.name}" if self.value else self.name
 
 

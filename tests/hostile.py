@@ -6,19 +6,21 @@ one way or another: only their transfer words race, or only arguments that lose 
 on every machine.
 """
 
+from zorvleid.commands import BYTES_OF_FORMAT as BYTES, NAMED
+
 RELEASES = (0, 1, 1, 2, 2, 3, 3, 4, 5, 6, 8, 2**32, 2**64 - 1)
 NAMESPACES = (0, 1, 2, 7, 255)
 IDS = (0, 1, 2, 77, 2**32, 2**64 - 1)
 EXTREMES = (0, 1, 2, 3, 4, 5, 7, 15, 16, 63, 64, 255, 4096, 4097, 2**21 - 1, 2**21, 2**31, 2**32 - 4, 2**32 - 1)
-IDS_OF_COMMANDS = {
-    "noop": 0, "token": 1, "size": 2, "bucket": 3, "immediate": 4, "start": 5, "data": 6, "release": 256, "wait": 257,
-    "create": 258, "delete": 259, "clear": 260, "copy": 261, "upload": 262, "from_bucket": 263, "buffer": 264, "drop": 265,
-    "write": 266, "from_buffer": 267, "wait_name": 268,
-}
+COMMANDS = {kind: NAMED[name] for kind, name in (
+    ("noop", "Noop"), ("token", "SetToken"), ("size", "SetBucketSize"), ("bucket", "SetBucketData"),
+    ("immediate", "SetBucketDataImmediate"), ("start", "GetBucketStart"), ("data", "GetBucketData"), ("release", "InsertFence"),
+    ("wait", "WaitToken"), ("create", "CreateImage"), ("delete", "DeleteImage"), ("clear", "ClearRect"), ("copy", "CopyRect"),
+    ("upload", "UploadRect"), ("from_bucket", "UploadBucket"), ("buffer", "CreateBuffer"), ("drop", "DeleteBuffer"),
+    ("write", "BufferData"), ("from_buffer", "UploadBuffer"), ("wait_name", "WaitSyncToken"))}
 OFTEN = ("clear", "clear", "copy", "copy", "create", "create", "upload", "upload", "upload", "release", "release", "wait", "wait",
          "token", "token", "size", "immediate", "immediate", "bucket", "from_bucket", "start", "start", "data", "buffer", "write",
          "from_buffer", "noop", "delete", "drop", "wait_name")
-BYTES = {1: 4, 2: 2, 3: 2, 4: 1}
 # What may stand in the place of an argument without losing the stream: nothing else, a small number, anything.
 HARD, SMALL, ANY = range(3)
 
@@ -112,7 +114,7 @@ class Client:
         words = getattr(self, "make_" + kind)()
         if words is None:
             kind, words = "clear", self.make_clear()
-        words = [((IDS_OF_COMMANDS[kind] << 21) + 1 + len(words), HARD)] + words
+        words = [(COMMANDS[kind].header(1 + len(words)), HARD)] + words
         if draw.chance(self.bad):
             at = draw.below(len(words))
             value = words[at][0] + draw.of((-1, 1, 4, 2**21, 2**29)) if draw.chance(60) else draw.of(EXTREMES)
