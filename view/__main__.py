@@ -9,7 +9,7 @@ import signal
 import sys
 from pathlib import Path
 
-sys.path[0] = str(Path(__file__).resolve().parent.parent)
+sys.path[:1] = [str(Path(__file__).resolve().parent.parent), str(Path(__file__).resolve().parent.parent / "python")]
 from view import explain, files, pictures, timeline  # noqa: E402
 from view.output import Refused, read_output  # noqa: E402
 

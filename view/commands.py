@@ -8,35 +8,9 @@ from typing import NamedTuple
 
 from .output import words_of
 from .plain import counted
+from .table import BYTES_OF_FORMAT, ERRORS, FORMATS, NOOP, TABLE, WIDE
 
-# Each command's id, name, least size, and arguments; `release` and `id` take two entries. A `+` stands for more entries.
-TABLE = {
-    0: ("Noop", 1, "+"),
-    1: ("SetToken", 2, "token"),
-    2: ("SetBucketSize", 3, "bucket size"),
-    3: ("SetBucketData", 6, "bucket offset size memory memory_offset"),
-    4: ("SetBucketDataImmediate", 4, "bucket offset size +"),
-    5: ("GetBucketStart", 7, "bucket size_memory size_offset data_size data_memory data_offset"),
-    6: ("GetBucketData", 6, "bucket offset size memory memory_offset"),
-    256: ("InsertFence", 3, "release"),
-    257: ("WaitToken", 4, "stream release"),
-    258: ("CreateImage", 4, "image width height"),
-    259: ("DeleteImage", 2, "image"),
-    260: ("ClearRect", 7, "image x y w h texel"),
-    261: ("CopyRect", 9, "source source_x source_y target target_x target_y w h"),
-    262: ("UploadRect", 9, "image x y w h format memory memory_offset"),
-    263: ("UploadBucket", 8, "image x y w h format bucket"),
-    264: ("CreateBuffer", 3, "buffer size"),
-    265: ("DeleteBuffer", 2, "buffer"),
-    266: ("BufferData", 6, "buffer offset size memory memory_offset"),
-    267: ("UploadBuffer", 9, "image x y w h format buffer offset"),
-    268: ("WaitSyncToken", 6, "namespace id release"),
-}
-INSERT_FENCE, WAIT_TOKEN, WAIT_SYNC_TOKEN, NOOP = 256, 257, 268, 0
-WIDE = ("release", "id")
-FORMATS = {1: "RGBA8", 2: "RGB565", 3: "RGBA4444", 4: "L8"}
-BYTES_OF_FORMAT = {1: 4, 2: 2, 3: 2, 4: 1}
-ERRORS = {"1": "InvalidSize", "2": "OutOfBounds", "3": "UnknownCommand", "4": "InvalidArguments", "6": "Quota"}
+__all__ = ["BYTES_OF_FORMAT", "ERRORS", "FORMATS", "NOOP", "TABLE", "WIDE", "Command", "decode", "entries_wanted", "sentence", "told"]
 
 
 class Command(NamedTuple):
