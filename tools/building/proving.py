@@ -1,5 +1,6 @@
 """Has the toolchain prove crate after crate, side by side, and build the program."""
 
+import contextlib
 import ctypes
 import errno
 import os
@@ -10,7 +11,7 @@ from collections.abc import Mapping
 from dataclasses import dataclass
 from pathlib import Path
 
-from .crates import PROGRAM
+from .crates import PROGRAM, Libraries, made_of
 from .machine import free_disk
 from .plan import Plan
 from .rooms import Room
@@ -64,12 +65,17 @@ class Proof:
 
 @dataclass(frozen=True)
 class Sources:
-    """What is proved: each crate's row of crates.txt and the sum of its sources, and when they were read."""
+    """What is proved: rows of crates.txt, what each crate stands on, the sum of its sources, and when they were read."""
 
     top: Path
     rows: Mapping[str, str]
+    below: Libraries
     sums: Mapping[str, str]
     read: float
+
+    def room_of(self, crate: str) -> dict[str, str]:
+        """The rows that a proof of a crate needs."""
+        return {it: self.rows[it] for it in made_of(crate, self.below)}
 
 
 def die_with_parent() -> None:
@@ -80,8 +86,8 @@ def die_with_parent() -> None:
 class Build:
     """The proofs of a plan, as far as they are."""
 
-    def __init__(self, sources: Sources, plan: Plan, below: Mapping[str, list[str]], teller: Teller) -> None:
-        self.sources, self.plan, self.below, self.teller = sources, plan, below, teller
+    def __init__(self, sources: Sources, plan: Plan, teller: Teller) -> None:
+        self.sources, self.plan, self.teller = sources, plan, teller
         self.proofs: list[Proof] = []
         self.began = time.monotonic()
         self.whole = plan.seconds_left(self.began)
@@ -95,7 +101,8 @@ class Build:
                 if self.teller.is_terminal:
                     self.teller.show(self.standing())
                 signals.wait()
-                for proof in [it for it in self.proofs if it.process.poll() is not None]:
+                ended = [it for it in self.proofs if it.process.poll() is not None]
+                for proof in sorted(ended, key=lambda it: it.process.returncode != 0):
                     self.end(proof)
         finally:
             self.leave()
@@ -106,7 +113,7 @@ class Build:
         room.home.mkdir(exist_ok=True)
         words = ["rt", "run" if crate == PROGRAM else "lib", "--jobs", str(jobs)]
         try:
-            room.furnish({it: self.sources.rows[it] for it in self.below[crate]})
+            room.furnish(self.sources.room_of(crate))
             with log.open("wb") as file:
                 process = subprocess.Popen(words, cwd=room.place, stdin=subprocess.DEVNULL, stdout=file,
                                            stderr=subprocess.STDOUT, preexec_fn=die_with_parent)
@@ -137,7 +144,9 @@ class Build:
         for proof in self.proofs:
             if proof.process.poll() is None:
                 proof.process.kill()
-            proof.process.wait()
+            if proof.process.wait() == 0:
+                with contextlib.suppress(OSError):  # a full disk, say, which ends this build
+                    proof.room.bring_home(self.sources.sums[proof.room.crate], self.sources.read)
         if self.proofs:
             time.sleep(4 * TICK)  # the toolchain's own processes end once it has ended
         for proof in self.proofs:
@@ -155,6 +164,8 @@ class Build:
         match proof.process.returncode:
             case -9 | 137 | 247:
                 return f"{crate}: its proof was killed, most likely for want of memory, see {log}; try --jobs 1"
+            case status if status < 0:
+                return f"{crate}: its proof was ended by signal {-status}, see {log}"
             case 2 if crate != PROGRAM:
                 return f"{crate}: the toolchain stopped and judged nothing, see {log}"
             case 3 if crate != PROGRAM:
