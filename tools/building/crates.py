@@ -16,21 +16,26 @@ Libraries = Mapping[str, list[str]]
 
 @dataclass(frozen=True)
 class Seconds:
-    """The seconds of a processor of a crate's proof, of its tests' proof and of its edits; None where nobody measured."""
+    """What a crate takes of a processor: its proof, its tests' proof and its edits.
+
+    None stands for what nobody measured.
+    """
 
     proof: float
     tests: float | None = None
     edits: float | None = None
 
     def in_the_gate(self) -> float:
-        """All three. The toolchain's guide says that proofs are a fifth of a gate, which stands for what is not measured."""
+        """All three. By the toolchain's guide the proofs are a fifth of a gate."""
         tests = self.proof if self.tests is None else self.tests
         return self.proof + tests + (3 * self.proof if self.edits is None else self.edits)
 
 
 def rows(path: Path) -> dict[str, str]:
     """The line of each crate in crates.txt."""
-    lines = (line.partition("#")[0].strip() for line in path.read_text(encoding="utf-8").splitlines())
+    lines = (
+        line.partition("#")[0].strip() for line in path.read_text(encoding="utf-8").splitlines()
+    )
     return {line.partition(":")[0].split()[0]: line for line in lines if ":" in line}
 
 
@@ -54,7 +59,7 @@ def made_of(crate: str, listed: Libraries) -> list[str]:
 
 
 def longest_chain(listed: Libraries, seconds: Mapping[str, float]) -> list[str]:
-    """The crates, lowest first, of the chain that takes longest, each standing on the one before."""
+    """The crates of the chain that takes longest, each standing on the one before."""
     chains: dict[str, list[str]] = {}
 
     def length(chain: Iterable[str]) -> float:
@@ -75,16 +80,21 @@ def read_times(path: Path) -> dict[str, Seconds]:
     found = {}
     for line in path.read_text(encoding="utf-8").splitlines()[1:]:
         name, proof, *more = line.split("\t")
-        found[name] = Seconds(float(proof), *(None if it == NOT_MEASURED else float(it) for it in more))
+        found[name] = Seconds(
+            float(proof), *(None if it == NOT_MEASURED else float(it) for it in more)
+        )
     return found
 
 
 def write_times(path: Path, listed: Libraries, times: Mapping[str, Seconds]) -> None:
-    """Writes a file of times, with a row for each crate of the list whose proof was measured, in the list's order."""
+    """Writes a row for each crate of the list whose proof was measured, in the list's order."""
     rows = ["\t".join(("crate", *PARTS))]
     for name in listed:
         if name in times:
             row = times[name]
-            cells = [NOT_MEASURED if it is None else f"{it:.0f}" for it in (row.proof, row.tests, row.edits)]
+            cells = [
+                NOT_MEASURED if it is None else f"{it:.0f}"
+                for it in (row.proof, row.tests, row.edits)
+            ]
             rows.append("\t".join((name, *cells)))
     path.write_text("\n".join(rows) + "\n", encoding="utf-8")

@@ -1,4 +1,4 @@
-"""What this machine has for a build: processors, and memory that is free. A container's limits count too."""
+"""What this machine has for a build, within the limits of a container."""
 
 import os
 import re
@@ -25,7 +25,9 @@ def processors() -> int:
 def free_memory() -> int:
     """Bytes."""
     found = 1024 * (number_in(Path("/proc/meminfo"), r"^MemAvailable:\s+(\d+)") or 0)
-    limit, held = number_in(GROUP / "memory.max", r"^(\d+)"), number_in(GROUP / "memory.stat", r"^anon (\d+)")
+    limit, held = number_in(GROUP / "memory.max", r"^(\d+)"), number_in(
+        GROUP / "memory.stat", r"^anon (\d+)"
+    )
     return found if limit is None or held is None else min(found, max(0, limit - held))
 
 

@@ -1,7 +1,7 @@
 """Which crate is proved next, with how many jobs, and how long all may take.
 
-A crate begins once all that it stands on is proved. Of those that may begin, the one comes first with the most seconds of
-proofs behind it, in the longest chain of crates that stand on each other.
+A crate begins once all that it stands on is proved. Of those that may begin, that one comes first
+with which the longest chain of proofs begins.
 """
 
 from collections.abc import Mapping
@@ -9,15 +9,18 @@ from dataclasses import dataclass, field
 
 from .crates import Libraries
 
-A_CRATE, A_JOB = 3_000_000_000, 1_500_000_000  # bytes: the prover at one job, and each further job of it
+A_CRATE, A_JOB = (
+    3_000_000_000,
+    1_500_000_000,
+)  # bytes: the prover at one job, and each further job of it
 JOBS_AT_MOST = 4
-# How long a proof takes for each second of a processor: a fifth is one process's work, which no further job shares.
+# The part of a proof that one process does, and no further job shares.
 ALONE = 0.2
 
 
 @dataclass(frozen=True)
 class Lanes:
-    """How many crates are proved at once, how many jobs one of them may have, and how many further jobs memory holds."""
+    """How many crates go at once, how many jobs one may have, and for how many more is memory."""
 
     processors: int
     crates: int
@@ -29,31 +32,35 @@ def lanes(processors: int, memory: int, asked: int | None = None) -> Lanes:
     """A lane for each processor, as far as memory holds them, or as many as were asked for."""
     crates = asked or max(1, min(processors, memory // A_CRATE))
     used = min(asked or processors, processors)
-    return Lanes(used, crates, min(used, JOBS_AT_MOST), max(0, (memory - crates * A_CRATE) // A_JOB))
+    return Lanes(
+        used, crates, min(used, JOBS_AT_MOST), max(0, (memory - crates * A_CRATE) // A_JOB)
+    )
 
 
 @dataclass
 class Plan:
-    """The crates to prove, each after those that it stands on, and the seconds of a processor that each takes."""
+    """The crates to prove, each after those that it stands on, and the seconds that each takes."""
 
     below: Libraries
     seconds: Mapping[str, float]
     lanes: Lanes
     done: set[str] = field(default_factory=set)
-    running: dict[str, tuple[float, int]] = field(default_factory=dict)  # when it began, and its jobs
+    running: dict[str, tuple[float, int]] = field(
+        default_factory=dict
+    )  # when it began, and its jobs
 
     def left(self) -> list[str]:
         return [it for it in self.below if it not in self.done and it not in self.running]
 
     def left_of(self, crate: str, now: float) -> float:
-        """The seconds of a processor that a crate may still take: a tenth of them as long as it has not ended."""
+        """The seconds that a crate may still take: at least a tenth of them until it has ended."""
         if crate in self.done:
             return 0.0
         began, _ = self.running.get(crate, (now, 0))
         return max(self.seconds[crate] / 10, self.seconds[crate] - (now - began))
 
     def behind(self, now: float) -> dict[str, float]:
-        """For each crate that has not ended, the seconds of the longest chain that begins with it."""
+        """For each crate that has not ended, the seconds of the longest chain from it on."""
         behind: dict[str, float] = {}
         for crate in reversed([it for it in self.below if it not in self.done]):
             above = (seconds for it, seconds in behind.items() if crate in self.below[it])
@@ -81,12 +88,15 @@ class Plan:
         self.done.add(crate)
 
     def seconds_left(self, now: float) -> float:
-        """How long what is left may take here, if the proofs take the seconds of a processor that they are said to."""
+        """How long the rest may take here, by the seconds that the crates are said to take."""
         work = sum(self.left_of(it, now) for it in self.below)
         return expected(work, max(self.behind(now).values(), default=0.0), self.lanes)
 
 
 def expected(work: float, chain: float, of: Lanes) -> float:
-    """The seconds that so much work takes, of which the longest chain is a part. No lane is busy all the time."""
+    """The seconds that work takes, with its longest chain. No lane is busy all the time."""
     at_once = min(of.processors, of.crates + of.further)
-    return max(work / at_once, chain * (ALONE + (1 - ALONE) / min(of.jobs, 1 + of.further))) + 0.07 * chain
+    return (
+        max(work / at_once, chain * (ALONE + (1 - ALONE) / min(of.jobs, 1 + of.further)))
+        + 0.07 * chain
+    )

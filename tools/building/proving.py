@@ -65,7 +65,10 @@ class Proof:
 
 @dataclass(frozen=True)
 class Sources:
-    """What is proved: rows of crates.txt, what each crate stands on, the sum of its sources, and when they were read."""
+    """What is proved, as of the time when it was read.
+
+    For each crate: its row of crates.txt, what it stands on, and the sum of its sources.
+    """
 
     top: Path
     rows: Mapping[str, str]
@@ -93,7 +96,7 @@ class Build:
         self.whole = plan.seconds_left(self.began)
 
     def run(self, signals: Signals) -> None:
-        """Proves all; where that ends early, no proof goes on and no room is left, but all that was proved stands."""
+        """Proves all. Where that ends early, what was proved stands, and nothing else is left."""
         try:
             while self.plan.left() or self.proofs:
                 for crate, jobs in self.plan.next(time.monotonic()):
@@ -115,8 +118,14 @@ class Build:
         try:
             room.furnish(self.sources.room_of(crate))
             with log.open("wb") as file:
-                process = subprocess.Popen(words, cwd=room.place, stdin=subprocess.DEVNULL, stdout=file,
-                                           stderr=subprocess.STDOUT, preexec_fn=die_with_parent)
+                process = subprocess.Popen(
+                    words,
+                    cwd=room.place,
+                    stdin=subprocess.DEVNULL,
+                    stdout=file,
+                    stderr=subprocess.STDOUT,
+                    preexec_fn=die_with_parent,
+                )
         except BaseException:
             room.leave()
             raise
@@ -129,7 +138,11 @@ class Build:
         if status in (-signal.SIGINT, 128 + signal.SIGINT):
             raise Interrupted(signal.SIGINT)
         # The status of `rt run` is the program's own.
-        if status != 0 and crate != PROGRAM or not proof.room.bring_home(self.sources.sums[crate], self.sources.read):
+        if (
+            status != 0
+            and crate != PROGRAM
+            or not proof.room.bring_home(self.sources.sums[crate], self.sources.read)
+        ):
             proof.room.leave()
             self.proofs.remove(proof)
             raise Refusal(f"{self.why(proof)}; {self.kept()}")
@@ -137,7 +150,9 @@ class Build:
         proof.log.unlink()
         self.proofs.remove(proof)
         self.plan.end(crate)
-        self.teller.event(f"{crate} is proved, after {clock(time.monotonic() - proof.began)} ({self.count()})")
+        self.teller.event(
+            f"{crate} is proved, after {clock(time.monotonic() - proof.began)} ({self.count()})"
+        )
 
     def leave(self) -> None:
         """Ends the proofs that go on, and keeps what they have come to."""
@@ -163,7 +178,8 @@ class Build:
             return f"the disk is full: {crate} could not be proved, see {log}"
         match proof.process.returncode:
             case -9 | 137 | 247:
-                return f"{crate}: its proof was killed, most likely for want of memory, see {log}; try --jobs 1"
+                why = "its proof was killed, most likely for memory (try --jobs 1)"
+                return f"{crate}: {why}, see {log}"
             case status if status < 0:
                 return f"{crate}: its proof was ended by signal {-status}, see {log}"
             case 2 if crate != PROGRAM:
@@ -173,13 +189,14 @@ class Build:
         return f"{crate} is not proved, see {log}"
 
     def kept(self) -> str:
-        return f"{len(self.plan.done)} of {len(self.plan.below)} crates stand, and the next build goes on from there"
+        count = f"{len(self.plan.done)} of {len(self.plan.below)}"
+        return f"{count} crates stand, and the next build goes on from there"
 
     def count(self) -> str:
         return f"{len(self.plan.done)} of {len(self.plan.below)} done, {self.time_left()}"
 
     def time_left(self) -> str:
-        """By the times of the crates, and once a part is done by how much longer or shorter it took than they say."""
+        """By the times of the crates, and by how much longer or shorter the first ones took."""
         now = time.monotonic()
         left = self.plan.seconds_left(now)
         passed = self.whole - left

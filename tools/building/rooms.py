@@ -1,7 +1,8 @@
-"""A room for each proof: a small repository of one crate and those that it stands on, in the crate's own folder out.
+"""A room for each proof: a small repository of one crate and those that it stands on.
 
-A command of the toolchain keeps all others out of the folders of its crate and of all crates below, so side by side each one
-needs copies of them. What a room made is brought home by renaming, so at home a library stands whole or not at all.
+A command of the toolchain keeps all others out of the folders of its crate and of all crates below,
+so side by side each one needs copies of them. A room is in its crate's folder out. What it made is
+brought home by renaming, so at home a library stands whole or not at all.
 """
 
 import errno
@@ -40,7 +41,7 @@ class Room:
         return self.folder / "crates" / self.crate
 
     def furnish(self, rows: Mapping[str, str]) -> None:
-        """Makes the room for the crates of these rows, and moves into it what earlier proofs of its own crate kept."""
+        """Makes the room for the crates of these rows, with what earlier proofs kept."""
         shutil.rmtree(self.folder, ignore_errors=True)
         for crate in rows:
             to, of = self.folder / "crates" / crate, self.top / "crates" / crate
@@ -57,7 +58,7 @@ class Room:
         move(self.home / KEPT, self.place / "out" / KEPT)
 
     def bring_home(self, sum_of_crate: str, began: float) -> bool:
-        """Brings home what the proof made of sources that were read at that time, and gives whether it made anything."""
+        """Brings home what was made of sources that were read then; gives whether anything was."""
         made = self.place / "out"
         if self.crate != PROGRAM:
             if not (made / "rlib/stamp").exists():
@@ -80,7 +81,7 @@ class Room:
 
 
 def link_or_copy(one: str, other: str) -> None:
-    """Gives a file of a library a second name: the toolchain makes such a file anew, and never writes into it."""
+    """Gives a file of a library a second name: the toolchain never writes into such a file."""
     try:
         os.link(one, other)
     except OSError as error:

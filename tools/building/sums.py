@@ -1,4 +1,4 @@
-"""Which libraries stand: those with a sum beside them that is still the sum of all that they were made from."""
+"""Which libraries stand: those beside which the sum of all that they are made from still stands."""
 
 import hashlib
 from collections.abc import Mapping
@@ -9,11 +9,15 @@ from .crates import SOURCES
 SUM = "sum"
 
 
-def sums(top: Path, below: Mapping[str, list[str]], rows: Mapping[str, str], toolchain: str) -> dict[str, str]:
-    """The sum of each crate: its row of crates.txt, its files, the toolchain, and the sums of what it stands on."""
+def sums(
+    top: Path, below: Mapping[str, list[str]], rows: Mapping[str, str], toolchain: str
+) -> dict[str, str]:
+    """The sum of each crate: of its row, its files, the toolchain, and the sums of those below."""
     found: dict[str, str] = {}
     for crate, lower in below.items():
-        sum_of = hashlib.sha256(repr((toolchain, rows[crate], [found[it] for it in lower])).encode())
+        sum_of = hashlib.sha256(
+            repr((toolchain, rows[crate], [found[it] for it in lower])).encode()
+        )
         for part in SOURCES:
             for path in sorted((top / "crates" / crate / part).rglob("*")):
                 if path.is_file():
@@ -26,6 +30,8 @@ def stands(top: Path, crate: str, sum_of_crate: str) -> bool:
     """Whether a library of these very sources is built."""
     rlib = top / "crates" / crate / "out/rlib"
     try:
-        return (rlib / SUM).read_text(encoding="utf-8") == sum_of_crate and (rlib / f"{crate}.rlib").is_dir()
+        return (rlib / SUM).read_text(encoding="utf-8") == sum_of_crate and (
+            rlib / f"{crate}.rlib"
+        ).is_dir()
     except OSError:
         return False

@@ -1,4 +1,4 @@
-"""How far a build is, on standard error: one line that is written anew on a terminal, or a line for each thing that happens."""
+"""How far a build is, on standard error: in one line on a terminal, or a line for each event."""
 
 import math
 import os

@@ -1,6 +1,7 @@
-"""tools/gate_times on a log of few crates: the chain, what each of its crates could save, and the file of times that it writes.
+"""tools/gate_times on a log of few crates: the chain, what it could save, and the file of times.
 
-The crates' chain is low, left, top with 10 + 50 + 5 seconds of a processor; without left, right is on it with its 20.
+The longest chain is low, left, top, with 10 + 50 + 5 seconds of a processor. Were left to take
+none, right would be on it, with 20.
 """
 
 import re
@@ -30,9 +31,12 @@ CHAIN = """longest chain of proofs: 65 s of a processor, of 85 s in all
   top                    5   saves 5
 whole run: 95 s (2 min), 1.3 processors in use; 4 passed, 0 failed
 """
-TIMES = "crate\tproof\ttests\tedits\nlow\t1\t2\t-\naside\t7\t-\t-\ngone\t7\t7\t7\n"
-KEPT = "crate\tproof\ttests\tedits\nlow\t10\t0\t0\nleft\t50\t0\t0\nright\t20\t33\t4\ntop\t5\t0\t0\naside\t7\t-\t-\n"
-KEPT_OF_A_BUILD = "crate\tproof\ttests\tedits\nlow\t10\t2\t-\nleft\t50\t-\t-\nright\t20\t-\t-\ntop\t5\t-\t-\naside\t7\t-\t-\n"
+HEAD = "crate\tproof\ttests\tedits\n"
+TIMES = HEAD + "low\t1\t2\t-\naside\t7\t-\t-\ngone\t7\t7\t7\n"
+# What is kept of the log, and what of the log of a build, which measures no tests and no edits.
+KEPT = HEAD + "low\t10\t0\t0\nleft\t50\t0\t0\nright\t20\t33\t4\ntop\t5\t0\t0\naside\t7\t-\t-\n"
+BUILT = HEAD + "low\t10\t2\t-\nleft\t50\t-\t-\nright\t20\t-\t-\ntop\t5\t-\t-\naside\t7\t-\t-\n"
+LOG_OF_A_BUILD = "".join(it for it in LOG.splitlines(True) if not re.search("tests|edit", it))
 
 
 def check(top: Path, program: Path, tally: Tally) -> None:
@@ -41,13 +45,21 @@ def check(top: Path, program: Path, tally: Tally) -> None:
         copy, log = Path(folder) / "copy", Path(folder) / "log"
         (copy / "tools").mkdir(parents=True)
         shutil.copy2(top / "tools/gate_times", copy / "tools")
-        shutil.copytree(top / "tools/building", copy / "tools/building", ignore=shutil.ignore_patterns("__pycache__"))
+        shutil.copytree(
+            top / "tools/building",
+            copy / "tools/building",
+            ignore=shutil.ignore_patterns("__pycache__"),
+        )
         (copy / "crates.txt").write_text(LIST)
         times = copy / "tools/crate_times.tsv"
 
         def of(*words: object) -> "subprocess.CompletedProcess[str]":
-            return subprocess.run([sys.executable, copy / "tools/gate_times", *map(str, words)], capture_output=True, text=True,
-                                  check=False)
+            return subprocess.run(
+                [sys.executable, copy / "tools/gate_times", *map(str, words)],
+                capture_output=True,
+                text=True,
+                check=False,
+            )
 
         def tell(name: str, is_so: bool, found: object) -> None:
             tally.tell(f"tools/gate_times: {name}", None if is_so else f"it is {found}")
@@ -56,15 +68,22 @@ def check(top: Path, program: Path, tally: Tally) -> None:
         ran = of(log)
         tell("the chain of a log", ran.returncode == 0 and ran.stdout.endswith("\n\n" + CHAIN), ran)
         tell("a table alone writes nothing", not times.exists(), "written")
-        for name, text, kept in (("a gate", LOG, KEPT), ("a build", LOG.replace("tests", "proof").replace("33.0", "0.0").replace(
-                "@ right edit", "- right edit"), KEPT_OF_A_BUILD)):
+        logs = (("a gate", LOG, KEPT), ("a build", LOG_OF_A_BUILD, BUILT))
+        for name, text, kept in logs:
             times.write_text(TIMES)
             log.write_text(text)
             ran = of(log, "--keep")
-            tell(f"the times of {name}", (ran.returncode, times.read_text()) == (0, kept), (ran, times.read_text()))
+            tell(
+                f"the times of {name}",
+                (ran.returncode, times.read_text()) == (0, kept),
+                (ran, times.read_text()),
+            )
         times.write_text(KEPT)
         ran = of("--expect")
-        is_so = re.fullmatch(r"the gate takes about [1-3] min on \d+ processors where it proves all; .*\n", ran.stdout)
+        is_so = re.fullmatch(
+            r"the gate takes about [1-3] min on \d+ processors where it proves all; .*\n",
+            ran.stdout,
+        )
         tell("how long a gate takes", ran.returncode == 0 and is_so is not None, ran)
         for words in ((), (log, "--expect"), (Path(folder) / "none",)):
             ran = of(*words)
