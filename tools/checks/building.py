@@ -3,6 +3,7 @@
 import contextlib
 import os
 import pty
+import re
 import signal
 import subprocess
 import sys
@@ -75,7 +76,7 @@ def check_order(top: Path, tally: Tally) -> None:
 def check_lines(top: Path, tally: Tally) -> None:
     """Three crates go at once, with a line for each that begins and ends."""
     with place(top) as it:
-        ran = it.build("--jobs", "3", STUB_SECONDS="0.5", ZORVLEID_PROGRESS="1")
+        ran = it.build("--jobs", "3", STUB_SECONDS="1", ZORVLEID_PROGRESS="1")
         found = ran.returncode, at_once(it.events()), sorted(it.begun())
         tally.tell("three crates at once", unlike((0, 3, MADE_OF), found))
         first, *lines = ran.stderr.splitlines() or [""]
@@ -117,7 +118,7 @@ def check_stops(top: Path, tally: Tally) -> None:
 
 def stop(it: Place, number: signal.Signals, status: int, tally: Tally) -> None:
     """Stops a build while the second crate is proved, and builds again."""
-    with it.start("--jobs", "2", STUB_SECONDS="0.2") as first:
+    with it.start("--jobs", "2", STUB_SECONDS="1") as first:
         it.await_begin("long")
         first.send_signal(number)
         ran = subprocess.CompletedProcess([], 0, *first.communicate(timeout=60))
@@ -226,7 +227,8 @@ def check_terminal(top: Path, tally: Tally) -> None:
                     shown += more
             os.close(ours)
         text = shown.decode()
-        is_so = "\r1 of 7 done, about 1 min left: long 0:00" in text and " begins" not in text
+        line = re.search(r"\r1 of 7 done, about \d+ min left: long 0:\d\d, one 0:\d\d", text)
+        is_so = line is not None and " begins" not in text
         is_so = is_so and ran.returncode == 0 and text.count("\n") == 2
         tally.tell("a build on a terminal", None if is_so else f"it shows {text!r}")
 
