@@ -78,6 +78,11 @@ def check(top: Path, program: Path, tally: Tally) -> None:
                 (ran.returncode, times.read_text()) == (0, kept),
                 (ran, times.read_text()),
             )
+        says = ("sh", "-c", "echo 3 passed, 0 failed; exit 7")
+        ran = of("--run", log, "--", *says)
+        lines = [it.partition(" ")[2] for it in log.read_text().splitlines()]
+        is_so = (ran.returncode, lines) == (7, [" ".join(says), "3 passed, 0 failed"])
+        tell("a run", is_so, (ran, lines))
         times.write_text(KEPT)
         ran = of("--expect")
         is_so = re.fullmatch(
