@@ -202,6 +202,12 @@ def check_words(top: Path, tally: Tally) -> None:
         stub = Path(it.path.partition(":")[0]) / "rt"
         stub.rename(stub.with_name("not_rt"))
         tally.tell("no toolchain", one_line(it.build(), 127, "the toolchain (rt) is missing"))
+        stub.with_name("not_rt").rename(stub)
+        old = stub.with_name("python3")
+        old.unlink()
+        old.write_text("#!/bin/sh\nexit 1\n")
+        old.chmod(0o755)
+        tally.tell("an old python3", one_line(it.build(), 127, "python3 is missing or older"))
 
 
 def check_two(top: Path, tally: Tally) -> None:
