@@ -7,7 +7,6 @@ import re
 import signal
 import subprocess
 import sys
-import time
 from pathlib import Path
 
 from building.plan import lanes
@@ -126,9 +125,7 @@ def stop(it: Place, number: signal.Signals, status: int, tally: Tally) -> None:
     name = number.name
     if number == signal.SIGKILL:
         tally.tell(f"a build under {name}", silent(ran, status))
-        time.sleep(0.2)  # the system ends the proofs now
-        going = [event.crate for event in it.events() if event.goes_on()]
-        tally.tell(f"proofs after {name}", unlike([], going))
+        tally.tell(f"proofs after {name}", None if it.await_end() else "they go on")
     else:
         tally.tell(
             f"a build under {name}", one_line(ran, status, "interrupted", "goes on from there")

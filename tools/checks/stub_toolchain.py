@@ -152,6 +152,14 @@ class Place:
             time.sleep(0.05)
         raise TimeoutError(f"{crate} has not begun after 30 seconds")
 
+    def await_end(self) -> bool:
+        """Waits until no proof goes on, for a while; gives whether that came."""
+        for _ in range(600):
+            if not any(it.goes_on() for it in self.events()):
+                return True
+            time.sleep(0.05)
+        return False
+
     def left_over(self) -> str | None:
         """What is left that should not be: a room, half a library, or a proof that goes on."""
         for folder in sorted((self.top / "crates").glob("*/out")):
