@@ -56,7 +56,7 @@ def check_order(top: Path, tally: Tally) -> None:
     with place(top) as it:
         tally.tell("--fresh before a build", silent(it.build("--fresh"), 1))
         tally.tell("a build", silent(it.build("--jobs", "1")))
-        order = ["base", "long", "middle", "one", "two", "three", "script_main"]
+        order = ["base", "long", "middle", "one", "two", "script_main"]
         tally.tell("the order of proofs", unlike(order, it.begun()))
         jobs = {event.jobs for event in it.events() if event.kind == "begin"}
         tally.tell("one job", unlike((1, {1}), (at_once(it.events()), jobs)))
@@ -75,7 +75,7 @@ def check_order(top: Path, tally: Tally) -> None:
 def check_lines(top: Path, tally: Tally) -> None:
     """Three crates go at once, with a line for each that begins and ends."""
     with place(top) as it:
-        ran = it.build("--jobs", "3", STUB_SECONDS="1", ZORVLEID_PROGRESS="1")
+        ran = it.build("--jobs", "3", STUB_TOGETHER="long one two", ZORVLEID_PROGRESS="1")
         found = ran.returncode, at_once(it.events()), sorted(it.begun())
         tally.tell("three crates at once", unlike((0, 3, MADE_OF), found))
         first, *lines = ran.stderr.splitlines() or [""]
@@ -83,7 +83,7 @@ def check_lines(top: Path, tally: Tally) -> None:
             names = sorted(line.split()[0] for line in lines if words in line)
             tally.tell(f"the lines '{words}'", unlike(MADE_OF, names))
         tally.tell("the count of lines", unlike(2 * len(MADE_OF) + 1, len(lines)))
-        wanted = ("proving 7 of 7 crates", ": about ", " min on ", "3 crates at once")
+        wanted = ("proving 6 of 6 crates", ": about ", " min on ", "3 crates at once")
         is_said = all(words in first for words in wanted)
         tally.tell("how long it takes", None if is_said else f"it says {first!r} at first")
 
@@ -94,7 +94,7 @@ def check_machines(top: Path, tally: Tally) -> None:
     keep = f"import os, sys; os.sched_setaffinity(0, {two}); os.execv(sys.argv[1], sys.argv[1:])"
     with place(top) as it:
         words = [sys.executable, "-c", keep, it.top / "tools/build"]
-        ran = subprocess.run(words, env=it.environment(STUB_SECONDS="0.3"), check=False)
+        ran = subprocess.run(words, env=it.environment(), check=False)
         jobs = max((event.jobs for event in it.events() if event.kind == "begin"), default=9)
         is_so = ran.returncode == 0 and max(at_once(it.events()), jobs) <= len(two)
         found = f"{at_once(it.events())} go at once, with {jobs} jobs; {ran}"
@@ -117,10 +117,10 @@ def check_stops(top: Path, tally: Tally) -> None:
 
 def stop(it: Place, number: signal.Signals, status: int, tally: Tally) -> None:
     """Stops a build while the second crate is proved, and builds again."""
-    with it.start("--jobs", "2", STUB_SECONDS="1") as first:
+    with it.start("--jobs", "2", STUB_FAULT="long:rest") as first:
         it.await_begin("long")
         first.send_signal(number)
-        ran = subprocess.CompletedProcess([], 0, *first.communicate(timeout=60))
+        ran = subprocess.CompletedProcess([], 0, *first.communicate(timeout=120))
         ran.returncode = first.returncode
     name = number.name
     if number == signal.SIGKILL:
@@ -148,7 +148,7 @@ def check_faults(top: Path, tally: Tally) -> None:
         with place(top) as it:
             ran = it.build("--jobs", "1", STUB_FAULT=f"long:{fault}")
             tally.tell(
-                f"fault {fault}", one_line(ran, 126, "long", str(log), "1 of 7 crates", words)
+                f"fault {fault}", one_line(ran, 126, "long", str(log), "1 of 6 crates", words)
             )
             said = (it.top / log).read_text() if (it.top / log).exists() else "no log"
             wanted = {"killed": "", "disk": "No space left on device"}.get(
@@ -210,8 +210,8 @@ def check_words(top: Path, tally: Tally) -> None:
 def check_two(top: Path, tally: Tally) -> None:
     """Two builds at once prove each crate once."""
     with place(top) as it:
-        both = it.start(STUB_SECONDS="0.2"), it.start(STUB_SECONDS="0.2")
-        found = [(*ran.communicate(timeout=120), ran.returncode) for ran in both]
+        both = it.start(), it.start()
+        found = [(*ran.communicate(timeout=600), ran.returncode) for ran in both]
         tally.tell("two builds at once", unlike([("", "", 0)] * 2, found))
         tally.tell("what they prove", unlike(MADE_OF, sorted(it.begun())))
 
@@ -221,7 +221,7 @@ def check_terminal(top: Path, tally: Tally) -> None:
     with place(top) as it:
         ours, theirs = pty.openpty()
         words = [it.top / "tools/build", "--jobs", "2"]
-        where = it.environment(STUB_SECONDS="0.3")
+        where = it.environment()
         with subprocess.Popen(words, stdin=subprocess.DEVNULL, stderr=theirs, env=where) as ran:
             os.close(theirs)
             shown = b""
@@ -230,7 +230,7 @@ def check_terminal(top: Path, tally: Tally) -> None:
                     shown += more
             os.close(ours)
         text = shown.decode()
-        line = re.search(r"\r1 of 7 done, about \d+ min left: long 0:\d\d, one 0:\d\d", text)
+        line = re.search(r"\r1 of 6 done, about \d+ min left: long 0:\d\d, one 0:\d\d", text)
         is_so = line is not None and " begins" not in text
         is_so = is_so and ran.returncode == 0 and text.count("\n") == 2
         tally.tell("a build on a terminal", None if is_so else f"it shows {text!r}")

@@ -2,7 +2,8 @@
 
 The stub keeps others out of the folders of its crate and of those below, as the toolchain does, but
 fails where that would wait. It fails too where a library below is missing, and it makes its own in
-two steps, with a rest between them: STUB_SECONDS says how long. STUB_FAULT is CRATE:FAULT.
+two steps, with a rest between them. The crates of STUB_TOGETHER rest until all of them have begun,
+for a while. STUB_FAULT is CRATE:FAULT.
 """
 
 import contextlib
@@ -23,11 +24,10 @@ CRATES = {
     "base": ("", 10),
     "one": ("base", 20),
     "two": ("base", 10),
-    "three": ("base", 5),
     "long": ("base", 30),
     "middle": ("long", 40),
     "aside": ("base", 90),
-    "script_main": ("one two three middle", 10),
+    "script_main": ("one two middle", 10),
 }
 MADE_OF = sorted(set(CRATES) - {"aside"})
 
@@ -58,8 +58,15 @@ made = "out/" + crate if verb == "run" else rlib + "/format"
 os.makedirs(rlib if verb == "lib" else "out", exist_ok=True)
 open(made, "w").write("#!/bin/sh\nexit 2\n")
 fault = os.environ.get("STUB_FAULT", "").split(":")
-time.sleep(float(os.environ.get("STUB_SECONDS", "0.02")))
+together = os.environ.get("STUB_TOGETHER", "").split()
+for _ in range(600):
+    begun = [line.split()[1] for line in open("{log}") if line.startswith("begin ")]
+    time.sleep(0.05)
+    if crate not in together or set(together) <= set(begun):
+        break
 if fault[0] == crate:
+    if fault[1] == "rest":
+        time.sleep(600)
     if fault[1] == "disk":
         with open("/dev/full", "w") as full:
             full.write("a proof")
@@ -127,7 +134,7 @@ class Place:
             text=True,
             check=False,
             env=self.environment(**more),
-            timeout=120,
+            timeout=600,
         )
 
     def start(self, *words: str, **more: str) -> "subprocess.Popen[str]":
@@ -146,11 +153,11 @@ class Place:
         (self.top / "crates" / crate / "src/lib.rt").write_text("edited\n", encoding="utf-8")
 
     def await_begin(self, crate: str) -> None:
-        for _ in range(600):
+        for _ in range(2400):
             if crate in self.begun():
                 return
             time.sleep(0.05)
-        raise TimeoutError(f"{crate} has not begun after 30 seconds")
+        raise TimeoutError(f"{crate} has not begun after two minutes")
 
     def await_end(self) -> bool:
         """Waits until no proof goes on, for a while; gives whether that came."""
