@@ -1,4 +1,4 @@
-"""Packs the package zorvleid for pip, as pyproject.toml says: the hook that pip calls, and what it needs."""
+"""Packs the package zorvleid: the hook that pip calls, as pyproject.toml says."""
 
 import base64
 import hashlib
@@ -9,18 +9,29 @@ from pathlib import Path
 HERE = Path(__file__).resolve().parent
 
 
-def build_wheel(wheel_directory: str, config_settings: object = None, metadata_directory: str | None = None) -> str:
+def build_wheel(
+    wheel_directory: str, config_settings: object = None, metadata_directory: str | None = None
+) -> str:
     """Writes the wheel into a folder, and answers its name."""
     project = tomllib.loads((HERE / "pyproject.toml").read_text(encoding="utf-8"))["project"]
     release = f"{project['name']}-{project['version']}"
-    metadata = (f"Metadata-Version: 2.1\nName: {project['name']}\nVersion: {project['version']}\n"
-                f"Summary: {project['description']}\nRequires-Python: {project['requires-python']}\n")
-    files = {f"{project['name']}/{path.name}": path.read_bytes()
-             for path in sorted((HERE / project["name"]).iterdir()) if path.suffix == ".py" or path.name == "py.typed"}
+    metadata = (
+        f"Metadata-Version: 2.1\nName: {project['name']}\nVersion: {project['version']}\n"
+        f"Summary: {project['description']}\nRequires-Python: {project['requires-python']}\n"
+    )
+    files = {
+        f"{project['name']}/{path.name}": path.read_bytes()
+        for path in sorted((HERE / project["name"]).iterdir())
+        if path.suffix == ".py" or path.name == "py.typed"
+    }
     files[f"{release}.dist-info/METADATA"] = metadata.encode()
-    files[f"{release}.dist-info/WHEEL"] = b"Wheel-Version: 1.0\nGenerator: zorvleid\nRoot-Is-Purelib: true\nTag: py3-none-any\n"
+    files[
+        f"{release}.dist-info/WHEEL"
+    ] = b"Wheel-Version: 1.0\nGenerator: zorvleid\nRoot-Is-Purelib: true\nTag: py3-none-any\n"
     record = f"{release}.dist-info/RECORD"
-    files[record] = "".join([*(line_of(name, data) for name, data in files.items()), f"{record},,\n"]).encode()
+    files[record] = "".join(
+        [*(line_of(name, data) for name, data in files.items()), f"{record},,\n"]
+    ).encode()
     name = f"{release}-py3-none-any.whl"
     with zipfile.ZipFile(Path(wheel_directory) / name, "w", zipfile.ZIP_DEFLATED) as packed:
         for inside, data in files.items():

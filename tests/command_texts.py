@@ -1,7 +1,7 @@
-"""Random texts of commands, each made from a number, with the words that the service has to execute for them.
+"""Random texts of commands, each made from a number, with the words that have to be executed.
 
-All commands of a text are right, so that no stream is lost: each is to be executed, in its order. The headers are those of the
-table in docs/FORMATS.md. `text(seed)` is the same on every machine.
+All commands of a text are right, so that no stream is lost: each is to be executed, in its order.
+The headers are those of the table in docs/FORMATS.md. `text(seed)` is the same on every machine.
 """
 
 import re
@@ -12,7 +12,9 @@ from hostile import Draw
 
 FORMATS = Path(__file__).resolve().parent.parent / "docs/FORMATS.md"
 ROW = re.compile(r"^\| \d+ \| (\w+) \| \d+(?: or more)? \| .* \| ([0-9a-f]{8}) \|$", re.MULTILINE)
-HEADERS = {name: int(header, 16) for name, header in ROW.findall(FORMATS.read_text(encoding="utf-8"))}
+HEADERS = {
+    name: int(header, 16) for name, header in ROW.findall(FORMATS.read_text(encoding="utf-8"))
+}
 TEXELS = {"RGBA8": (1, 4), "RGB565": (2, 2), "RGBA4444": (3, 2), "L8": (4, 1)}
 WIDE = ("release", "id")
 RELEASES = (0, 1, 2, 3, 7, 2**32, 2**64 - 1)
@@ -21,7 +23,7 @@ WORD = 2**32
 
 @dataclass
 class Text:
-    """The lines of a text, whether it is assembled with --await, and what each stream has to execute, but for Noops."""
+    """A text, whether it goes with --await, and what is to be executed, but for Noops."""
 
     lines: list[str]
     awaits: bool
@@ -32,7 +34,7 @@ class Text:
 
 
 class Client:
-    """A stream whose commands fit into what it has made: it knows its memories, buckets and buffers."""
+    """A stream whose commands fit its memories, buckets and buffers."""
 
     def __init__(self, draw: Draw, number: int, streams: int, text: Text) -> None:
         self.draw, self.which, self.streams, self.text = draw, number, streams, text
@@ -59,31 +61,96 @@ class Client:
     def order(self) -> tuple[str, dict[str, int | str], list[int]]:
         self.release, self.token = self.release + 1, self.token + 1
         release = self.draw.of(RELEASES)
-        return self.draw.of((
-            ("InsertFence", {"release": self.release if self.draw.chance(80) else release}, []),
-            ("WaitToken", {"stream": self.draw.below(self.streams + 2), "release": release}, []),
-            ("WaitSyncToken", {"namespace": self.draw.below(3), "id": self.draw.of(RELEASES), "release": release}, []),
-            ("SetToken", {"token": self.token if self.draw.chance(80) else self.draw.below(WORD)}, [])))
+        return self.draw.of(
+            (
+                ("InsertFence", {"release": self.release if self.draw.chance(80) else release}, []),
+                (
+                    "WaitToken",
+                    {"stream": self.draw.below(self.streams + 2), "release": release},
+                    [],
+                ),
+                (
+                    "WaitSyncToken",
+                    {
+                        "namespace": self.draw.below(3),
+                        "id": self.draw.of(RELEASES),
+                        "release": release,
+                    },
+                    [],
+                ),
+                (
+                    "SetToken",
+                    {"token": self.token if self.draw.chance(80) else self.draw.below(WORD)},
+                    [],
+                ),
+            )
+        )
 
     def image(self) -> tuple[str, dict[str, int | str], list[int]] | None:
         image, box = self.draw.below(4), {key: self.draw.below(5) for key in ("x", "y", "w", "h")}
         memory = self.draw.of(sorted(self.memories))
         form = self.draw.of(sorted(TEXELS))
         size = box["w"] * box["h"] * TEXELS[form][1]
-        return self.draw.of((
-            ("CreateImage", {"image": image, "width": self.draw.between(1, 6), "height": self.draw.between(0, 6)}, []),
-            ("DeleteImage", {"image": image}, []),
-            ("ClearRect", {"image": image, **box, "texel": self.draw.below(WORD)}, []),
-            ("CopyRect", {"source": image, "x": 0, "y": 1, "target": self.draw.below(4), "x2": 2, "y2": 0,
-                          "w": box["w"], "h": box["h"]}, []),
-            ("UploadRect", {"image": image, **box, "format": form, "memory": memory,
-                            "memory_offset": self.offset(4 * self.memories[memory], size)}, [])
-            if size <= 4 * self.memories[memory] else None,
-            self.from_bytes("UploadBucket", "bucket", self.buckets, {"image": image, **box, "format": form}, size),
-            self.from_bytes("UploadBuffer", "buffer", self.buffers, {"image": image, **box, "format": form}, size)))
+        return self.draw.of(
+            (
+                (
+                    "CreateImage",
+                    {
+                        "image": image,
+                        "width": self.draw.between(1, 6),
+                        "height": self.draw.between(0, 6),
+                    },
+                    [],
+                ),
+                ("DeleteImage", {"image": image}, []),
+                ("ClearRect", {"image": image, **box, "texel": self.draw.below(WORD)}, []),
+                (
+                    "CopyRect",
+                    {
+                        "source": image,
+                        "x": 0,
+                        "y": 1,
+                        "target": self.draw.below(4),
+                        "x2": 2,
+                        "y2": 0,
+                        "w": box["w"],
+                        "h": box["h"],
+                    },
+                    [],
+                ),
+                (
+                    "UploadRect",
+                    {
+                        "image": image,
+                        **box,
+                        "format": form,
+                        "memory": memory,
+                        "memory_offset": self.offset(4 * self.memories[memory], size),
+                    },
+                    [],
+                )
+                if size <= 4 * self.memories[memory]
+                else None,
+                self.from_bytes(
+                    "UploadBucket",
+                    "bucket",
+                    self.buckets,
+                    {"image": image, **box, "format": form},
+                    size,
+                ),
+                self.from_bytes(
+                    "UploadBuffer",
+                    "buffer",
+                    self.buffers,
+                    {"image": image, **box, "format": form},
+                    size,
+                ),
+            )
+        )
 
-    def from_bytes(self, name: str, key: str, there: dict[int, int], arguments: dict[str, int | str], size: int,
-                   ) -> tuple[str, dict[str, int | str], list[int]] | None:
+    def from_bytes(
+        self, name: str, key: str, there: dict[int, int], arguments: dict[str, int | str], size: int
+    ) -> tuple[str, dict[str, int | str], list[int]] | None:
         """An upload from a bucket or a buffer that has enough bytes."""
         fitting = [number for number in sorted(there) if there[number] >= size]
         if not fitting:
@@ -105,27 +172,68 @@ class Client:
         memory, result = self.draw.of(sorted(self.memories)), self.draw.of(sorted(self.results))
         room, whole = 4 * self.results[result], 4 * self.results[result] - self.draw.below(2) * 4
         got = min(size, room)
-        return self.draw.of((
-            ("SetBucketDataImmediate", part, [self.draw.below(WORD) for _ in range((size + 3) // 4)]),
-            ("SetBucketData", {**part, "memory": memory, "memory_offset": self.offset(4 * self.memories[memory], size)}, [])
-            if size <= 4 * self.memories[memory] else None,
-            ("GetBucketStart", {"bucket": bucket, "result_memory": result, "result_offset": 4 * self.draw.below(room // 4),
-                                "data_size": whole, "data_memory": result, "data_offset": 0}, []),
-            ("GetBucketData", {**part, "size": got, "memory": result, "memory_offset": (room - got) // 4 * 4}, [])))
+        return self.draw.of(
+            (
+                (
+                    "SetBucketDataImmediate",
+                    part,
+                    [self.draw.below(WORD) for _ in range((size + 3) // 4)],
+                ),
+                (
+                    "SetBucketData",
+                    {
+                        **part,
+                        "memory": memory,
+                        "memory_offset": self.offset(4 * self.memories[memory], size),
+                    },
+                    [],
+                )
+                if size <= 4 * self.memories[memory]
+                else None,
+                (
+                    "GetBucketStart",
+                    {
+                        "bucket": bucket,
+                        "result_memory": result,
+                        "result_offset": 4 * self.draw.below(room // 4),
+                        "data_size": whole,
+                        "data_memory": result,
+                        "data_offset": 0,
+                    },
+                    [],
+                ),
+                (
+                    "GetBucketData",
+                    {**part, "size": got, "memory": result, "memory_offset": (room - got) // 4 * 4},
+                    [],
+                ),
+            )
+        )
 
     def buffer(self) -> tuple[str, dict[str, int | str], list[int]] | None:
         buffer = self.draw.below(4)
         if buffer not in self.buffers:
             self.buffers[buffer] = self.draw.below(20)
             return "CreateBuffer", {"buffer": buffer, "size": self.buffers[buffer]}, []
-        memory, size = self.draw.of(sorted(self.memories)), self.draw.below(self.buffers[buffer] + 1)
+        memory, size = self.draw.of(sorted(self.memories)), self.draw.below(
+            self.buffers[buffer] + 1
+        )
         if self.draw.chance(20):
             del self.buffers[buffer]
             return "DeleteBuffer", {"buffer": buffer}, []
         if size > 4 * self.memories[memory]:
             return None
-        return "BufferData", {"buffer": buffer, "offset": self.offset(self.buffers[buffer], size), "size": size,
-                              "memory": memory, "memory_offset": self.offset(4 * self.memories[memory], size)}, []
+        return (
+            "BufferData",
+            {
+                "buffer": buffer,
+                "offset": self.offset(self.buffers[buffer], size),
+                "size": size,
+                "memory": memory,
+                "memory_offset": self.offset(4 * self.memories[memory], size),
+            },
+            [],
+        )
 
     # --- Lines ---
 
@@ -142,7 +250,11 @@ class Client:
         pairs = [f"{key}={self.number(argument)}" for key, argument in arguments.items()]
         if data:
             stored = b"".join(word.to_bytes(4, "little") for word in data).hex()
-            pairs.append(f"bytes={stored}" if self.draw.chance(50) else "data=" + ",".join(map(self.number, data)))
+            pairs.append(
+                f"bytes={stored}"
+                if self.draw.chance(50)
+                else "data=" + ",".join(map(self.number, data))
+            )
         return " ".join([name, *sorted(pairs, key=lambda _: self.draw.word())])
 
     def number(self, argument: int | str) -> str:
@@ -164,7 +276,10 @@ class Client:
             lines.append(self.line(*command))
             if command[0] != "Noop":
                 self.executed.append(self.words(*command))
-        fences = [f"{self.draw.below(self.streams + 2)}:{self.draw.of(RELEASES)}" for _ in range(self.draw.of((0, 0, 1, 3)))]
+        fences = [
+            f"{self.draw.below(self.streams + 2)}:{self.draw.of(RELEASES)}"
+            for _ in range(self.draw.of((0, 0, 1, 3)))
+        ]
         return [*lines, " ".join(["flush", *(["after", *fences] if fences else [])])]
 
     def stream(self) -> list[str]:

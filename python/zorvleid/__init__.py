@@ -1,4 +1,4 @@
-"""Scripts of GPU command buffers: made, read and judged beside the program, for which nothing is claimed here.
+"""Scripts of GPU command buffers: made, read and judged, beside the proved program.
 
     from zorvleid import Script
 
@@ -18,5 +18,18 @@ from .reader import read_script
 from .script import Script, Stream
 from .verdict import ProgramFault, Verdict, verify
 
-__all__ = ["Output", "OutputRefused", "ProgramFault", "Refused", "Script", "ScriptError", "Stream", "Verdict", "assemble",
-           "disassemble", "read_output", "read_script", "verify"]
+__all__ = [
+    "Output",
+    "OutputRefused",
+    "ProgramFault",
+    "Refused",
+    "Script",
+    "ScriptError",
+    "Stream",
+    "Verdict",
+    "assemble",
+    "disassemble",
+    "read_output",
+    "read_script",
+    "verify",
+]

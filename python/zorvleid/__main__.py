@@ -1,7 +1,7 @@
 """The command line: zorvleid assemble | disassemble [FILE], which ./zorvleid calls.
 
-The status is 0 where all was written, 2 for words that are no command, 3 and 4 where reading or writing failed, 5 for a text
-that is wrong, and 7 for a script that is too long.
+The status is 0 where all was written, 2 for words that are no command, 3 and 4 where reading or
+writing failed, 5 for a text that is wrong, and 7 for a script that is too long.
 """
 
 import argparse
@@ -27,12 +27,32 @@ class Parser(argparse.ArgumentParser):
 def words() -> argparse.Namespace:
     parser = Parser(prog="zorvleid", allow_abbrev=False)
     tools = parser.add_subparsers(dest="tool", required=True, parser_class=Parser)
-    tool = tools.add_parser("assemble", allow_abbrev=False, help="turn a text of commands into a script")
-    tool.add_argument("--await", dest="awaits", action="store_true",
-                      help="put a finish before what would overwrite entries that the service may still read")
-    tool.add_argument("file", metavar="FILE", nargs="?", default="-", help="the text (left out, or -: standard input)")
-    tool = tools.add_parser("disassemble", allow_abbrev=False, help="turn a script into a text of commands")
-    tool.add_argument("file", metavar="FILE", nargs="?", default="-", help="the script (left out, or -: standard input)")
+    tool = tools.add_parser(
+        "assemble", allow_abbrev=False, help="turn a text of commands into a script"
+    )
+    tool.add_argument(
+        "--await",
+        dest="awaits",
+        action="store_true",
+        help="put a finish before what would overwrite entries that the service may still read",
+    )
+    tool.add_argument(
+        "file",
+        metavar="FILE",
+        nargs="?",
+        default="-",
+        help="the text (left out, or -: standard input)",
+    )
+    tool = tools.add_parser(
+        "disassemble", allow_abbrev=False, help="turn a script into a text of commands"
+    )
+    tool.add_argument(
+        "file",
+        metavar="FILE",
+        nargs="?",
+        default="-",
+        help="the script (left out, or -: standard input)",
+    )
     return parser.parse_args()
 
 
@@ -80,7 +100,10 @@ def main() -> int:
     try:
         data = read(asked.file)
     except (OSError, AttributeError, ValueError) as error:
-        return complain(f"read fault: {'standard input' if asked.file == '-' else asked.file}: {why(error)}", READ_FAULT)
+        return complain(
+            f"read fault: {'standard input' if asked.file == '-' else asked.file}: {why(error)}",
+            READ_FAULT,
+        )
     if asked.tool == "disassemble" and len(data) > BYTES_AT_MOST:
         return complain("input too long", TOO_LONG)
     try:

@@ -1,4 +1,4 @@
-"""The reading of a text of commands: a script whose commands have names and keys, and which knows its ring.
+"""The reading of a text of commands, in which commands have names and keys.
 
 docs/FORMATS.md has the lines. Each line of a script may stand too.
 """
@@ -14,7 +14,9 @@ from .reader import Reader, Word, nearest
 from .script import Fence, Script
 
 HEXADECIMAL = re.compile(r"0[xX][0-9a-fA-F]+")
-NO_PREFIX = re.compile(r"[0-9]*[a-fA-F][0-9a-fA-F]*")  # hexadecimal digits of which one is not decimal
+NO_PREFIX = re.compile(
+    r"[0-9]*[a-fA-F][0-9a-fA-F]*"
+)  # hexadecimal digits of which one is not decimal
 BYTES = re.compile(r"(?:[0-9a-fA-F]{2})*")
 HANDS_OVER = {1: "flush [PUT] [after S:R ..]", 2: "flush [PUT] [after NS:ID:R ..]"}
 FENCES = {1: "S:R, a stream and a release", 2: "NS:ID:R, the name of a stream and a release"}
@@ -44,7 +46,9 @@ class Assembler(Reader):
 
     def value_of(self, word: Word) -> int:
         """A value may have a `0x` before it."""
-        return super().value_of(Word(word.text[2:] if HEXADECIMAL.fullmatch(word.text) else word.text, word.column))
+        return super().value_of(
+            Word(word.text[2:] if HEXADECIMAL.fullmatch(word.text) else word.text, word.column)
+        )
 
     # --- Lines ---
 
@@ -61,7 +65,7 @@ class Assembler(Reader):
         if at > 1 or at + 1 == len(words):
             raise ScriptError("form", form=HANDS_OVER[self.script.version])
         put = self.number_of("PUT", words[0]) if at == 1 else None
-        self.stream().flush(put, [self.named_fence(word) for word in words[at + 1:]])
+        self.stream().flush(put, [self.named_fence(word) for word in words[at + 1 :]])
 
     def named_fence(self, word: Word) -> Fence:
         """A fence as one word, S:R or NS:ID:R."""
@@ -103,7 +107,11 @@ class Assembler(Reader):
     def take_command(self, command: Command, words: Sequence[Word]) -> None:
         given = self.pairs(command, words)
         data = self.data_of(given)
-        size = self.number_of("size", given.pop("size")) if command is NOOP and "size" in given else None
+        size = (
+            self.number_of("size", given.pop("size"))
+            if command is NOOP and "size" in given
+            else None
+        )
         if command is IMMEDIATE and data is not None and "size" not in given:
             given["size"] = Word(str(data[1]), self.columns[""])
         missing = [key for key in command.keys if key not in given]
@@ -115,13 +123,19 @@ class Assembler(Reader):
 
     def pairs(self, command: Command, words: Sequence[Word]) -> dict[str, Word]:
         """What stands behind each key."""
-        keys = [*command.keys, *(["size"] if command is NOOP else []), *(["data", "bytes"] if command.has_data else [])]
+        keys = [
+            *command.keys,
+            *(["size"] if command is NOOP else []),
+            *(["data", "bytes"] if command.has_data else []),
+        ]
         given: dict[str, Word] = {}
         for word in words:
             self.columns["key"] = word.column
             key, equals, text = word.text.partition("=")
             if not equals:
-                raise ScriptError("pair", "key", word=key, command=command.name, keys=", ".join(keys))
+                raise ScriptError(
+                    "pair", "key", word=key, command=command.name, keys=", ".join(keys)
+                )
             if key not in keys:
                 raise ScriptError("key", "key", command=command.name, key=key, keys=", ".join(keys))
             if key in given:
@@ -130,7 +144,7 @@ class Assembler(Reader):
         return given
 
     def data_of(self, given: dict[str, Word]) -> tuple[list[int], int] | None:
-        """Takes the entries of data out of what is given, with how many bytes they are; None where there are none."""
+        """Takes the entries of data out of what is given, with how many bytes they are, or None."""
         if "data" in given and "bytes" in given:
             self.columns["data"] = given["bytes"].column - len("bytes=")
             raise ScriptError("both", "data")
@@ -160,9 +174,9 @@ class Assembler(Reader):
 
 
 def assemble(data: bytes | str, file: str = "-", awaits: bool = False) -> Script:
-    """The script of a text of commands. One that is wrong raises `Refused`, with the line, the column and why.
+    """The script of a text of commands. One that is wrong raises `Refused`.
 
-    Where it `awaits`, a `finish` goes before a command that would overwrite what the service may still read.
+    Where it `awaits`, a `finish` goes before what would overwrite entries that may still be read.
     """
     text = data if isinstance(data, bytes) else data.encode("utf-8", "surrogateescape")
     return Assembler(file, awaits).read(text)

@@ -1,4 +1,4 @@
-"""A method for each command, called as the table calls it: `create_image(image=1, width=2, height=1)`."""
+"""A method for each command of the table, as `create_image(image=1, width=2, height=1)`."""
 
 from collections.abc import Mapping, Sequence
 
@@ -19,19 +19,24 @@ def format_number(form: int | str) -> int:
 
 def entries_of_bytes(data: bytes) -> list[int]:
     """Bytes as entries, the low byte first; the last entry is filled with zeros."""
-    return [int.from_bytes(data[at:at + 4], "little") for at in range(0, len(data), 4)]
+    return [int.from_bytes(data[at : at + 4], "little") for at in range(0, len(data), 4)]
 
 
 class Calls:
     """The commands of a stream."""
 
-    def command(self, command: str, arguments: Mapping[str, int], data: Sequence[int] = (),
-                size: int | None = None) -> None:
+    def command(
+        self,
+        command: str,
+        arguments: Mapping[str, int],
+        data: Sequence[int] = (),
+        size: int | None = None,
+    ) -> None:
         """Puts a command, given by its name."""
         raise NotImplementedError
 
     def noop(self, *, size: int = 1, data: Sequence[int] = ()) -> None:
-        """Does nothing, and fills so many entries. Those after the header and the data stay as they are."""
+        """Does nothing, and fills entries. Those after the header and the data keep their words."""
         self.command("Noop", {}, data, size)
 
     def set_token(self, *, token: int) -> None:
@@ -42,30 +47,69 @@ class Calls:
         """Makes a bucket of so many zero bytes, unless it has this size."""
         self.command("SetBucketSize", {"bucket": bucket, "size": size})
 
-    def set_bucket_data(self, *, bucket: int, offset: int, size: int, memory: int, memory_offset: int) -> None:
+    def set_bucket_data(
+        self, *, bucket: int, offset: int, size: int, memory: int, memory_offset: int
+    ) -> None:
         """Writes bytes of a memory into a bucket."""
-        self.command("SetBucketData", {"bucket": bucket, "offset": offset, "size": size, "memory": memory,
-                                       "memory_offset": memory_offset})
+        self.command(
+            "SetBucketData",
+            {
+                "bucket": bucket,
+                "offset": offset,
+                "size": size,
+                "memory": memory,
+                "memory_offset": memory_offset,
+            },
+        )
 
-    def set_bucket_data_immediate(self, *, bucket: int, offset: int, data: bytes | Sequence[int],
-                                  size: int | None = None) -> None:
-        """Writes bytes into a bucket that stand in the command itself, given as bytes or as entries."""
+    def set_bucket_data_immediate(
+        self, *, bucket: int, offset: int, data: bytes | Sequence[int], size: int | None = None
+    ) -> None:
+        """Writes bytes of the command itself into a bucket, given as bytes or as entries."""
         entries = entries_of_bytes(data) if isinstance(data, bytes) else data
         if size is None:
             size = len(data) if isinstance(data, bytes) else 4 * len(data)
-        self.command("SetBucketDataImmediate", {"bucket": bucket, "offset": offset, "size": size}, entries)
+        self.command(
+            "SetBucketDataImmediate", {"bucket": bucket, "offset": offset, "size": size}, entries
+        )
 
-    def get_bucket_start(self, *, bucket: int, result_memory: int, result_offset: int, data_size: int,
-                         data_memory: int, data_offset: int) -> None:
+    def get_bucket_start(
+        self,
+        *,
+        bucket: int,
+        result_memory: int,
+        result_offset: int,
+        data_size: int,
+        data_memory: int,
+        data_offset: int
+    ) -> None:
         """Writes the size of a bucket and its first bytes into result memories."""
-        self.command("GetBucketStart", {
-            "bucket": bucket, "result_memory": result_memory, "result_offset": result_offset, "data_size": data_size,
-            "data_memory": data_memory, "data_offset": data_offset})
+        self.command(
+            "GetBucketStart",
+            {
+                "bucket": bucket,
+                "result_memory": result_memory,
+                "result_offset": result_offset,
+                "data_size": data_size,
+                "data_memory": data_memory,
+                "data_offset": data_offset,
+            },
+        )
 
-    def get_bucket_data(self, *, bucket: int, offset: int, size: int, memory: int, memory_offset: int) -> None:
+    def get_bucket_data(
+        self, *, bucket: int, offset: int, size: int, memory: int, memory_offset: int
+    ) -> None:
         """Writes bytes of a bucket into a result memory."""
-        self.command("GetBucketData", {"bucket": bucket, "offset": offset, "size": size, "memory": memory,
-                                       "memory_offset": memory_offset})
+        self.command(
+            "GetBucketData",
+            {
+                "bucket": bucket,
+                "offset": offset,
+                "size": size,
+                "memory": memory,
+                "memory_offset": memory_offset,
+            },
+        )
 
     def insert_fence(self, *, release: int) -> None:
         """Raises the release count of the stream."""
@@ -87,21 +131,67 @@ class Calls:
         """Sets all texels of a rectangle to one."""
         self.command("ClearRect", {"image": image, "x": x, "y": y, "w": w, "h": h, "texel": texel})
 
-    def copy_rect(self, *, source: int, x: int, y: int, target: int, x2: int, y2: int, w: int, h: int) -> None:
+    def copy_rect(
+        self, *, source: int, x: int, y: int, target: int, x2: int, y2: int, w: int, h: int
+    ) -> None:
         """Copies a rectangle at (x, y) of an image to (x2, y2) of another or of the same."""
-        self.command("CopyRect", {"source": source, "x": x, "y": y, "target": target, "x2": x2, "y2": y2, "w": w,
-                                  "h": h})
+        self.command(
+            "CopyRect",
+            {
+                "source": source,
+                "x": x,
+                "y": y,
+                "target": target,
+                "x2": x2,
+                "y2": y2,
+                "w": w,
+                "h": h,
+            },
+        )
 
-    def upload_rect(self, *, image: int, x: int, y: int, w: int, h: int, format: int | str, memory: int,
-                    memory_offset: int) -> None:
+    def upload_rect(
+        self,
+        *,
+        image: int,
+        x: int,
+        y: int,
+        w: int,
+        h: int,
+        format: int | str,
+        memory: int,
+        memory_offset: int
+    ) -> None:
         """Sets the texels of a rectangle from bytes of a memory."""
-        self.command("UploadRect", {"image": image, "x": x, "y": y, "w": w, "h": h, "format": format_number(format),
-                                    "memory": memory, "memory_offset": memory_offset})
+        self.command(
+            "UploadRect",
+            {
+                "image": image,
+                "x": x,
+                "y": y,
+                "w": w,
+                "h": h,
+                "format": format_number(format),
+                "memory": memory,
+                "memory_offset": memory_offset,
+            },
+        )
 
-    def upload_bucket(self, *, image: int, x: int, y: int, w: int, h: int, format: int | str, bucket: int) -> None:
+    def upload_bucket(
+        self, *, image: int, x: int, y: int, w: int, h: int, format: int | str, bucket: int
+    ) -> None:
         """Sets the texels of a rectangle from the first bytes of a bucket."""
-        self.command("UploadBucket", {"image": image, "x": x, "y": y, "w": w, "h": h,
-                                      "format": format_number(format), "bucket": bucket})
+        self.command(
+            "UploadBucket",
+            {
+                "image": image,
+                "x": x,
+                "y": y,
+                "w": w,
+                "h": h,
+                "format": format_number(format),
+                "bucket": bucket,
+            },
+        )
 
     def create_buffer(self, *, buffer: int, size: int) -> None:
         """Makes a buffer of zero bytes."""
@@ -111,16 +201,47 @@ class Calls:
         """Takes a buffer away."""
         self.command("DeleteBuffer", {"buffer": buffer})
 
-    def buffer_data(self, *, buffer: int, offset: int, size: int, memory: int, memory_offset: int) -> None:
+    def buffer_data(
+        self, *, buffer: int, offset: int, size: int, memory: int, memory_offset: int
+    ) -> None:
         """Writes bytes of a memory into a buffer."""
-        self.command("BufferData", {"buffer": buffer, "offset": offset, "size": size, "memory": memory,
-                                    "memory_offset": memory_offset})
+        self.command(
+            "BufferData",
+            {
+                "buffer": buffer,
+                "offset": offset,
+                "size": size,
+                "memory": memory,
+                "memory_offset": memory_offset,
+            },
+        )
 
-    def upload_buffer(self, *, image: int, x: int, y: int, w: int, h: int, format: int | str, buffer: int,
-                      offset: int) -> None:
+    def upload_buffer(
+        self,
+        *,
+        image: int,
+        x: int,
+        y: int,
+        w: int,
+        h: int,
+        format: int | str,
+        buffer: int,
+        offset: int
+    ) -> None:
         """Sets the texels of a rectangle from bytes of a buffer."""
-        self.command("UploadBuffer", {"image": image, "x": x, "y": y, "w": w, "h": h,
-                                      "format": format_number(format), "buffer": buffer, "offset": offset})
+        self.command(
+            "UploadBuffer",
+            {
+                "image": image,
+                "x": x,
+                "y": y,
+                "w": w,
+                "h": h,
+                "format": format_number(format),
+                "buffer": buffer,
+                "offset": offset,
+            },
+        )
 
     def wait_sync_token(self, *, namespace: int, id: int, release: int) -> None:
         """Waits until the stream of a name has come to a release."""

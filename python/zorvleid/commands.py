@@ -1,4 +1,4 @@
-"""The one table of commands: what docs/FORMATS.md says of their ids and arguments, and how words are made and read by it.
+"""The one table of commands, which docs/FORMATS.md has too, and how words are made and read.
 
 Nothing is judged here. Words that are no command are read as what they are.
 """
@@ -12,7 +12,13 @@ WORD, LONG = 2**32 - 1, 2**64 - 1  # the greatest number of one entry, and of tw
 WIDE = ("release", "id")  # arguments of two entries, the low one first
 FORMATS = {1: "RGBA8", 2: "RGB565", 3: "RGBA4444", 4: "L8"}
 BYTES_OF_FORMAT = {1: 4, 2: 2, 3: 2, 4: 1}
-ERRORS = {1: "InvalidSize", 2: "OutOfBounds", 3: "UnknownCommand", 4: "InvalidArguments", 6: "Quota"}
+ERRORS = {
+    1: "InvalidSize",
+    2: "OutOfBounds",
+    3: "UnknownCommand",
+    4: "InvalidArguments",
+    6: "Quota",
+}
 
 
 @dataclass(frozen=True)
@@ -48,28 +54,35 @@ def _row(number: int, name: str, keys: str) -> Command:
     return Command(number, name, tuple(keys.replace("+", "").split()), "+" in keys)
 
 
-TABLE = {command.id: command for command in (
-    _row(0, "Noop", "+"),
-    _row(1, "SetToken", "token"),
-    _row(2, "SetBucketSize", "bucket size"),
-    _row(3, "SetBucketData", "bucket offset size memory memory_offset"),
-    _row(4, "SetBucketDataImmediate", "bucket offset size +"),
-    _row(5, "GetBucketStart", "bucket result_memory result_offset data_size data_memory data_offset"),
-    _row(6, "GetBucketData", "bucket offset size memory memory_offset"),
-    _row(256, "InsertFence", "release"),
-    _row(257, "WaitToken", "stream release"),
-    _row(258, "CreateImage", "image width height"),
-    _row(259, "DeleteImage", "image"),
-    _row(260, "ClearRect", "image x y w h texel"),
-    _row(261, "CopyRect", "source x y target x2 y2 w h"),
-    _row(262, "UploadRect", "image x y w h format memory memory_offset"),
-    _row(263, "UploadBucket", "image x y w h format bucket"),
-    _row(264, "CreateBuffer", "buffer size"),
-    _row(265, "DeleteBuffer", "buffer"),
-    _row(266, "BufferData", "buffer offset size memory memory_offset"),
-    _row(267, "UploadBuffer", "image x y w h format buffer offset"),
-    _row(268, "WaitSyncToken", "namespace id release"),
-)}
+TABLE = {
+    command.id: command
+    for command in (
+        _row(0, "Noop", "+"),
+        _row(1, "SetToken", "token"),
+        _row(2, "SetBucketSize", "bucket size"),
+        _row(3, "SetBucketData", "bucket offset size memory memory_offset"),
+        _row(4, "SetBucketDataImmediate", "bucket offset size +"),
+        _row(
+            5,
+            "GetBucketStart",
+            "bucket result_memory result_offset data_size data_memory data_offset",
+        ),
+        _row(6, "GetBucketData", "bucket offset size memory memory_offset"),
+        _row(256, "InsertFence", "release"),
+        _row(257, "WaitToken", "stream release"),
+        _row(258, "CreateImage", "image width height"),
+        _row(259, "DeleteImage", "image"),
+        _row(260, "ClearRect", "image x y w h texel"),
+        _row(261, "CopyRect", "source x y target x2 y2 w h"),
+        _row(262, "UploadRect", "image x y w h format memory memory_offset"),
+        _row(263, "UploadBucket", "image x y w h format bucket"),
+        _row(264, "CreateBuffer", "buffer size"),
+        _row(265, "DeleteBuffer", "buffer"),
+        _row(266, "BufferData", "buffer offset size memory memory_offset"),
+        _row(267, "UploadBuffer", "image x y w h format buffer offset"),
+        _row(268, "WaitSyncToken", "namespace id release"),
+    )
+}
 NAMED = {command.name: command for command in TABLE.values()}
 NOOP, SET_TOKEN, IMMEDIATE = NAMED["Noop"], NAMED["SetToken"], NAMED["SetBucketDataImmediate"]
 

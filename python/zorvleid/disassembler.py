@@ -1,7 +1,8 @@
 """A script as a text of commands, which assembles to a script of the same actions.
 
-A command is named where its words were put one after the other, where the assembler would put it. Other words stand as they
-are: in a `word` line where the next command would go, and else in a `put` line.
+A command is named where its words were put one after the other, where the assembler would put it.
+Other words stand as they are: in a `word` line where the next command would go, and else in a `put`
+line.
 """
 
 from collections import deque
@@ -25,7 +26,9 @@ class Listing:
 
     def lines(self) -> Iterator[str]:
         """All lines but the one that begins the stream."""
-        for is_stored, items in groupby(self.stream.items, lambda item: isinstance(item, (Put, Note))):
+        for is_stored, items in groupby(
+            self.stream.items, lambda item: isinstance(item, (Put, Note))
+        ):
             yield from self.stored(items) if is_stored else map(self.line, items)
 
     def line(self, item: Item) -> str:
@@ -58,10 +61,12 @@ class Listing:
         self.ring.flush(put)
         self.rest = 0
         after = [":".join(map(str, fence)) for fence in fences]
-        return " ".join(["flush", *([] if is_plain else [str(put)]), *(["after", *after] if after else [])])
+        return " ".join(
+            ["flush", *([] if is_plain else [str(put)]), *(["after", *after] if after else [])]
+        )
 
     def stored(self, items: Iterable[Item]) -> Iterator[str]:
-        """The lines of values that were put one after the other. A note within a command goes before it."""
+        """The lines of values that were put in a row. A note within a command goes before it."""
         values, notes = [], deque[tuple[int, str]]()
         for item in items:
             match item:
@@ -82,13 +87,21 @@ class Listing:
         """The line of the first values from one on, and how many it has."""
         here, end = values[at][0], at + 1
         is_next = here == self.ring.place
-        while end < len(values) and values[end][0] == here + end - at and (is_next or values[end][0] != self.ring.place):
+        while (
+            end < len(values)
+            and values[end][0] == here + end - at
+            and (is_next or values[end][0] != self.ring.place)
+        ):
             end += 1
         words = [word for _, word in values[at:end]]
         if is_next:
             line, count, entries = self.unit(words)
         else:
-            line, count, entries = f"put {here} " + " ".join(f"{word:x}" for word in words), len(words), 0
+            line, count, entries = (
+                f"put {here} " + " ".join(f"{word:x}" for word in words),
+                len(words),
+                0,
+            )
         is_busy = self.ring.busy(here, max(count, entries)) is not None
         for place, word in enumerate(words[:count], here):
             self.ring.store(place, word)
@@ -96,10 +109,16 @@ class Listing:
         return f"unchecked {line}" if is_busy else line, count
 
     def unit(self, words: Sequence[int]) -> tuple[str, int, int]:
-        """What the words begin with that go where the next command would: its line, how many words and how many entries."""
+        """What begins where the next command would go: its line, its words and its entries."""
         number, size = parts_of(words[0])
         command, left = TABLE.get(number), self.ring.size - self.ring.place
-        if not self.rest and command and command.fits(size) and 0 < size <= left and size < self.ring.size:
+        if (
+            not self.rest
+            and command
+            and command.fits(size)
+            and 0 < size <= left
+            and size < self.ring.size
+        ):
             if command is NOOP:
                 data = words[1:size]
                 return named(command, {"size": size}, data), 1 + len(data), size
@@ -109,17 +128,28 @@ class Listing:
         wanted = self.rest or (size if 0 < size <= left else len(words))
         count = min(wanted, len(words))
         self.rest = wanted - count
-        return "word " + " ".join(str(word) if word < 10 else f"0x{word:x}" for word in words[:count]), count, count
+        return (
+            "word " + " ".join(str(word) if word < 10 else f"0x{word:x}" for word in words[:count]),
+            count,
+            count,
+        )
 
 
 def named(command: Command, arguments: dict[str, int], data: Sequence[int]) -> str:
-    """A command with its keys. Data that is just as many bytes as its size says is told as bytes."""
+    """A command with its keys. Data of exactly the bytes that its size says is told as bytes."""
     size = arguments.get("size", 0)
     stored = b"".join(word.to_bytes(4, "little") for word in data)
-    if command is IMMEDIATE and 0 < size <= len(stored) and entries_of_bytes(stored[:size]) == list(data):
+    if (
+        command is IMMEDIATE
+        and 0 < size <= len(stored)
+        and entries_of_bytes(stored[:size]) == list(data)
+    ):
         keys, last = [key for key in arguments if key != "size"], [f"bytes={stored[:size].hex()}"]
     else:
-        keys, last = list(arguments), ["data=" + ",".join(f"0x{word:08x}" for word in data)] if data else []
+        keys, last = (
+            list(arguments),
+            ["data=" + ",".join(f"0x{word:08x}" for word in data)] if data else [],
+        )
     return " ".join([command.name, *(f"{key}={shown(key, arguments[key])}" for key in keys), *last])
 
 
@@ -133,13 +163,15 @@ def shown(key: str, argument: int) -> str:
 def lines_of(script: Script) -> Iterator[str]:
     """The lines of the text."""
     notes = [item.line for item in script.notes if isinstance(item, Note)]
-    yield from notes[:script.notes_before_head]
+    yield from notes[: script.notes_before_head]
     yield f"gpu-commands {script.version}"
-    yield from notes[script.notes_before_head:]
+    yield from notes[script.notes_before_head :]
     for stream in script.streams:
         yield next(stream.lines())
         lines = list(Listing(stream).lines())
-        last = len(lines)  # what is passed over before the next stream stands as far left as this one
+        last = len(
+            lines
+        )  # what is passed over before the next stream stands as far left as this one
         while last and isinstance(stream.items[last - len(lines) - 1], Note):
             last -= 1
         yield from (INDENT + line if line and at < last else line for at, line in enumerate(lines))

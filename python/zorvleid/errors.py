@@ -9,7 +9,8 @@ MESSAGES = {
     "line": "no line begins with '{word}'; the nearest word is '{nearest}'",
     "form": "the line has to be `{form}`",
     "number": "{what} has to be a number from {least} to {greatest}, not '{given}'",
-    "hexadecimal": "{what} has to be a number: '{given}' is hexadecimal where it is written 0x{given}",
+    "hexadecimal": "{what} has to be a number: '{given}' is hexadecimal "
+    "where it is written 0x{given}",
     "value": "a value has 1 to 8 hexadecimal digits, unlike '{given}'",
     "priority": "the priority has to be high, normal or low, not '{given}'",
     "fence": "a fence is written {form}, not '{given}'",
@@ -36,12 +37,16 @@ MESSAGES = {
     # Places
     "ring": "a value would stand at place {place}, and the ring has the places 0 to {last}",
     "memory": "word {word} is meant, and `{kind} {number}` has the words 0 to {last}",
-    "large": "the command has {size} entries, and a ring of {ring} hands over at most {most} at once",
-    "round": "the command has {size} entries, {left} are left before the end of the ring, and the ring has {ring}: "
-             "fill the end first, with `Noop size={left}`, `flush` and `finish`",
-    "in use": "the service may still read place {place}: wait by `finish` or `token` first, or allow it by `unchecked`",
+    "large": "the command has {size} entries, "
+    "and a ring of {ring} hands over at most {most} at once",
+    "round": "the command has {size} entries, {left} are left before the end of the ring, "
+    "and the ring has {ring}: "
+    "fill the end first, with `Noop size={left}`, `flush` and `finish`",
+    "in use": "the service may still read place {place}: "
+    "wait by `finish` or `token` first, or allow it by `unchecked`",
     "pending": "place {place} has an entry that no `flush` has handed over",
-    "full": "{count} entries were put since the last flush, and a ring of {ring} hands over at most {most} at once",
+    "full": "{count} entries were put since the last flush, "
+    "and a ring of {ring} hands over at most {most} at once",
     # Limits
     "fences": "a flush has at most {most} fences",
     "flushes": "a script has at most {most} flushes",
@@ -51,7 +56,7 @@ MESSAGES = {
 
 
 class ScriptError(ValueError):
-    """What is wrong, in one sentence. `kind` is its name above, and `at` the argument that it is about."""
+    """What is wrong, in one sentence: its name above, and the argument that it is about."""
 
     def __init__(self, kind: str, at: str = "", /, **said: object) -> None:
         super().__init__(MESSAGES[kind].format(**said))
@@ -63,4 +68,10 @@ class Refused(ValueError):
 
     def __init__(self, file: str, line: int, column: int, error: ScriptError) -> None:
         super().__init__(f"{file}:{line}:{column}: {error}")
-        self.file, self.line, self.column, self.kind, self.why = file, line, column, error.kind, str(error)
+        self.file, self.line, self.column, self.kind, self.why = (
+            file,
+            line,
+            column,
+            error.kind,
+            str(error),
+        )

@@ -1,8 +1,9 @@
-"""The reading of an output, line by line: the one place that knows how the parts of an output are written.
+"""The reading of an output, line by line.
 
-`read_output` takes the bytes that `run` or `verify` wrote, of either version, and answers an `Output`, or raises
-`OutputRefused` with the number of the first line that cannot stand where it stands. What the lines say of each other, such as
-which order number a step belongs to, is not looked at.
+`read_output` takes the bytes that `run` or `verify` wrote, of either version, and answers an
+`Output`, or raises `OutputRefused` with the number of the first line that cannot stand where it
+stands. What the lines say of each other, such as which order number a step belongs to, is not
+looked at.
 """
 
 import re
@@ -40,8 +41,11 @@ NAME = re.compile(f"name {NUMBER} {NUMBER} {LONG_NUMBER}")
 VERDICT = re.compile(f"yes events {NUMBER}")
 IMAGE = re.compile(f"image {NUMBER} {NUMBER} {NUMBER}")
 ROW = re.compile(r"[0-9a-f]{8}(?: [0-9a-f]{8})*")
-STREAM = re.compile(f"stream {NUMBER} (done|closed|lost memory|lost [12346]) entries {NUMBER} release {LONG_NUMBER} "
-                    f"token {NUMBER} words {NUMBER} errors {NUMBER} {NUMBER} {NUMBER}")
+STREAM = re.compile(
+    f"stream {NUMBER} (done|closed|lost memory|lost [12346]) entries {NUMBER} "
+    f"release {LONG_NUMBER} "
+    f"token {NUMBER} words {NUMBER} errors {NUMBER} {NUMBER} {NUMBER}"
+)
 MARK = re.compile(f"mark {NUMBER} {NUMBER} {NUMBER} {LONG_NUMBER} (release|guard|closed) {NUMBER}")
 DUMP = re.compile(f"dump {NUMBER} {NUMBER} {NUMBER} {VALUE}")
 VIEW = re.compile(f"view {NUMBER} {NUMBER} {VALUE}")
@@ -87,7 +91,7 @@ class Image(NamedTuple):
         if not (0 <= x < self.width and 0 <= y < self.height):
             raise IndexError(f"image {self.number} has {self.width} by {self.height} texels")
         at = 4 * (y * self.width + x)
-        return int.from_bytes(self.texels[at:at + 4], "big")
+        return int.from_bytes(self.texels[at : at + 4], "big")
 
 
 class StreamEnd(NamedTuple):
@@ -147,11 +151,14 @@ class Output:
     dumps: list[Dump] = field(default_factory=list)
     views: list[View] = field(default_factory=list)
     event_count: int = 0
-    picture: tuple[int, int] = (0, 0)  # where the lines of the images begin and end, counted in lines from 0
+    picture: tuple[int, int] = (
+        0,
+        0,
+    )  # where the lines of the images begin and end, counted in lines from 0
 
 
 class Lines:
-    """A text as lines with a place in them. A last line without its line feed is like no line that is looked for."""
+    """A text as lines with a place in them. A last line without a line feed fits no shape."""
 
     def __init__(self, data: bytes, first: int = 1) -> None:
         self.lines = data.decode("latin-1").split("\n")
@@ -174,14 +181,16 @@ class Lines:
         return self.here().startswith(word)
 
     def take(self, shape: re.Pattern[str]) -> re.Match[str] | None:
-        """What the shape finds in this line, which is then behind us; or None, and nothing happens."""
+        """What the shape finds in this line, which is then passed; or None."""
         found = shape.fullmatch(self.here())
         self.at += found is not None
         return found
 
     def refuse(self, why: str = "no line of an output that can stand here") -> NoReturn:
         """Refuses this line."""
-        raise OutputRefused(self.number, why if self.at < len(self.lines) else "the output ends too early")
+        raise OutputRefused(
+            self.number, why if self.at < len(self.lines) else "the output ends too early"
+        )
 
 
 def words_of(text: str) -> list[tuple[int, int]]:
@@ -264,8 +273,18 @@ def read_streams(lines: Lines, output: Output) -> None:
             lines.refuse("no line of the next stream")
         number, end, *counts = found.groups()
         entries, release, token, words, *errors = map(int, counts)
-        output.streams.append(StreamEnd(int(number), end, entries, release, token, words,
-                                        (errors[0], errors[1], errors[2]), line))
+        output.streams.append(
+            StreamEnd(
+                int(number),
+                end,
+                entries,
+                release,
+                token,
+                words,
+                (errors[0], errors[1], errors[2]),
+                line,
+            )
+        )
     if output.version == 2 and len(output.names) != len(output.streams):
         lines.refuse("there are not as many streams as names")
 
@@ -274,7 +293,11 @@ def read_endings(lines: Lines, output: Output) -> None:
     """The marks, the dumps and the lines of live views."""
     while (found := lines.take(MARK)) is not None:
         stream, number, target, release = map(int, found.groups()[:4])
-        output.marks.append(Mark(stream, number, target, release, found[5], int(found[6]), lines.number - 1, found[0]))
+        output.marks.append(
+            Mark(
+                stream, number, target, release, found[5], int(found[6]), lines.number - 1, found[0]
+            )
+        )
     while (found := lines.take(DUMP)) is not None:
         if not 1 <= int(found[1]) <= len(output.streams):
             lines.at -= 1

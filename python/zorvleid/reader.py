@@ -1,4 +1,4 @@
-"""The reading of a script, line by line: `read_script` takes what the program takes, and says of the rest why not."""
+"""The reading of a script: `read_script` takes what the program takes, and says why not."""
 
 import re
 from collections.abc import Sequence
@@ -27,8 +27,14 @@ class Reader:
     HEAD = "gpu-script"
     NOTES_AT_MOST = BYTES_AT_MOST // 2  # bytes of a text whose lines that are passed over are kept
     FORMS = {
-        "memory": "memory M WORDS", "results": "results M WORDS", "put": "put PLACE VALUE ..",
-        "fill": "fill M INDEX VALUE ..", "finish": "finish", "token": "token T", "close": "close", "dump": "dump M INDEX",
+        "memory": "memory M WORDS",
+        "results": "results M WORDS",
+        "put": "put PLACE VALUE ..",
+        "fill": "fill M INDEX VALUE ..",
+        "finish": "finish",
+        "token": "token T",
+        "close": "close",
+        "dump": "dump M INDEX",
     }
     STREAMS = {1: "stream S PRIORITY RING", 2: "stream NS ID PRIORITY RING"}
     FLUSHES = {1: "flush PUT T R ..", 2: "flush PUT NS ID R .."}
@@ -72,8 +78,12 @@ class Reader:
         if [word.text for word in words] not in ([self.HEAD, "1"], [self.HEAD, "2"]):
             raise ScriptError("head", head=self.HEAD)
         self.has_head = True
-        self.script = Script(int(words[1].text), self.awaits, notes=self.script.notes,
-                             notes_before_head=len(self.script.notes))
+        self.script = Script(
+            int(words[1].text),
+            self.awaits,
+            notes=self.script.notes,
+            notes_before_head=len(self.script.notes),
+        )
 
     def take(self, words: Sequence[Word]) -> None:
         """Takes a line of a script."""
@@ -106,7 +116,9 @@ class Reader:
         self.columns[what] = word.column
         found = self.parsed(word.text, greatest)
         if found is None or found > greatest:
-            raise ScriptError("number", what, what=what, least=least, greatest=greatest, given=word.text)
+            raise ScriptError(
+                "number", what, what=what, least=least, greatest=greatest, given=word.text
+            )
         return found
 
     def parsed(self, text: str, greatest: int) -> int | None:
@@ -148,7 +160,9 @@ class Reader:
         if len(words) <= places:
             raise ScriptError("form", form=self.FORMS[first])
         if first == "put":
-            self.take_put(self.number_of("PLACE", words[0]), [self.value_of(word) for word in words[1:]])
+            self.take_put(
+                self.number_of("PLACE", words[0]), [self.value_of(word) for word in words[1:]]
+            )
         else:
             memory, index = self.number_of("M", words[0]), self.number_of("INDEX", words[1])
             self.stream().fill(memory, index, [self.value_of(word) for word in words[2:]])
@@ -185,7 +199,9 @@ class Reader:
         if not words or len(words) % count != 1:
             raise ScriptError("form", form=self.FLUSHES[self.script.version])
         put = self.number_of("PUT", words[0])
-        self.stream().flush(put, [self.fence(words[at:at + count]) for at in range(1, len(words), count)])
+        self.stream().flush(
+            put, [self.fence(words[at : at + count]) for at in range(1, len(words), count)]
+        )
 
     def fence(self, words: Sequence[Word]) -> Fence:
         """The words of a fence as numbers."""
@@ -207,8 +223,10 @@ def nearest(word: str, words: Sequence[str]) -> str:
 
 
 def read_script(data: bytes | str, file: str = "-") -> Script:
-    """A script of its text. What the program refuses raises `Refused`, with the line, the column and why.
+    """A script of its text. What the program refuses raises `Refused`.
 
-    The lines that are passed over are kept, but for a very long script, which might get too long with them.
+    The lines that are passed over are kept, but for those of a very long script.
     """
-    return Reader(file).read(data if isinstance(data, bytes) else data.encode("utf-8", "surrogateescape"))
+    return Reader(file).read(
+        data if isinstance(data, bytes) else data.encode("utf-8", "surrogateescape")
+    )

@@ -1,6 +1,7 @@
-"""What a client knows of its ring: where its next command goes, and which entries the service may still read.
+"""What a client knows of its ring: its next place, and what the service may still read.
 
-Positions count all entries since the beginning, and never fall; a position modulo the size of the ring is its place.
+Positions count all entries since the beginning, and never fall; a position modulo the size of the
+ring is its place.
 """
 
 from bisect import bisect_left
@@ -32,7 +33,7 @@ class Ring:
         return self.next - self.handed
 
     def busy(self, place: int, count: int) -> tuple[int, bool] | None:
-        """The first of these places that has an entry which may be read, and whether it was handed over; or None."""
+        """The first of these places that may be read, and whether it was handed over; or None."""
         used = self.next - self.freed
         ahead = (place - self.freed) % self.size
         if ahead >= used:  # free up to the place of the first entry that may be read

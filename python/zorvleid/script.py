@@ -1,7 +1,8 @@
 """Scripts as values: a `Script` of `Stream`s, each with what its client does, line by line.
 
-Every call looks at what the reader of the program looks at, so the text of a script is one that `check` takes. A command is
-put where the one before it ended, as a careful client would put it: `Stream` says what that means.
+Every call looks at what the reader of the program looks at, so the text of a script is one that
+`check` takes. A command is put where the one before it ended, as a careful client would put it:
+`Stream` says what that means.
 """
 
 from collections.abc import Iterable, Iterator, Mapping, Sequence
@@ -56,7 +57,7 @@ class Fill:
 
 @dataclass(frozen=True)
 class Flush:
-    """A flush; a fence is (stream, release) in version 1 and (namespace, id, release) in version 2."""
+    """A flush; a fence is (stream, release), and (namespace, id, release) in version 2."""
 
     put: int
     fences: tuple[tuple[int, ...], ...] = ()
@@ -115,13 +116,16 @@ class _Counts:
 class Stream(Calls):
     """What one client does. `script.stream(..)` makes one.
 
-    A command goes behind the one before it, and a Noop fills the end of the ring where the command does not fit. An
-    entry that no `flush` has handed over, or that no `finish` or `token` has freed, is not overwritten: that is an
-    error, or a `finish` goes before where the script `awaits`. Within `with stream.unchecked():` it is overwritten, as
-    a client does that races with the service.
+    A command goes behind the one before it, and a Noop fills the end of the ring where the command
+    does not fit. An entry that no `flush` has handed over, or that no `finish` or `token` has
+    freed, is not overwritten: that is an error, or a `finish` goes before where the script
+    `awaits`. Within `with stream.unchecked():` it is overwritten, as a client does that races with
+    the service.
     """
 
-    def __init__(self, version: int, name: Name, priority: str, size: int, counts: _Counts, awaits: bool) -> None:
+    def __init__(
+        self, version: int, name: Name, priority: str, size: int, counts: _Counts, awaits: bool
+    ) -> None:
         self.version, self.name, self.priority, self.ring = version, name, priority, Ring(size)
         self.items: list[Item] = []
         self.memories: dict[str, dict[int, int]] = {"memory": {}, "results": {}}  # words by number
@@ -153,9 +157,14 @@ class Stream(Calls):
 
     # --- Commands and values ---
 
-    def command(self, command: str | Command, arguments: Mapping[str, int], data: Sequence[int] = (),
-                size: int | None = None) -> None:
-        """Puts a command. The size is that of a Noop, of which the entries after the header and the data stay as they are."""
+    def command(
+        self,
+        command: str | Command,
+        arguments: Mapping[str, int],
+        data: Sequence[int] = (),
+        size: int | None = None,
+    ) -> None:
+        """Puts a command. A size is given for a Noop alone, and only header and data are put."""
         row = NAMED[command] if isinstance(command, str) else command
         for key, argument in arguments.items():
             within(key, argument, LONG if key in WIDE else WORD)
@@ -169,7 +178,7 @@ class Stream(Calls):
         self._enter(words, words[0] if row is NOOP else len(words))
 
     def _enter(self, words: Sequence[int], size: int) -> None:
-        """Puts the words of a command of this size, behind a Noop where it does not fit before the end of the ring."""
+        """Puts a command of this size, after a Noop where it does not fit before the end."""
         ring = self.ring
         if size >= ring.size:
             raise ScriptError("large", size=size, ring=ring.size, most=ring.size - 1)
@@ -196,12 +205,14 @@ class Stream(Calls):
     def put(self, place: int, values: Iterable[int]) -> None:
         """Stores values at places of the ring.
 
-        Where the next command would go these count as entries of commands do, unless they are unchecked.
+        Where the next command would go they count as a command does, unless they are unchecked.
         """
         stored = tuple(within("value", value, WORD) for value in values)
         within("PLACE", place, WORD)
         if stored and place + len(stored) > self.ring.size:
-            raise ScriptError("ring", "PLACE", place=max(place, self.ring.size), last=self.ring.size - 1)
+            raise ScriptError(
+                "ring", "PLACE", place=max(place, self.ring.size), last=self.ring.size - 1
+            )
         self._claim(place, len(stored))
         is_next = self._is_checked and place == self.ring.place
         self._store(place, stored)
@@ -216,7 +227,7 @@ class Stream(Calls):
 
     @contextmanager
     def unchecked(self) -> Iterator[None]:
-        """Allows to overwrite what the service may still read, and leaves the place of the next command after a `put`."""
+        """Allows to overwrite what the service may still read; a `put` leaves the next place."""
         before, self._is_checked = self._is_checked, False
         try:
             yield
@@ -226,7 +237,7 @@ class Stream(Calls):
     # --- The other actions ---
 
     def flush(self, put: int | None = None, after: Iterable[Fence] = ()) -> None:
-        """Hands over what was put, or the ring up to a place; `after` are the fences, each a stream and a release."""
+        """Hands over what was put, or the ring up to a place, behind fences."""
         ring = self.ring
         if put is None and ring.pending >= ring.size:
             raise ScriptError("full", count=ring.pending, ring=ring.size, most=ring.size - 1)
@@ -243,7 +254,13 @@ class Stream(Calls):
 
     def _fence(self, stream: "Stream | int | Name", release: int) -> tuple[int, ...]:
         within("RELEASE", release, LONG)
-        name = stream.name if isinstance(stream, Stream) else (0, stream) if isinstance(stream, int) else stream
+        match stream:
+            case Stream():
+                name = stream.name
+            case int():
+                name = (0, stream)
+            case _:
+                name = stream
         if self.version == 1:
             return within("STREAM", name[1], WORD), release
         return within("NS", name[0], WORD), within("ID", name[1], LONG), release
@@ -275,7 +292,7 @@ class Stream(Calls):
         self.ring.finish()
 
     def note(self, text: str) -> None:
-        """Adds lines that are passed over; those that are not blank get a `#` where they have none."""
+        """Adds lines that are passed over; those that are not blank get a `#`."""
         self.items += notes_of(text)
 
     # --- What all of them share ---
@@ -313,15 +330,23 @@ class Stream(Calls):
             raise ScriptError("missing memory", "M", kind=kind, number=number)
         words = self.memories[kind][number]
         if index + count > words:
-            raise ScriptError("memory", "INDEX", word=max(index, words), kind=kind, number=number, last=words - 1)
+            raise ScriptError(
+                "memory", "INDEX", word=max(index, words), kind=kind, number=number, last=words - 1
+            )
 
     def lines(self) -> Iterator[str]:
         """The lines of the stream in a script."""
-        yield "stream {} {} {}".format(self.name[1] if self.version == 1 else "{} {}".format(*self.name), self.priority,
-                                       self.ring.size)
+        yield "stream {} {} {}".format(
+            self.name[1] if self.version == 1 else "{} {}".format(*self.name),
+            self.priority,
+            self.ring.size,
+        )
         for is_put, items in groupby(self.items, lambda item: isinstance(item, Put)):
             if is_put:
-                yield from _rows("put", (unit for item in items if isinstance(item, Put) for unit in _units(item)))
+                yield from _rows(
+                    "put",
+                    (unit for item in items if isinstance(item, Put) for unit in _units(item)),
+                )
             else:
                 for item in items:
                     yield from _lines_of(item)
@@ -329,8 +354,12 @@ class Stream(Calls):
 
 def notes_of(text: str) -> list[Item]:
     """A text as lines that are passed over."""
-    return [Note(line if not line.strip(" \t\r") or line.lstrip(" \t\r").startswith("#") else f"# {line}")
-            for line in text.split("\n")]
+    return [
+        Note(
+            line if not line.strip(" \t\r") or line.lstrip(" \t\r").startswith("#") else f"# {line}"
+        )
+        for line in text.split("\n")
+    ]
 
 
 def _units(put: Put) -> Iterator[tuple[int, list[str]]]:
@@ -364,9 +393,13 @@ def _lines_of(item: Item) -> Iterator[str]:
         case Memory(kind, number, words):
             yield f"{kind} {number} {words}"
         case Fill(memory, index, values):
-            yield from _rows(f"fill {memory}", ((at, [f"{value:x}"]) for at, value in enumerate(values, index)))
+            yield from _rows(
+                f"fill {memory}", ((at, [f"{value:x}"]) for at, value in enumerate(values, index))
+            )
         case Flush(put, fences):
-            yield " ".join(map(str, ("flush", put, *(number for fence in fences for number in fence))))
+            yield " ".join(
+                map(str, ("flush", put, *(number for fence in fences for number in fence)))
+            )
         case Finish():
             yield "finish"
         case Token(token):
@@ -383,13 +416,15 @@ def _lines_of(item: Item) -> Iterator[str]:
 class Script:
     """A script of version 1, whose streams have numbers, or of version 2, whose streams have names.
 
-    Where it `awaits`, a `finish` goes before a command that would overwrite what the service may still read.
+    Where it `awaits`, a `finish` goes before what would overwrite entries that may still be read.
     """
 
     version: int = 1
     awaits: bool = False
     streams: list[Stream] = field(default_factory=list)
-    notes: list[Item] = field(default_factory=list)  # the lines that are passed over before the first stream,
+    notes: list[Item] = field(
+        default_factory=list
+    )  # the lines that are passed over before the first stream,
     notes_before_head: int = 0  # and how many of them stand before the head line
     _counts: _Counts = field(default_factory=_Counts)
 
@@ -424,9 +459,9 @@ class Script:
     def lines(self) -> Iterator[str]:
         """The lines of the script."""
         notes = [item.line for item in self.notes if isinstance(item, Note)]
-        yield from notes[:self.notes_before_head]
+        yield from notes[: self.notes_before_head]
         yield f"gpu-script {self.version}"
-        yield from notes[self.notes_before_head:]
+        yield from notes[self.notes_before_head :]
         for stream in self.streams:
             yield from stream.lines()
 

@@ -38,20 +38,26 @@ class Verdict:
 def program_here() -> Path:
     """The program: $ZORVLEID, `zorvleid` of this repository, or `zorvleid` on the path."""
     beside = Path(__file__).resolve().parents[2] / "zorvleid"
-    found = os.environ.get("ZORVLEID") or (str(beside) if beside.is_file() else shutil.which("zorvleid"))
+    found = os.environ.get("ZORVLEID") or (
+        str(beside) if beside.is_file() else shutil.which("zorvleid")
+    )
     if not found:
         raise ProgramFault("there is no program: set ZORVLEID to it, or put zorvleid on the path")
     return Path(found)
 
 
-def verify(script: Script | str | bytes, journal: str | bytes, program: Path | str | None = None) -> Verdict:
+def verify(
+    script: Script | str | bytes, journal: str | bytes, program: Path | str | None = None
+) -> Verdict:
     """Has the program judge a journal, or a whole output, by a script."""
     text = script.text() if isinstance(script, Script) else script
     before = text.encode("utf-8", "surrogateescape") if isinstance(text, str) else text
     after = journal.encode("utf-8", "surrogateescape") if isinstance(journal, str) else journal
     whole = before + (b"" if before.endswith(b"\n") or not before else b"\n") + b"journal\n" + after
     try:
-        ran = subprocess.run([program or program_here(), "verify"], input=whole, capture_output=True, check=False)
+        ran = subprocess.run(
+            [program or program_here(), "verify"], input=whole, capture_output=True, check=False
+        )
     except OSError as error:
         raise ProgramFault(f"the program does not start: {error.strerror}") from None
     lines = ran.stderr.decode("utf-8", "replace").splitlines() or [""]
@@ -62,5 +68,9 @@ def verify(script: Script | str | bytes, journal: str | bytes, program: Path | s
     if ran.returncode not in (REFUSED, NO, NOT_COMPLETE, NO_JOURNAL):
         raise ProgramFault(f"the program ends with status {ran.returncode}: {said}")
     found = SAID.fullmatch(said)
-    event, rule, line = [int(number) if number else None for number in found.groups()] if found else [None, None, None]
+    event, rule, line = (
+        [int(number) if number else None for number in found.groups()]
+        if found
+        else [None, None, None]
+    )
     return Verdict(ran.returncode, said, event, rule, line)

@@ -38,7 +38,7 @@ PLANTED = (
     ("releases", "tools/release", '"view",', ""),
     ("assembling", "python/zorvleid/commands.py", '"image width height"', '"image height width"'),
     ("assembling", "python/zorvleid/errors.py", "stands twice", "stands again"),
-    ("packaging", "python/zorvleid/calls.py", '"x2": x2, "y2": y2', '"x2": y2, "y2": x2'),
+    ("packaging", "python/zorvleid/calls.py", '"x2": x2,', '"x2": y2,'),
     ("recording", "include/zorvleid_record.h", "number /= 10", "number /= 100"),
     ("building", "tools/building/plan.py", "key=lambda it: (-behind[it], it)", "key=lambda it: it"),
     ("previews", "tools/preview", "return int(ended[1])", "return 0"),

@@ -1,7 +1,7 @@
-"""The recorders of include/zorvleid_record.h: it compiles without a warning, and what is recorded is taken.
+"""The recorders of include/zorvleid_record.h: they compile, and what they write is taken.
 
-Each program is compiled as C99 and as C++, with an address sanitizer where the compiler has one. Without a compiler all of it is
-skipped.
+Each program is compiled as C99 and as C++, with an address sanitizer where the compiler has one.
+Without a compiler all of it is skipped.
 """
 
 import subprocess
@@ -12,14 +12,19 @@ from typing import Any
 
 from checks import refusing
 
-CLIENT, SERVICE, CALLS = "examples/record/client.c", "examples/record/service.c", "tests/record_calls.c"
+CLIENT, SERVICE, CALLS = (
+    "examples/record/client.c",
+    "examples/record/service.c",
+    "tests/record_calls.c",
+)
 WARNINGS = ("-Wall", "-Wextra", "-Wpedantic", "-Werror", "-O1")
 LANGUAGES = {"C99": ("-std=c99",), "C++": ("-x", "c++")}
 SANITIZER = "-fsanitize=address"
 SECONDS = 60
 INCLUDED = ("errno", "stddef", "stdint", "stdio", "string")
 HEADERS = {  # what a compiler brings along, for one that has come without
-    "stddef.h": "typedef __SIZE_TYPE__ size_t;\ntypedef __PTRDIFF_TYPE__ ptrdiff_t;\n#undef NULL\n#define NULL 0\n",
+    "stddef.h": "typedef __SIZE_TYPE__ size_t;\ntypedef __PTRDIFF_TYPE__ ptrdiff_t;\n"
+    "#undef NULL\n#define NULL 0\n",
     "stdarg.h": "typedef __builtin_va_list __gnuc_va_list;\ntypedef __builtin_va_list va_list;\n",
 }
 COPY = b"image 2 8 4\n" + (b" ".join([b"d9534fff"] * 8) + b"\n") * 4
@@ -45,12 +50,19 @@ def check(top: Path, program: Path, tally: Any) -> None:
     with tempfile.TemporaryDirectory() as folder:
         compiler = ready_compiler(Path(folder))
         if compiler is None:
-            tally.skip("the recorders", "no C compiler is there that has the headers of C (apt install gcc libc6-dev)")
+            tally.skip(
+                "the recorders",
+                "no C compiler is there that has the headers of C (apt install gcc libc6-dev)",
+            )
             return
         for name, flags in LANGUAGES.items():
             made = Path(folder) / "made"
             sanitizer = sanitizer_of(compiler, flags, Path(folder), tally, name)
-            for source, run in ((CLIENT, check_client), (SERVICE, check_service), (CALLS, check_recorded)):
+            for source, run in (
+                (CLIENT, check_client),
+                (SERVICE, check_service),
+                (CALLS, check_recorded),
+            ):
                 fault = compiled(compiler, (*flags, *WARNINGS, *sanitizer), top / source, made)
                 tally.tell(f"{source} as {name}", fault)
                 if fault is None:
@@ -59,9 +71,11 @@ def check(top: Path, program: Path, tally: Any) -> None:
 
 
 def ready_compiler(folder: Path) -> list[Any] | None:
-    """The first compiler that makes a program which includes what the recorders do; that of the toolchain gets HEADERS."""
+    """The first compiler that finds the headers of C; that of the toolchain gets HEADERS."""
     source, made = folder / "probe.c", folder / "probe"
-    source.write_text("".join(f"#include <{name}.h>\n" for name in INCLUDED) + "int main(void) { return 0; }\n")
+    source.write_text(
+        "".join(f"#include <{name}.h>\n" for name in INCLUDED) + "int main(void) { return 0; }\n"
+    )
     for name, text in HEADERS.items():
         (folder / name).write_text(text)
     for words in refusing.compilers():
@@ -73,26 +87,43 @@ def ready_compiler(folder: Path) -> list[Any] | None:
 
 def compiled(compiler: Sequence[Any], flags: Sequence[str], source: Path, made: Path) -> str | None:
     """What a compiler says against a source, or None."""
-    ran = subprocess.run([*compiler, *flags, "-o", made, source], capture_output=True, text=True, check=False)
-    return None if ran.returncode == 0 and not ran.stderr else f"the compiler says: {ran.stderr.strip()[:500]}"
+    ran = subprocess.run(
+        [*compiler, *flags, "-o", made, source], capture_output=True, text=True, check=False
+    )
+    return (
+        None
+        if ran.returncode == 0 and not ran.stderr
+        else f"the compiler says: {ran.stderr.strip()[:500]}"
+    )
 
 
-def sanitizer_of(compiler: Sequence[Any], flags: Sequence[str], folder: Path, tally: Any, name: str) -> tuple[str, ...]:
+def sanitizer_of(
+    compiler: Sequence[Any], flags: Sequence[str], folder: Path, tally: Any, name: str
+) -> tuple[str, ...]:
     """The flag of the address sanitizer, where a program that has it runs."""
     source, made = folder / "empty.c", folder / "empty"
     source.write_text("int main(void) { return 0; }\n")
-    if compiled(compiler, (*flags, SANITIZER), source, made) is None and run([made]).returncode == 0:
+    if (
+        compiled(compiler, (*flags, SANITIZER), source, made) is None
+        and run([made]).returncode == 0
+    ):
         return (SANITIZER,)
     tally.skip(f"the recorders as {name}, under an address sanitizer", "the compiler has none")
     return ()
 
 
 def run(words: Sequence[Any], given: bytes = b"") -> "subprocess.CompletedProcess[bytes]":
-    return subprocess.run(list(map(str, words)), input=given, capture_output=True, timeout=SECONDS, check=False)
+    return subprocess.run(
+        list(map(str, words)), input=given, capture_output=True, timeout=SECONDS, check=False
+    )
 
 
 def told(ran: "subprocess.CompletedProcess[bytes]", is_so: bool) -> str | None:
-    return None if is_so else f"it ends with {ran.returncode}: {ran.stdout[-300:]!r}, {ran.stderr[:500]!r}"
+    return (
+        None
+        if is_so
+        else f"it ends with {ran.returncode}: {ran.stdout[-300:]!r}, {ran.stderr[:500]!r}"
+    )
 
 
 def check_client(top: Path, program: Path, made: Path) -> Iterator[tuple[str, str | None]]:
@@ -108,7 +139,9 @@ def check_service(top: Path, program: Path, made: Path) -> Iterator[tuple[str, s
     ran = run([program, "verify"], right.stdout)
     yield "its journal", told(ran, ran.returncode == 0 and ran.stdout.startswith(b"yes events 9\n"))
     ran = run([program, "verify"], wrong.stdout)
-    yield "its broken journal", told(ran, (ran.returncode, ran.stderr) == (9, b"no: event 5 rule 5\n"))
+    yield "its broken journal", told(
+        ran, (ran.returncode, ran.stderr) == (9, b"no: event 5 rule 5\n")
+    )
     ran = run([top / "zorvleid", "explain", "--program", program], wrong.stdout)
     yield "its broken journal, explained", told(ran, ran.stdout.decode().startswith(BROKEN))
     ran = run([made, "--brake"])
@@ -119,7 +152,9 @@ def check_recorded(top: Path, program: Path, made: Path) -> Iterator[tuple[str, 
     script, journal = run([made, "script"]), run([made, "journal"])
     ran = run([program, "check"], script.stdout)
     yield "each call of a script", told(ran, script.returncode == 0 and ran.stdout == CHECKED)
-    yield "each call of a journal", told(journal, journal.returncode == 0 and journal.stdout == JOURNAL)
+    yield "each call of a journal", told(
+        journal, journal.returncode == 0 and journal.stdout == JOURNAL
+    )
     for what in ("faults", "sticks"):
         ran = run([made, what])
         yield what, told(ran, (ran.returncode, ran.stdout, ran.stderr) == (0, b"0 wrong\n", b""))
