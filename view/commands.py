@@ -1,8 +1,9 @@
-"""Commands by their words: what the table of commands in docs/FORMATS.md says, for people to read.
+"""Commands by their words, for people to read: the names and arguments of the table.
 
 Nothing is judged here. Words that are no command are told as what they are.
 """
 
+from collections.abc import Iterable
 from functools import lru_cache
 from typing import NamedTuple
 
@@ -10,7 +11,8 @@ from .output import words_of
 from .plain import counted
 from .table import BYTES_OF_FORMAT, ERRORS, FORMATS, NOOP, TABLE, WIDE
 
-__all__ = ["BYTES_OF_FORMAT", "ERRORS", "FORMATS", "NOOP", "TABLE", "WIDE", "Command", "decode", "entries_wanted", "sentence", "told"]
+__all__ = ["BYTES_OF_FORMAT", "ERRORS", "FORMATS", "NOOP", "TABLE", "WIDE", "Command", "decode", "entries_wanted", "place_of",
+           "sentence", "told"]
 
 
 class Command(NamedTuple):
@@ -19,24 +21,25 @@ class Command(NamedTuple):
     id: int
     name: str
     size: int
-    values: dict  # its arguments by their names
+    values: dict[str, int]  # its arguments by their names
     data: int  # how many entries of data stand behind the arguments
     transfer: int  # how many words of a memory stand behind the entries
 
 
-def entries_wanted(number, size):
+def entries_wanted(number: int, size: int) -> int:
     """How many entries of a command are fetched: a Noop is its header alone."""
     return 1 if number == NOOP else size
 
 
-def decode(words):
+def decode(words: Iterable[tuple[int, int]]) -> Command:
     """The command of words, given as places and values. It has the arguments that are there."""
     values = [value for _, value in words]
     header = values[0] if values else 0
     size, number = header % 2**21, header // 2**21
     name, _, fields = TABLE.get(number, ("no command", 1, "+"))
     entries = values[1:entries_wanted(number, size)] if number in TABLE else []
-    found, at = {}, 0
+    found: dict[str, int] = {}
+    at = 0
     for field in fields.replace("+", "").split():
         wide = field in WIDE
         if at + wide >= len(entries):
@@ -46,7 +49,17 @@ def decode(words):
     return Command(number, name, size, found, len(entries) - at, max(0, len(values) - 1 - len(entries)))
 
 
-def shown(field, value):
+def place_of(command: Command, field: str) -> int:
+    """Where an argument stands among the entries of its command; the header is at 0."""
+    at = 1
+    for name in TABLE[command.id][2].split():
+        if name == field:
+            break
+        at += 1 + (name in WIDE)
+    return at
+
+
+def shown(field: str, value: int) -> str:
     if field == "texel":
         return f"texel {value:08x}"
     if field == "format":
@@ -54,7 +67,7 @@ def shown(field, value):
     return f"{field.replace('_', ' ')} {value}"
 
 
-def sentence(command):
+def sentence(command: Command) -> str:
     """A command as one line of plain words."""
     parts = [shown(field, value) for field, value in command.values.items()]
     if command.name == "no command":
@@ -69,7 +82,7 @@ def sentence(command):
 
 
 @lru_cache(maxsize=8192)
-def told(words):
+def told(words: str) -> tuple[str, str]:
     """The name of a command, and its sentence, by its words as they are printed."""
     command = decode(words_of(words))
     return command.name, sentence(command)

@@ -1,10 +1,9 @@
 """What a rule would have wanted, where that is plain, and what is left to do of a journal that is not complete."""
 
-from . import commands
+from . import commands, faults
 from .output import words_of
 from .plain import counted, joined
 
-WORDS_AT_MOST = 1_048_576
 VALUES_SHOWN = 8
 
 
@@ -40,14 +39,14 @@ def first_number(event, standing):
     if stand is None or stand.gone is not None:
         return
     if stand.open:
-        yield f"finish {event.stream} {stand.open[0][0]}, as that is the first unprocessed number of stream {event.stream}"
+        yield f"finish {event.stream} {stand.open[0].number}, as that is the first unprocessed number of stream {event.stream}"
     else:
         yield f"an order first: stream {event.stream} has no unprocessed number"
 
 
 def ended_waits(event, standing):
-    number = standing.stream(event.stream).open[0][0]
-    for wait in standing.waits_of(event.stream, number):
+    number = standing.stream(event.stream).open[0].number
+    for wait in standing.waits.pending(event.stream, number):
         has = standing.stream(wait.target).release
         yield f"the end of a wait first: number {number} waits for stream {wait.target} to come to release {wait.release}; " \
               f"it has come to {has}"
@@ -56,23 +55,13 @@ def ended_waits(event, standing):
 # --- Words ---
 
 
+ERROR_OF_CHECK = {1: "InvalidSize", 2: "OutOfBounds", 3: "UnknownCommand", 4: "InvalidArguments"}
+
+
 def header_fault(header, room):
     """What is wrong with a header, as an error, or None."""
-    size, number = header % 2**21, header // 2**21
-    if size == 0:
-        return "InvalidSize: the size is 0"
-    if size > room:
-        return f"OutOfBounds: the size is {size}, and there is room for {room}"
-    if number not in commands.TABLE:
-        return f"UnknownCommand: no command has the id {number}"
-    name, least, fields = commands.TABLE[number]
-    if size < least or (size > least and "+" not in fields):
-        return f"InvalidArguments: {name} has {least} entries{' or more' if '+' in fields else ''}, and the size is {size}"
-    return None
-
-
-def room_of(stand):
-    return (stand.put if stand.put > stand.get else stand.plan.ring) - stand.get
+    found = faults.header_fault(header, room)
+    return f"{ERROR_OF_CHECK[found[0]]}: {found[1]}" if found else None
 
 
 def transfer_places(command, plan):
@@ -96,18 +85,18 @@ def places_due(words, stand):
     """The places that were to be fetched, going by the words that an event has; or None where the quota may be passed."""
     values, get = dict(reversed(words)), stand.get
     header = values.get(get, 0)
-    if header_fault(header, room_of(stand)):
+    if header_fault(header, stand.room):
         return [get]
     size = commands.entries_wanted(header // 2**21, header % 2**21)
     ring = list(range(get, get + size))
     command = commands.decode([(place, values.get(place, 0)) for place in ring])
     places = ring + transfer_places(command, stand.plan)
-    return places if stand.fetched + len(places) <= WORDS_AT_MOST else None
+    return places if stand.fetched + len(places) <= faults.WORDS_AT_MOST else None
 
 
 def fetched_places(event, standing):
     stand = standing.stream(event.stream)
-    number = stand.open[0][0]
+    number = stand.open[0].number
     if stand.get == stand.put:
         yield f"finish {event.stream} {number}: get has come to PUT, {stand.put}"
     elif stand.put >= stand.plan.ring:
@@ -133,7 +122,7 @@ def put_values(event, standing):
 
 def judged_words(event, standing):
     stand, words = standing.stream(event.stream), words_of(event.words)
-    fault = header_fault(words[0][1], room_of(stand)) if words else None
+    fault = header_fault(words[0][1], stand.room) if words else None
     if fault:
         yield f"the loss of stream {event.stream} by {fault}"
     elif event.kind == "step":
@@ -181,12 +170,12 @@ def left_of(number, stand, standing):
     if stand.gone is not None:
         return
     if stand.open:
-        first = stand.open[0][0]
-        numbers = [order for order, _ in stand.open]
+        first = stand.open[0].number
+        numbers = [bar.number for bar in stand.open]
         yield f"to finish {'number' if len(numbers) == 1 else 'numbers'} {joined(numbers)}"
-        for wait in standing.waits_of(number, first):
+        for wait in standing.waits.pending(number, first):
             yield f"number {first} waits for stream {wait.target} to come to release {wait.release}"
-        if not standing.waits_of(number, first):
+        if not standing.waits.pending(number, first):
             yield f"get stands at {stand.get}, and PUT of number {first} is {stand.put}"
     without = stand.plan.flushes[stand.ordered:]
     if without:

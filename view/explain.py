@@ -12,7 +12,7 @@ from pathlib import Path
 from . import commands, due, rules
 from .output import HEAD, NO_LINE_FEED, Lines, read_event
 from .script import BLANKS, Script
-from .standing import Standing
+from .standing import Stand, Standing
 
 WRAPPER = Path(__file__).resolve().parent.parent / "zorvleid"
 NO, NOT_COMPLETE, NO_JOURNAL = 9, 10, 11
@@ -48,6 +48,14 @@ class Input:
         return self.lines[line - 1].removesuffix(NO_LINE_FEED) if line <= len(self.lines) else None
 
 
+def standing_of(given, count):
+    """How things stand after so many events of a legal journal."""
+    standing = Standing([Stand(plan) for plan in given.script.plans], given.script.names)
+    for event in given.events[:count]:
+        standing.take(event)
+    return standing
+
+
 def on_no(given, number, rule):
     """What the rule is, which event breaks it, and what it would have wanted."""
     event = given.events[number - 1]
@@ -58,14 +66,14 @@ def on_no(given, number, rule):
     if event.words:
         yield f"words: {commands.told(event.words)[1]}"
     yield f"rule {rule}{f' (of {of_events})' if of_events else ''}: {sentence}"
-    standing = Standing(given.script, given.events[:number - 1])
+    standing = standing_of(given, number - 1)
     for line in due.wanted(rule, event, standing):
         yield f"wanted: {line}"
 
 
 def on_not_complete(given):
     """What is left to do, stream by stream."""
-    standing = Standing(given.script, given.events)
+    standing = standing_of(given, len(given.events))
     count = len(given.events)
     yield f"the journal is legal up to its end, event {count}, and something is left to do:"
     for number, stand in enumerate(standing.streams, 1):

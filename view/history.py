@@ -1,173 +1,153 @@
-"""What the lines of an output say together: which order number an event belongs to, and which event ended which wait.
+"""What the lines of an output say together: what each event did, which number it belongs to, and which event ended which wait.
 
 Each order number is a bar, from its order to its finish, its loss or the close of its stream. Bars of one stream may lie
 over each other, since a client may flush again before the service comes to it; so each has a row, the first that is free.
-The output names the waits that ended, and not the events that ended them; but a wait ends by a release with the first step
-that brings its stream there, by a guard with the end of the last lower number of that stream, and by a close with the close.
 """
 
-from bisect import bisect_left, bisect_right
-from collections import deque
-from heapq import heappop, heappush
+from bisect import bisect_right
+from collections.abc import Callable, Iterable
 
-from . import commands
-from .output import Refused, words_of
+from .images import Picture
+from .output import Event, Image, Mark, Output, Refused, Stream
+from .plain import counted
+from .script import Script
+from .standing import Bar, Stand, Standing
+from .waits import Wait
+from .working import Deed
 
 BASE = 1000
 ENDINGS = {"release": 0, "guard": 1, "closed": 2}
-CODES = {"done": None, "closed": "close", "lost memory": "memory"}
+CODES = {"done": "", "closed": "close", "lost memory": "memory"}
+COUNTS = ("entries", "release", "token", "words", "error 0501", "error 0502", "error 0505")
 
 
-class Bar:
-    """One order number. Its events are told by their places in the journal, which count from 0."""
-
-    def __init__(self, stream, number, begin, row):
-        self.stream, self.number, self.begin, self.row = stream, number, begin, row
-        self.steps = []
-        self.pauses = []  # from a step whose wait was kept to the event that could come when it had ended
-        self.end, self.how = None, None
-
-    @property
-    def first(self):
-        return self.steps[0] if self.steps else None
+class NoScript(Exception):
+    """A script that is not the one of the output."""
 
 
-class Wait:
-    """A wait that ended: the event that ended it, and the event of the waiter that could come then."""
+def rings(output: Output) -> list[int | None]:
+    """The ring of each stream, where its steps went round it."""
+    found: list[int | None] = [None] * len(output.streams)
+    ends = [0] * len(output.streams)
+    for event in output.events:
+        if event.kind != "step" or not 1 <= event.stream <= len(ends):
+            continue
+        place, _, rest = event.words[1:].partition(":")
+        if place == "0" and ends[event.stream - 1]:
+            found[event.stream - 1] = ends[event.stream - 1]
+        ends[event.stream - 1] = int(place or 0) + int(rest[:8] or "0", 16) % 2**21
+    return found
 
-    def __init__(self, mark, ended_by, lets):
-        self.mark, self.ended_by, self.lets = mark, ended_by, lets
 
-
-class Lane:
-    """What is known of one stream while its events are read."""
-
-    def __init__(self):
-        self.open, self.bars, self.numbers, self.gone = deque(), [], [], None
-        self.free, self.rows = [], 0  # the rows that no open bar has, and how many rows there are
-        self.releases, self.reached = [], []  # release counts as they rise, and the steps that raised them
-
-    def take_row(self):
-        """The first row that is free."""
-        if not self.free:
-            heappush(self.free, self.rows)
-            self.rows += 1
-        return heappop(self.free)
+def standing_of(output: Output, script: Script | None = None) -> Standing:
+    """How things stand before the first event of an output."""
+    names = output.names or [(0, stream.number) for stream in output.streams]
+    if script is None:
+        return Standing([Stand(None, ring) for ring in rings(output)], names, output.marks)
+    if script.names != names:
+        raise NoScript(f"the script has {counted(len(script.plans), 'stream')} of other names than the output")
+    return Standing([Stand(plan) for plan in script.plans], names)
 
 
 class History:
-    """The bars, the waits, and the bar of each event, or None where an event has none."""
+    """The bars, the waits, what each event did, and the bar of each event, or None where an event has none.
 
-    def __init__(self, output):
+    `watch` is called after each event, with what it did and how things stand then.
+    """
+
+    def __init__(self, output: Output, script: Script | None = None,
+                 watch: Callable[[Event, Deed, Standing], None] | None = None) -> None:
         self.output = output
-        self.lanes = [Lane() for _ in output.streams]
-        self.bars, self.bar_of, self.waits = [], [], []
-        for place, event in enumerate(output.events):
-            self.bar_of.append(self.take(place, event))
-        for stream, lane in zip(output.streams, self.lanes):
-            check_end(stream, lane)
-        for mark in output.marks:
-            self.waits.append(self.wait_of(mark))
+        self.standing = standing_of(output, script)
+        self.bar_of: list[Bar | None] = []
+        self.deeds: list[Deed] = []
+        for event in output.events:
+            bar, deed = self.standing.take(event)
+            self.bar_of.append(bar)
+            self.deeds.append(deed)
+            if watch is not None:
+                watch(event, deed, self.standing)
+        for stream, stand in zip(output.streams, self.standing.streams):
+            check_end(stream, stand)
+        self.waits = self.match_marks()
+        self.notes = list(differences(self))
 
-    def take(self, place, event):
-        if not 1 <= event.stream <= len(self.lanes):
-            raise Refused(event.line, "there is no such stream")
-        lane = self.lanes[event.stream - 1]
-        if lane.gone is not None:
-            raise Refused(event.line, "the stream is lost or closed")
-        return getattr(self, "take_" + event.kind)(place, event, lane)
+    @property
+    def lanes(self) -> list[Stand]:
+        return self.standing.streams
 
-    def take_order(self, place, event, lane):
-        if event.number != len(self.bars) + 1:
-            raise Refused(event.line, f"the next order number is {len(self.bars) + 1}")
-        bar = Bar(event.stream, event.number, place, lane.take_row())
-        for known in (self.bars, lane.bars, lane.open):
-            known.append(bar)
-        lane.numbers.append(event.number)
-        return bar
+    @property
+    def bars(self) -> list[Bar]:
+        return self.standing.bars
 
-    def take_step(self, place, event, lane):
-        if not lane.open or not event.words:
-            raise Refused(event.line, "the stream has no number to work on, or the step has no words")
-        bar = lane.open[0]
-        bar.steps.append(place)
-        if event.words.partition(":")[2].startswith("20000003 "):
-            release = commands.decode(words_of(event.words)).values.get("release", 0)
-            if release > (lane.releases[-1] if lane.releases else 0):
-                lane.releases.append(release)
-                lane.reached.append(place)
-        return bar
+    def match_marks(self) -> list[Wait]:
+        """The waits that ended, each with its mark, or Refused where the marks are not those of the journal."""
+        ended = self.standing.waits.ended
+        for mark, wait in zip(self.output.marks, ended):
+            if (mark.stream, mark.number, mark.target, mark.release, mark.how) != \
+                    (wait.stream, wait.number, wait.target, wait.release, wait.how):
+                raise Refused(mark.line, "no event ends such a wait here")
+            if mark.value != (BASE + 4 * mark.number + ENDINGS[mark.how]) % 2**32:
+                raise Refused(mark.line, "the mark is not that of the wait")
+            wait.mark, wait.lets = mark, self.lets(wait)
+        if len(self.output.marks) > len(ended):
+            raise Refused(self.output.marks[len(ended)].line, "no event ends such a wait")
+        if len(ended) > len(self.output.marks):
+            raise Refused(self.output.events[ended[len(self.output.marks)].made].line, "a wait of this event ended without a mark")
+        return ended
 
-    def take_finish(self, place, event, lane):
-        if not lane.open or lane.open[0].number != event.number:
-            raise Refused(event.line, "the number is not the one that the stream works on")
-        return finish(lane, place, "finish")
-
-    def take_lost(self, place, event, lane):
-        if event.code != "memory" and not lane.open:
-            raise Refused(event.line, "the stream has no number to work on")
-        return end_lane(lane, place, event.code)
-
-    def take_close(self, place, event, lane):
-        return end_lane(lane, place, "close")
-
-    def wait_of(self, mark):
-        """The wait of a mark, or Refused where no event ends it so."""
-        if not (1 <= mark.number <= len(self.bars) and 1 <= mark.target <= len(self.lanes)):
-            raise Refused(mark.line, "there is no such number or stream")
-        bar, target = self.bars[mark.number - 1], self.lanes[mark.target - 1]
-        ended_by = ENDED_BY[mark.how](mark, target)
-        if bar.stream != mark.stream or ended_by is None or not bar.begin < ended_by < bar.end:
-            raise Refused(mark.line, "no event ends such a wait")
-        if mark.value != (BASE + 4 * mark.number + ENDINGS[mark.how]) % 2**32:
-            raise Refused(mark.line, "the mark is not that of the wait")
-        if self.waits and self.waits[-1].ended_by > ended_by:
-            raise Refused(mark.line, "the wait ended before the one above it")
-        later = bisect_right(bar.steps, ended_by)
+    def lets(self, wait: Wait) -> int:
+        """The first event of the waiter that could come once the wait had ended."""
+        bar = self.bars[wait.number - 1]
+        later = bisect_right(bar.steps, wait.ended)
         lets = bar.steps[later] if later < len(bar.steps) else bar.end
         if later:
             bar.pauses.append((bar.steps[later - 1], lets))
-        return Wait(mark, ended_by, lets)
+        return lets
+
+    def waits_made(self, place: int) -> list[Wait]:
+        """The waits that an event made, kept or dropped."""
+        return [wait for wait in self.deeds[place].waits if wait.made == place]
+
+    def text(self, place: int) -> str:
+        """What an event did, in words."""
+        event, deed = self.output.events[place], self.deeds[place]
+        if event.kind != "order":
+            return deed.text
+        bar = self.bar_of[place]
+        parts = [f"drawn for the flush after {counted(event.actions, 'action')}"]
+        if bar is not None and bar.put is not None:
+            parts.append(f"up to PUT {bar.put}")
+        waits = self.waits_made(place)
+        parts += [f"waits for {wait}" for wait in waits if wait.how != "dropped"]
+        parts += [f"the fence on {wait} is dropped: {wait.why}" for wait in waits if wait.how == "dropped"]
+        return "; ".join(parts).replace("; up to", ", up to", 1)
 
 
-def finish(lane, place, how):
-    bar = lane.open.popleft()
-    bar.end, bar.how = place, how
-    heappush(lane.free, bar.row)
-    return bar
-
-
-def end_lane(lane, place, how):
-    """Ends a stream with all its numbers, and answers the bar that it worked on."""
-    first = lane.open[0] if lane.open else None
-    while lane.open:
-        finish(lane, place, how)
-    lane.gone = how
-    return first
-
-
-def check_end(stream, lane):
+def check_end(stream: Stream, stand: Stand) -> None:
     wanted = CODES[stream.end] if stream.end in CODES else stream.end.partition(" ")[2]
-    if lane.gone != wanted:
+    if (stand.gone and (stand.gone.code or "close") or "") != wanted:
         raise Refused(stream.line, "the journal tells another end of the stream")
-    if lane.open:
-        raise Refused(stream.line, f"the number {lane.open[0].number} of the stream is not finished")
+    if stand.open:
+        raise Refused(stream.line, f"the number {stand.open[0].number} of the stream is not finished")
 
 
-def by_release(mark, target):
-    at = bisect_left(target.releases, mark.release)
-    return target.reached[at] if at < len(target.reached) else None
+# --- What the journal does not give ---
 
 
-def by_guard(mark, target):
-    """The end of the last number below the waiter's, which is no close."""
-    at = bisect_left(target.numbers, mark.number)
-    return target.bars[at - 1].end if at and target.bars[at - 1].how != "close" else None
+def differences(history: History) -> Iterable[str]:
+    """Where the images and the counts that are printed are not those that the replay gives."""
+    replayed = history.standing.images.pictures
+    printed = {image.number: image for image in history.output.images}
+    for number in sorted(printed.keys() | replayed.keys()):
+        if not is_same(printed.get(number), replayed.get(number)):
+            yield f"image {number} of the output is not the one that its journal gives"
+    for stream, stand in zip(history.output.streams, history.lanes):
+        counts = (stand.entries, stand.release, stand.last_token, stand.fetched, *stand.errors.values())
+        for name, told, found in zip(COUNTS, stream.counts, counts):
+            if told != found:
+                yield f"line {stream.line} of the output has {name} {told}, and its journal gives {found}"
 
 
-def by_close(mark, target):
-    """The close, where it ended a number."""
-    return target.bars[-1].end if target.bars and target.bars[-1].how == "close" else None
-
-
-ENDED_BY = {"release": by_release, "guard": by_guard, "closed": by_close}
+def is_same(image: Image | None, picture: Picture | None) -> bool:
+    return image is not None and picture is not None and image[1:] == (picture.width, picture.height, bytes(picture.texels))

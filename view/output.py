@@ -6,12 +6,12 @@ order number a step belongs to, is looked at in `history`.
 """
 
 import re
-from typing import NamedTuple
+from typing import NamedTuple, NoReturn
 
 SIDE_AT_MOST = 4096
 
 
-def up_to(greatest):
+def up_to(greatest: int) -> str:
     """A pattern of the decimal numbers from 0 to this one, which has no leading zeros."""
     digits = str(greatest)
     shapes = [digits, f"[1-9][0-9]{{0,{len(digits) - 2}}}", "0"]
@@ -51,7 +51,7 @@ NO_LINE_FEED = "\0"
 class Refused(Exception):
     """The first line of a text that cannot stand there, and why."""
 
-    def __init__(self, line, why):
+    def __init__(self, line: int, why: str) -> None:
         super().__init__(f"refused: line {line}: {why}")
         self.line = line
 
@@ -76,9 +76,13 @@ class Image(NamedTuple):
     texels: bytes  # red, green, blue and alpha of each texel, row after row
 
 
+Name = tuple[int, int]  # of a stream: its namespace and its id
+
+
 class Stream(NamedTuple):
     number: int
     end: str
+    counts: tuple[int, ...]  # entries, release, token, words, and the errors 0501, 0502 and 0505
     line: int
 
 
@@ -98,11 +102,16 @@ class Mark(NamedTuple):
 class Output:
     """What was read of an output, part by part."""
 
-    def __init__(self):
+    def __init__(self) -> None:
         self.version = 1
         self.is_verdict = False
-        self.names = []  # of version 2: namespace and id
-        self.events, self.images, self.streams, self.marks, self.dumps, self.views = [], [], [], [], [], []
+        self.names: list[Name] = []  # of version 2
+        self.events: list[Event] = []
+        self.images: list[Image] = []
+        self.streams: list[Stream] = []
+        self.marks: list[Mark] = []
+        self.dumps: list[str] = []
+        self.views: list[str] = []
         self.event_count = 0
         self.picture = (0, 0)  # where the lines of the images begin and end, counted in lines from 0
 
@@ -110,7 +119,7 @@ class Output:
 class Lines:
     """A text as lines with a place in them. A last line without its line feed is like no line that is looked for."""
 
-    def __init__(self, data, first=1):
+    def __init__(self, data: bytes, first: int = 1) -> None:
         self.lines = data.decode("latin-1").split("\n")
         last = self.lines.pop()
         if last:
@@ -118,31 +127,31 @@ class Lines:
         self.at, self.first = 0, first
 
     @property
-    def number(self):
+    def number(self) -> int:
         return self.first + self.at
 
-    def here(self):
+    def here(self) -> str:
         return self.lines[self.at] if self.at < len(self.lines) else ""
 
-    def starts(self, word):
+    def starts(self, word: str) -> bool:
         return self.here().startswith(word)
 
-    def take(self, shape):
+    def take(self, shape: re.Pattern[str]) -> re.Match[str] | None:
         """What the shape finds in this line, which is then behind us; or None, and nothing happens."""
         found = shape.fullmatch(self.here())
         self.at += found is not None
         return found
 
-    def refuse(self, why="no line of an output that can stand here"):
+    def refuse(self, why: str = "no line of an output that can stand here") -> NoReturn:
         raise Refused(self.number, why if self.at < len(self.lines) else "the output ends too early")
 
 
-def words_of(text):
+def words_of(text: str) -> list[tuple[int, int]]:
     """The places and values of words as they are printed."""
-    return [(int(place), int(value, 16)) for place, _, value in (word.partition(":") for word in text.split())]
+    return [(int(word[:-9]), int(word[-8:], 16)) for word in text.split()]
 
 
-def read_event(text, line):
+def read_event(text: str, line: int) -> Event | None:
     """The event of a line, or None where it is no event's."""
     kind = text.partition(" ")[0]
     found = EVENTS[kind].fullmatch(text) if kind in EVENTS else None
@@ -161,7 +170,7 @@ def read_event(text, line):
     return Event(kind, stream, number, actions, code, words, line, text)
 
 
-def read_head(lines, output):
+def read_head(lines: Lines, output: Output) -> None:
     if lines.here() == HEAD:
         output.version = 2
         lines.at += 1
@@ -173,14 +182,14 @@ def read_head(lines, output):
         output.names.append((int(found[2]), int(found[3])))
 
 
-def read_events(lines, output):
+def read_events(lines: Lines, output: Output) -> None:
     while (event := read_event(lines.here(), lines.number)) is not None:
         output.events.append(event)
         lines.at += 1
     output.event_count = len(output.events)
 
 
-def read_row(lines, width):
+def read_row(lines: Lines, width: int) -> bytes:
     row = lines.here()
     if len(row) != 9 * width - 1 or not ROW.fullmatch(row):
         lines.refuse(f"no row of {width} texels")
@@ -188,7 +197,7 @@ def read_row(lines, width):
     return bytes.fromhex(row)
 
 
-def read_images(lines, output):
+def read_images(lines: Lines, output: Output) -> None:
     begin = lines.at
     while lines.starts("image "):
         found = lines.take(IMAGE)
@@ -202,23 +211,23 @@ def read_images(lines, output):
     output.picture = (begin, lines.at)
 
 
-def read_streams(lines, output):
+def read_streams(lines: Lines, output: Output) -> None:
     while lines.starts("stream "):
         line = lines.number
         found = lines.take(STREAM)
         if found is None or int(found[1]) != len(output.streams) + 1:
             lines.at -= found is not None
             lines.refuse("no line of the next stream")
-        output.streams.append(Stream(int(found[1]), found[2], line))
+        output.streams.append(Stream(int(found[1]), found[2], tuple(map(int, found.groups()[2:])), line))
     if output.version == 2 and len(output.names) != len(output.streams):
         lines.refuse("there are not as many streams as names")
 
 
-def read_endings(lines, output):
+def read_endings(lines: Lines, output: Output) -> None:
     """The marks, the dumps and the lines of live views."""
     while (found := lines.take(MARK)) is not None:
-        numbers = map(int, found.groups()[:4])
-        output.marks.append(Mark(*numbers, found[5], int(found[6]), lines.number - 1, found[0]))
+        stream, number, target, release = map(int, found.groups()[:4])
+        output.marks.append(Mark(stream, number, target, release, found[5], int(found[6]), lines.number - 1, found[0]))
     while (found := lines.take(DUMP)) is not None:
         if not 1 <= int(found[1]) <= len(output.streams):
             lines.at -= 1
@@ -228,7 +237,7 @@ def read_endings(lines, output):
         output.views.append(found[0])
 
 
-def read_output(data):
+def read_output(data: bytes) -> Output:
     """What an output says; the output of `verify` has images alone."""
     lines, output = Lines(data), Output()
     if (found := lines.take(VERDICT)) is not None:
@@ -245,7 +254,7 @@ def read_output(data):
     return output
 
 
-def picture_text(data, output):
+def picture_text(data: bytes, output: Output) -> bytes:
     """The lines of the images, as bytes."""
     begin, end = output.picture
     return b"".join(line + b"\n" for line in data.split(b"\n")[begin:end])

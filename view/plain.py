@@ -1,14 +1,16 @@
 """Numbers and lists in plain words."""
 
+from collections.abc import Iterable
 
-def counted(number, one, more=None):
+
+def counted(number: int, one: str, more: str | None = None) -> str:
     """So many of a thing."""
     return f"1 {one}" if number == 1 else f"{number:,} {more or one + 's'}"
 
 
-def joined(numbers):
+def joined(numbers: Iterable[int]) -> str:
     """Rising numbers, with what follows one after another as a range."""
-    runs = []
+    runs: list[list[int]] = []
     for number in numbers:
         if runs and number == runs[-1][1] + 1:
             runs[-1][1] = number

@@ -1,25 +1,37 @@
 """What a lawful script says: the streams and their actions. Scripts that may be unlawful are not read here."""
 
 import re
+from collections.abc import Iterable
 
 BLANKS = re.compile(r"[ \t\r]+")
+Target = int | tuple[int, int]  # a stream by its number, or by its name
 
 
 class Plan:
     """What one stream of a script does. Places are those of its ring and of its transfer memories behind it."""
 
-    def __init__(self, name, ring):
+    def __init__(self, name: tuple[int, int], ring: int) -> None:
         self.name, self.ring = name, ring
-        self.memories, self.words = {}, 0  # by number: the first place and the number of words
-        self.actions = []  # (kind, argument, argument)
-        self.flushes = []  # how many actions stand before each flush
+        self.memories: dict[int, tuple[int, int]] = {}  # by number: the first place and the number of words
+        self.results: dict[int, tuple[int, int]] = {}  # the same of result memories, whose places count on their own
+        self.words = 0  # of all transfer memories
+        self.actions: list[tuple[str, int, int]] = []  # (kind, argument, argument)
+        self.flushes: list[int] = []  # how many actions stand before each flush
+        self.fences: dict[int, list[tuple[Target, int]]] = {}  # of a flush that has some, by its action
 
-    def closes(self):
+    def closes(self) -> bool:
         return bool(self.actions) and self.actions[-1][0] == "close"
 
-    def values_between(self, places, begin, end):
+    def put_of(self, action: int) -> int:
+        """PUT of a flush."""
+        return self.actions[action][1]
+
+    def fences_of(self, action: int) -> list[tuple[Target, int]]:
+        return self.fences.get(action, [])
+
+    def values_between(self, places: Iterable[int], begin: int, end: int) -> dict[int, dict[int, None]]:
         """The values that each of these places may have from one number of actions done up to another, without doubles."""
-        values = {place: {0: None} for place in places}
+        values: dict[int, dict[int, None]] = {place: {0: None} for place in places}
         for done, (kind, place, value) in enumerate(self.actions[:end]):
             if kind != "put" or place not in values:
                 continue
@@ -28,7 +40,7 @@ class Plan:
             values[place][value] = None
         return values
 
-    def reach(self, finished, token):
+    def reach(self, finished: int, token: int | None) -> int:
         """How many actions the client can have done, where so many flushes are finished, with the greatest token set."""
         before = 0
         for at, (kind, argument, _) in enumerate(self.actions):
@@ -42,49 +54,54 @@ class Plan:
 class Script:
     """The plans of a script by the number of their stream, from 1."""
 
-    def __init__(self, lines):
-        self.version, self.plans = 1, []
+    def __init__(self, lines: Iterable[str]) -> None:
+        self.version = 1
+        self.plans: list[Plan] = []
         for line in lines:
             words = [word for word in BLANKS.split(line) if word]
             if words and not words[0].startswith("#"):
                 self.take(words)
-        self.numbers = {plan.name: number for number, plan in enumerate(self.plans, 1)}
 
-    def plan(self, stream):
-        return self.plans[stream - 1] if 1 <= stream <= len(self.plans) else None
+    @property
+    def names(self) -> list[tuple[int, int]]:
+        return [plan.name for plan in self.plans]
 
-    def take(self, words):
+    def take(self, words: list[str]) -> None:
         first, rest = words[0], words[1:]
         if first == "gpu-script":
             self.version = int(rest[0])
         elif first == "stream":
             name = (0, int(rest[0])) if self.version == 1 else (int(rest[0]), int(rest[1]))
             self.plans.append(Plan(name, int(rest[-1])))
-        elif first == "memory":
-            plan = self.plans[-1]
-            plan.memories[int(rest[0])] = (plan.ring + plan.words, int(rest[1]))
-            plan.words += int(rest[1])
-        elif first != "results":
+        elif first in ("memory", "results"):
+            self.declare(self.plans[-1], first, int(rest[0]), int(rest[1]))
+        else:
             self.act(self.plans[-1], first, rest)
 
-    def act(self, plan, first, rest):
+    @staticmethod
+    def declare(plan: Plan, kind: str, number: int, words: int) -> None:
+        if kind == "memory":
+            plan.memories[number] = (plan.ring + plan.words, words)
+            plan.words += words
+        else:
+            plan.results[number] = (sum(size for _, size in plan.results.values()), words)
+
+    def act(self, plan: Plan, first: str, rest: list[str]) -> None:
         if first in ("put", "fill"):
             start = int(rest[0]) if first == "put" else plan.memories[int(rest[0])][0] + int(rest[1])
             values = rest[1:] if first == "put" else rest[2:]
             plan.actions += [("put", start + at, int(value, 16)) for at, value in enumerate(values)]
         elif first == "flush":
+            if fences := self.fences(rest[1:]):
+                plan.fences[len(plan.actions)] = fences
             plan.flushes.append(len(plan.actions))
-            plan.actions.append(("flush", int(rest[0]), self.fences(rest[1:])))
+            plan.actions.append(("flush", int(rest[0]), 0))
         else:
             plan.actions.append(("finish" if first == "dump" else first, int(rest[0]) if first == "token" else 0, 0))
 
-    def fences(self, words):
+    def fences(self, words: list[str]) -> list[tuple[Target, int]]:
         """Pairs of a stream and a release; a stream of version 2 is told by its name."""
         numbers = list(map(int, words))
         if self.version == 1:
             return list(zip(numbers[::2], numbers[1::2]))
         return list(zip(zip(numbers[::3], numbers[1::3]), numbers[2::3]))
-
-    def number_of(self, stream):
-        """The number of a stream that is told by its number or by its name."""
-        return self.numbers.get(stream, 0) if isinstance(stream, tuple) else stream

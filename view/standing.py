@@ -1,115 +1,198 @@
-"""How things stand after a legal journal: what each stream has drawn, fetched and finished, and which waits are pending."""
+"""The replay of a journal: what each event did, and how things stand after it.
 
-from collections import deque
-from typing import NamedTuple
+A journal alone does not tell the script's fences, nor PUT before a flush is finished. With the script of a lawful run both are
+known; else the fences are those whose waits have a mark in the output, and the ring is known once it has gone round.
+"""
 
-from . import commands
-from .output import words_of
+from collections import Counter, deque
+from collections.abc import Iterable, Sequence
+from heapq import heappop, heappush
+
+from . import faults, working
+from .commands import Command, decode
+from .images import Images, Written
+from .output import Event, Mark, Name, Refused, words_of
+from .script import Plan
+from .table import ERRORS
+from .waits import Waits
+from .working import Deed
 
 
-class Pending(NamedTuple):
-    stream: int
-    number: int
-    target: int
-    release: int
+class Bar:
+    """One order number. Its events are told by their places in the journal, which count from 0."""
+
+    def __init__(self, stream: int, number: int, begin: int, row: int, flush: int) -> None:
+        self.stream, self.number, self.begin, self.row, self.flush = stream, number, begin, row, flush
+        self.steps: list[int] = []
+        self.pauses: list[tuple[int, int]] = []  # from a step whose wait was kept to the event that could come then
+        self.put: int | None = None
+        self.end, self.how = -1, ""
+
+    @property
+    def first(self) -> int | None:
+        return self.steps[0] if self.steps else None
 
 
 class Stand:
-    """How one stream stands."""
+    """How one stream stands. The plan is there where the script is known."""
 
-    def __init__(self, plan):
-        self.plan = plan
-        self.ordered = self.finished = self.entries = self.fetched = self.release = 0
-        self.token = None  # the greatest that was set
-        self.open = deque()  # the unprocessed numbers, each with its place among the flushes
-        self.gone = None  # the event by which it was lost or closed
-
-    @property
-    def get(self):
-        return self.entries % self.plan.ring
-
-    @property
-    def flush(self):
-        """How many actions stand before the flush of the first unprocessed number."""
-        return self.plan.flushes[self.open[0][1]]
+    def __init__(self, plan: Plan | None = None, ring: int | None = None) -> None:
+        self.plan, self.ring = plan, plan.ring if plan else ring
+        self.ordered = self.finished = self.entries = self.fetched = self.release = self.last_token = self.at = 0
+        self.token: int | None = None  # the greatest that was set
+        self.errors = {"0501": 0, "0502": 0, "0505": 0}
+        self.open: deque[Bar] = deque()  # the unprocessed numbers
+        self.gone: Event | None = None  # the event by which it was lost or closed
+        self.buckets: dict[int, bytearray] = {}
+        self.buffers: dict[int, bytearray] = {}
+        self.free: list[int] = []
+        self.rows = 0  # the rows that no open bar has, and how many rows there are
 
     @property
-    def put(self):
-        return self.plan.actions[self.flush][1]
+    def get(self) -> int:
+        return self.at % self.ring if self.ring else self.at
 
     @property
-    def reach(self):
+    def flush(self) -> int:
+        """How many actions stand before the flush of the first unprocessed number. Only where the script is known."""
+        assert self.plan is not None
+        return self.plan.flushes[self.open[0].flush]
+
+    @property
+    def put(self) -> int:
+        assert self.plan is not None
+        return self.plan.put_of(self.flush)
+
+    @property
+    def reach(self) -> int:
+        assert self.plan is not None
         return self.plan.reach(self.finished, self.token)
+
+    @property
+    def room(self) -> int | None:
+        """How many entries a command may have, where the script is known."""
+        if self.plan is None or not self.open:
+            return None
+        return (self.put if self.put > self.get else self.plan.ring) - self.get
+
+    @property
+    def front(self) -> int | None:
+        """The first unprocessed number."""
+        return self.open[0].number if self.open else None
+
+    def take_row(self) -> int:
+        """The first row that no open bar has."""
+        if not self.free:
+            heappush(self.free, self.rows)
+            self.rows += 1
+        return heappop(self.free)
 
 
 class Standing:
-    """How all streams of a script stand after some of the events of a legal journal of it."""
+    """How all streams stand after some events of a journal."""
 
-    def __init__(self, script, events):
-        self.script, self.drawn = script, 0
-        self.pending = {}  # the waits on each stream
-        self.streams = [Stand(plan) for plan in script.plans]
-        for event in events:
-            getattr(self, "take_" + event.kind)(event, self.streams[event.stream - 1])
+    def __init__(self, stands: Sequence[Stand], names: Sequence[Name] = (), marks: Iterable[Mark] = ()) -> None:
+        self.streams = list(stands)
+        self.numbers = {name: number for number, name in enumerate(names, 1)}
+        self.bars: list[Bar] = []
+        self.images = Images()
+        self.waits = Waits(self)
+        self.count = 0  # how many events there were
+        self.written: Written | None = None  # by the latest event
+        self.marked: dict[int, Counter[tuple[int, int]]] = {}  # by number, the waits that have a mark
+        for mark in marks:
+            self.marked.setdefault(mark.number, Counter())[mark.target, mark.release] += 1
 
-    def stream(self, number):
+    @property
+    def drawn(self) -> int:
+        return len(self.bars)
+
+    def stream(self, number: int) -> Stand | None:
         return self.streams[number - 1] if 1 <= number <= len(self.streams) else None
 
-    def take_order(self, event, stand):
-        self.drawn += 1
-        _, _, fences = stand.plan.actions[event.actions]
-        for target, release in fences:
-            self.wait(event.stream, event.number, self.script.number_of(target), release)
-        stand.open.append((event.number, stand.ordered))
+    def take(self, event: Event) -> tuple[Bar | None, Deed]:
+        """Takes the next event: the bar that it belongs to, and what it did. An event that cannot stand there is Refused."""
+        stand = self.stream(event.stream)
+        if stand is None:
+            raise Refused(event.line, "there is no such stream")
+        if stand.gone is not None:
+            raise Refused(event.line, "the stream is lost or closed")
+        self.written = None
+        taken: tuple[Bar | None, Deed]
+        match event.kind:
+            case "order":
+                taken = self.take_order(event, stand)
+            case "step":
+                taken = self.take_step(event, stand)
+            case "finish":
+                taken = self.take_finish(event, stand)
+            case _:
+                taken = self.take_end(event, stand)
+        self.count += 1
+        return taken
+
+    def take_order(self, event: Event, stand: Stand) -> tuple[Bar, Deed]:
+        if event.number != self.drawn + 1:
+            raise Refused(event.line, f"the next order number is {self.drawn + 1}")
+        if stand.plan is not None and stand.plan.flushes[stand.ordered:stand.ordered + 1] != [event.actions]:
+            raise Refused(event.line, "the script has another flush here")
+        waits = tuple(self.waits.make(event.stream, event.number, target, release, "fence", place)
+                      for place, (target, release) in enumerate(self.fences(event, stand)))
+        bar = Bar(event.stream, event.number, self.count, stand.take_row(), stand.ordered)
+        if stand.plan is not None:
+            bar.put = stand.plan.put_of(event.actions)
+        stand.open.append(bar)
         stand.ordered += 1
+        self.bars.append(bar)
+        return bar, Deed("", "dropped" if any(wait.how == "dropped" for wait in waits) else "", waits=waits)
 
-    def take_step(self, event, stand):
-        words = words_of(event.words)
-        command = commands.decode(words)
-        stand.entries += command.size
-        stand.fetched += len(words)
-        told = command.values
-        if command.name == "SetToken":
-            stand.token = told["token"] if stand.token is None else max(stand.token, told["token"])
-        elif command.name == "InsertFence":
-            stand.release = max(stand.release, told["release"])
-            self.settle(event.stream)
-        elif command.name == "WaitToken":
-            self.wait(event.stream, stand.open[0][0], told["stream"], told["release"])
-        elif command.name == "WaitSyncToken":
-            target = self.script.number_of((told["namespace"], told["id"]))
-            self.wait(event.stream, stand.open[0][0], target, told["release"])
+    def fences(self, event: Event, stand: Stand) -> list[tuple[int, int]]:
+        """The fences of a flush: those of the script, or else all waits of the number that have a mark."""
+        if stand.plan is None:
+            return list(self.marked.get(event.number, Counter()).elements())
+        return [(self.number_of(target), release) for target, release in stand.plan.fences_of(event.actions)]
 
-    def take_finish(self, event, stand):
-        stand.open.popleft()
+    def number_of(self, target: int | tuple[int, int]) -> int:
+        """The number of a stream that is told by its number or by its name."""
+        return self.numbers.get(target, 0) if isinstance(target, tuple) else target
+
+    def take_step(self, event: Event, stand: Stand) -> tuple[Bar, Deed]:
+        if not stand.open or not event.words:
+            raise Refused(event.line, "the stream has no number to work on, or the step has no words")
+        bar = stand.open[0]
+        bar.steps.append(self.count)
+        return bar, working.execute(self, event, stand)
+
+    def take_finish(self, event: Event, stand: Stand) -> tuple[Bar, Deed]:
+        if stand.front != event.number:
+            raise Refused(event.line, "the number is not the one that the stream works on")
+        bar = self.end_bar(stand, "finish")
+        bar.put = stand.get if bar.put is None else bar.put
         stand.finished += 1
-        self.settle(event.stream)
+        ended = self.waits.settle(event.stream)
+        return bar, Deed(f"done after {working.steps(len(bar.steps))}{working.endings(ended)}", ended=ended)
 
-    def take_lost(self, event, stand):
-        stand.open.clear()
+    def take_end(self, event: Event, stand: Stand) -> tuple[Bar | None, Deed]:
+        """A loss or a close, which ends all numbers of the stream."""
+        if event.kind == "lost" and event.code != "memory" and not stand.open:
+            raise Refused(event.line, "the stream has no number to work on")
+        words = words_of(event.words)
+        command = decode(words) if words else None
+        why = faults.loss(event.code, words, stand) if event.kind == "lost" else "the client closes the stream"
+        first = stand.open[0] if stand.open else None
+        left = [bar.number for bar in stand.open]
+        while stand.open:
+            self.end_bar(stand, event.code or "close")
         stand.gone = event
-        self.settle(event.stream)
+        gone = self.waits.leave(event.stream)
+        ended = self.waits.settle(event.stream)
+        text = f"{why}{working.dropped_numbers(left)}{working.gone_waits(gone)}{working.endings(ended)}"
+        if event.kind == "close":
+            return first, Deed(text, ended=ended)
+        return first, Deed(text, "lost", ERRORS.get(event.code, "out of memory"), command, ended=ended)
 
-    take_close = take_lost
-
-    def wait(self, stream, number, target, release):
-        """Keeps a wait where its stream is there, open, not at the release, and has a lower number to work on."""
-        waited = self.stream(target)
-        if waited and target != stream and not waited.gone and waited.release < release and self.is_before(waited, number):
-            self.pending.setdefault(target, []).append(Pending(stream, number, target, release))
-
-    @staticmethod
-    def is_before(stand, number):
-        return bool(stand.open) and stand.open[0][0] < number
-
-    def settle(self, target):
-        """Takes away the waits on a stream that have ended."""
-        if target in self.pending:
-            self.pending[target] = [wait for wait in self.pending[target] if not self.has_ended(wait)]
-
-    def has_ended(self, wait):
-        waited = self.stream(wait.target)
-        return waited.release >= wait.release or bool(waited.gone) or not self.is_before(waited, wait.number)
-
-    def waits_of(self, stream, number):
-        return [wait for waits in self.pending.values() for wait in waits if (wait.stream, wait.number) == (stream, number)]
+    def end_bar(self, stand: Stand, how: str) -> Bar:
+        bar = stand.open.popleft()
+        bar.end, bar.how = self.count, how
+        heappush(stand.free, bar.row)
+        return bar

@@ -2,17 +2,19 @@
 
 from . import files, page, trace
 from .history import History
-from .output import Refused
+from .output import Output, Refused
+from .script import Script
 
 
-def write(output, trace_path, page_path):
+def write(output: Output, trace_path: str | None, page_path: str | None, script: Script | None = None) -> None:
     """Writes the files that are asked for."""
     if output.is_verdict:
         raise Refused(1, "the output of verify has no journal")
-    history = History(output)
-    made = []
+    recorder = page.Recorder()
+    history = History(output, script, recorder if page_path is not None else None)
+    made: list[tuple[str, bytes]] = []
     if trace_path is not None:
         made.append((trace_path, trace.text(history).encode()))
     if page_path is not None:
-        made.append((page_path, page.text(history).encode()))
+        made.append((page_path, page.text_of(history, recorder).encode()))
     files.write_all(made)

@@ -1,0 +1,90 @@
+"""The events of an output, one a line: in words, or as JSON by docs/log.schema.json."""
+
+import json
+import sys
+from collections.abc import Iterator
+from dataclasses import dataclass
+
+from . import commands
+from .history import History
+from .waits import Wait
+
+MANY = 20_000  # events; a longer log tells on a terminal how far it is
+EVERY = 5_000
+
+
+@dataclass(frozen=True)
+class Choice:
+    """Which events are told. Of the marks it is enough to have one, and what is empty asks for nothing."""
+
+    streams: frozenset[int] = frozenset()
+    orders: frozenset[int] = frozenset()
+    commands: frozenset[str] = frozenset()
+    marks: frozenset[str] = frozenset()  # `failed`, `lost` and `waits`
+
+    def takes(self, history: History, place: int) -> bool:
+        event, deed, bar = history.output.events[place], history.deeds[place], history.bar_of[place]
+        name = deed.command.name if deed.command else ""
+        return (not self.streams or event.stream in self.streams) and \
+            (not self.orders or (bar is not None and bar.number in self.orders)) and \
+            (not self.commands or name in self.commands) and \
+            (not self.marks or deed.mark in self.marks or ("waits" in self.marks and bool(history.waits_made(place) or deed.ended)))
+
+
+def what(history: History, place: int) -> str:
+    """What an event is and what it did, in words."""
+    event, deed = history.output.events[place], history.deeds[place]
+    if event.kind == "step" and deed.command is not None:
+        return f"{commands.sentence(deed.command)}; {history.text(place)}"
+    if event.kind == "lost":
+        at = f" at {commands.sentence(deed.command)}" if deed.command else ""
+        return f"lost by {deed.error}{at}; {history.text(place)}"
+    return f"{event.kind}: {history.text(place)}"
+
+
+def line(history: History, place: int) -> str:
+    bar = history.bar_of[place]
+    order = f"order {bar.number}" if bar else "no order"
+    wide = len(str(len(history.output.events)))
+    return f"{place + 1:>{wide}}  stream {history.output.events[place].stream}  {order}  {what(history, place)}"
+
+
+def told_wait(wait: Wait) -> dict[str, object]:
+    return {"stream": wait.stream, "order": wait.number, "target": wait.target, "release": wait.release, "by": wait.by,
+            "made": wait.made + 1, "how": wait.how, "why": wait.why, "ended": wait.ended + 1 if wait.ended >= 0 else None}
+
+
+def record(history: History, place: int) -> dict[str, object]:
+    """The facts of an event, as docs/log.schema.json has them."""
+    event, deed, bar = history.output.events[place], history.deeds[place], history.bar_of[place]
+    told: dict[str, object] = {"event": place + 1, "line": event.line, "stream": event.stream,
+                               "order": bar.number if bar else None, "kind": event.kind}
+    if deed.command is not None:
+        told |= {"command": deed.command.name, "size": deed.command.size, "arguments": deed.command.values}
+    if event.kind == "order":
+        told["actions"] = event.actions
+    told |= {"text": event.text, "what": what(history, place), "result": deed.mark or "done", "error": deed.error or None,
+             "waits": [told_wait(wait) for wait in history.waits_made(place)], "ended": [told_wait(wait) for wait in deed.ended]}
+    return told
+
+
+def lines(history: History, choice: Choice, as_json: bool) -> Iterator[str]:
+    dump = json.JSONEncoder(separators=(",", ":")).encode
+    for place in range(len(history.output.events)):
+        if choice.takes(history, place):
+            yield dump(record(history, place)) if as_json else line(history, place)
+
+
+class Progress:
+    """How far a long work is, on standard error where that is a terminal."""
+
+    def __init__(self, total: int) -> None:
+        self.total, self.is_told = total, total >= MANY and sys.stderr.isatty()
+
+    def reach(self, count: int) -> None:
+        if self.is_told and count % EVERY == 0:
+            print(f"\r{count:,} of {self.total:,} events", end="", file=sys.stderr, flush=True)
+
+    def end(self) -> None:
+        if self.is_told:
+            print("\r\033[K", end="", file=sys.stderr, flush=True)

@@ -1,0 +1,198 @@
+// The images as they were after an event, from the differences that each event wrote.
+
+const IMAGES_SHOWN = 24, WRITERS_SHOWN = 100, FIGURE = 200;
+const WROTE = 0, MADE = 1, GONE = 2;
+
+const writes = data.writes.map(([place, image, x, y, w, h, at, size, kind]) => ({ place, image, x, y, w, h, at, size, kind }));
+const writesOf = new Map();
+for (const write of writes) {
+  if (!writesOf.has(write.image)) writesOf.set(write.image, []);
+  writesOf.get(write.image).push(write);
+}
+const imageNumbers = [...writesOf.keys()].sort((one, other) => one - other);
+
+let texelBytes;
+function texels() {
+  if (!texelBytes) {
+    const text = atob(element("texels").textContent);
+    texelBytes = new Uint8Array(text.length);
+    for (let at = 0; at < text.length; at += 1) texelBytes[at] = text.charCodeAt(at);
+  }
+  return texelBytes;
+}
+
+// The latest making of an image up to an event: its place among the image's writes, or -1 where the image is not there.
+function making(list, place) {
+  for (let at = lowest(list, place + 1, write => write.place) - 1; at >= 0; at -= 1) {
+    if (list[at].kind === MADE) return at;
+    if (list[at].kind === GONE) return -1;
+  }
+  return -1;
+}
+
+// An image after an event: its size, its texels, or null where the page does not have them, and what the event wrote.
+function imageAt(image, place) {
+  const list = writesOf.get(image), made = making(list, place);
+  if (made < 0) return null;
+  const { w: width, h: height } = list[made];
+  const last = lowest(list, place + 1, write => write.place) - 1;
+  const bytes = texelsAfter(image, list, made, last);
+  const wrote = [];
+  for (let at = last; at >= made && list[at].place === place; at -= 1) wrote.push(list[at]);
+  return { image, width, height, bytes, wrote };
+}
+
+// The texels of an image after one of its writes, on from where they were last asked for, or from a write of all of it.
+const latest = new Map();
+function texelsAfter(image, list, made, last) {
+  const { w: width, h: height } = list[made];
+  let from = last;
+  while (from > made && !(list[from].w === width && list[from].h === height && list[from].at >= 0)) from -= 1;
+  const known = latest.get(image), goesOn = known && known.bytes && known.made === made && known.last >= from && known.last <= last;
+  let bytes = goesOn ? known.bytes : new Uint8Array(4 * width * height);
+  for (let at = goesOn ? known.last + 1 : from; at <= last && bytes; at += 1) {
+    if (list[at].at < 0) bytes = null; else put(bytes, width, list[at]);
+  }
+  latest.set(image, { made, last, bytes });
+  return bytes;
+}
+
+function put(bytes, width, { x, y, w, h, at, size }) {
+  const given = texels();
+  for (let row = 0; row < h && w; row += 1) {
+    const to = 4 * ((y + row) * width + x);
+    if (size > 4) bytes.set(given.subarray(at + 4 * row * w, at + 4 * (row + 1) * w), to);
+    else for (let texel = 0; texel < w; texel += 1) bytes.set(given.subarray(at, at + 4), to + 4 * texel);
+  }
+}
+
+// The events that wrote a texel of an image.
+function writersOf(image, x, y) {
+  return (writesOf.get(image) ?? []).filter(write => write.kind !== GONE
+    && x >= write.x && x < write.x + write.w && y >= write.y && y < write.y + write.h);
+}
+
+// ---- Showing
+
+function scaleOf({ width, height }) {
+  return Math.max(1, Math.floor(FIGURE / Math.max(width, height)));
+}
+
+function paint(canvas, shown, texel) {
+  const { width, height, bytes, wrote } = shown, scale = scaleOf(shown);
+  canvas.width = width * scale;
+  canvas.height = height * scale;
+  const pen = canvas.getContext("2d");
+  if (bytes) {
+    const plain = document.createElement("canvas");
+    plain.width = width;
+    plain.height = height;
+    plain.getContext("2d").putImageData(new ImageData(new Uint8ClampedArray(bytes.buffer), width, height), 0, 0);
+    pen.imageSmoothingEnabled = false;
+    pen.drawImage(plain, 0, 0, canvas.width, canvas.height);
+  }
+  const thick = Math.max(1, Math.ceil(canvas.width / 200));
+  for (const { x, y, w, h } of wrote) if (w && h) outline(pen, x * scale, y * scale, w * scale, h * scale, thick);
+  if (texel) outline(pen, texel.x * scale, texel.y * scale, scale, scale, thick, "--match");
+}
+
+function outline(pen, x, y, w, h, thick, colour = "--focus") {
+  const edge = (style, inset) => {
+    pen.strokeStyle = style;
+    pen.lineWidth = thick;
+    pen.strokeRect(x + inset, y + inset, Math.max(1, w - 2 * inset), Math.max(1, h - 2 * inset));
+  };
+  edge("#fff", 1.5 * thick);
+  edge(getComputedStyle(document.documentElement).getPropertyValue(colour).trim(), 0.5 * thick);
+}
+
+const picked = { image: -1, x: 0, y: 0 };
+
+function figure(parent, shown, place) {
+  const { image, width, height, bytes, wrote } = shown, box = tag(parent, "figure");
+  const ground = tag(box, "div", undefined, "ground"), canvas = tag(ground, "canvas");
+  const count = wrote.reduce((sum, write) => sum + write.w * write.h, 0);
+  const what = wrote.length ? `${counted(count, "texel")} written by this event` : "not written by this event";
+  canvas.tabIndex = 0;
+  canvas.dataset.image = image;
+  canvas.setAttribute("role", "application");
+  canvas.setAttribute("aria-roledescription", "image");
+  canvas.setAttribute("aria-label", `image ${image}, ${width} by ${height}, after event ${place + 1}; ${what}. `
+    + "Arrow keys go from texel to texel, and list the events that wrote it.");
+  const text = tag(box, "figcaption");
+  tag(text, "b", `image ${image}`);
+  tag(text, "span", ` ${width} by ${height}`);
+  tag(text, "br");
+  tag(text, "span", bytes ? what : "its texels are left out of this page");
+  paint(canvas, shown, picked.image === image ? picked : undefined);
+  canvas.addEventListener("click", event => {
+    const bounds = canvas.getBoundingClientRect();
+    pick(shown, Math.floor((event.clientX - bounds.x) / bounds.width * width),
+      Math.floor((event.clientY - bounds.y) / bounds.height * height));
+  });
+  canvas.addEventListener("keydown", event => {
+    const move = { ArrowRight: [1, 0], ArrowLeft: [-1, 0], ArrowDown: [0, 1], ArrowUp: [0, -1], Enter: [0, 0] }[event.key];
+    if (!move) return;
+    event.preventDefault();
+    const from = picked.image === image ? picked : { x: -move[0], y: -move[1] };
+    pick(shown, from.x + move[0], from.y + move[1]);
+  });
+}
+
+function pick(shown, x, y) {
+  Object.assign(picked, { image: shown.image, x: limited(x, 0, shown.width - 1), y: limited(y, 0, shown.height - 1) });
+  for (const canvas of element("pictures").querySelectorAll("canvas")) {
+    const image = Number(canvas.dataset.image);
+    paint(canvas, imageAt(image, view.chosen), image === picked.image ? picked : undefined);
+  }
+  tellTexel();
+}
+
+function texelText(shown, x, y) {
+  if (!shown?.bytes || x >= shown.width || y >= shown.height) return "";
+  const at = 4 * (y * shown.width + x);
+  return [...shown.bytes.subarray(at, at + 4)].map(channel => channel.toString(16).padStart(2, "0")).join("");
+}
+
+function tellTexel() {
+  const box = element("texel");
+  box.replaceChildren();
+  box.hidden = picked.image < 0;
+  if (box.hidden) return;
+  const { image, x, y } = picked, found = writersOf(image, x, y), value = texelText(imageAt(image, view.chosen), x, y);
+  tag(box, "h3", `Texel ${x}, ${y} of image ${image}${value ? `: ${value}` : ""}`);
+  tag(box, "p", found.length ? `${counted(found.length, "event")} wrote it:` : "No event wrote it.");
+  const list = tag(box, "ul");
+  const before = lowest(found, view.chosen + 1, write => write.place);
+  const first = limited(before - WRITERS_SHOWN / 2, 0, Math.max(0, found.length - WRITERS_SHOWN));
+  for (const { place } of found.slice(first, first + WRITERS_SHOWN)) {
+    const item = tag(list, "li", undefined, place === view.chosen ? "chosen" : "");
+    link(item, place);
+    tag(item, "span", ` ${data.notes[place]}`);
+  }
+  const rest = found.length - Math.min(found.length, WRITERS_SHOWN);
+  if (rest) tag(box, "p", `${shown(rest)} more are not listed.`);
+}
+
+function tellImages() {
+  const place = view.chosen, box = element("pictures");
+  element("images").hidden = !writes.length;
+  if (!writes.length) return;
+  element("images-head").textContent = `Images after event ${shown(place + 1)}`;
+  const there = imageNumbers.filter(image => making(writesOf.get(image), place) >= 0);
+  const wrote = new Set(there.filter(image => writesOf.get(image).some(write => write.place === place)));
+  const order = there.length > IMAGES_SHOWN ? [...wrote, ...there.filter(image => !wrote.has(image))].slice(0, IMAGES_SHOWN) : there;
+  const held = box.contains(document.activeElement) ? document.activeElement.dataset.image : undefined;
+  box.replaceChildren();
+  for (const image of order) figure(box, imageAt(image, place), place);
+  if (held !== undefined) box.querySelector(`[data-image="${held}"]`)?.focus({ preventScroll: true });
+  const rest = there.length - order.length;
+  let text = there.length ? "" : "No image is there.";
+  if (rest) text += `${shown(rest)} more images are there, which this event did not write. `;
+  if (data.leftOut.length) {
+    text += `The texels of ${counted(data.leftOut[2], "event")}, from event ${shown(data.leftOut[0] + 1)} on, are left out: `
+      + "a page keeps at most 64 MiB of them. ";
+  }
+  element("images-note").textContent = text;
+  tellTexel();
+}

@@ -1,0 +1,127 @@
+"""Waits of order numbers: which are kept, which are dropped and why, and which event ends them."""
+
+from dataclasses import dataclass, field
+from heapq import heappop, heappush
+from typing import TYPE_CHECKING
+
+if TYPE_CHECKING:
+    from .output import Mark
+    from .standing import Standing
+
+
+@dataclass(eq=False)
+class Wait:
+    """The wait of a number for a stream to come to a release. Places of the journal count from 0."""
+
+    stream: int
+    number: int
+    target: int
+    release: int
+    by: str  # `fence`, or the name of the command
+    made: int  # the event that made it
+    position: int  # among the waits of its number
+    how: str = "pending"  # or `release`, `guard`, `closed`, `gone` with its own stream, or `dropped`
+    why: str = ""  # of a wait that was dropped
+    ended: int = -1  # the event that ended it, or with which it was gone
+    lets: int = -1  # the event of the waiter that could come then
+    mark: "Mark | None" = None
+
+    def __str__(self) -> str:
+        return f"stream {self.target} to come to release {self.release}"
+
+
+@dataclass
+class Queue:
+    """The pending waits on one stream, the next to end first: by their release, and by their number."""
+
+    by_release: list[tuple[int, int, int, Wait]] = field(default_factory=list)
+    by_number: list[tuple[int, int, Wait]] = field(default_factory=list)
+
+
+class Waits:
+    """All waits of a journal, in the order in which they were made, and those that ended, as the output has their marks."""
+
+    def __init__(self, standing: "Standing") -> None:
+        self.standing = standing
+        self.all: list[Wait] = []
+        self.ended: list[Wait] = []
+        self.on: dict[int, Queue] = {}  # by the stream that is waited for
+        self.of: dict[int, dict[int, list[Wait]]] = {}  # the pending ones, by stream and number
+        self.made: dict[int, int] = {}  # how many waits a number has made
+
+    def make(self, stream: int, number: int, target: int, release: int, by: str, place: int = -1) -> Wait:
+        """A new wait, which is kept or dropped."""
+        position = self.made[number] = self.made.get(number, -1) + 1
+        wait = Wait(stream, number, target, release, by, self.standing.count, position)
+        wait.why = self.why_dropped(wait)
+        if wait.why:
+            wait.how, wait.ended = "dropped", wait.made
+            self.all.append(wait)
+            return wait
+        early = self.guessed(wait)
+        if early is not None:
+            early.by, early.made, early.position = by, wait.made, position
+            return early
+        self.all.append(wait)
+        queue = self.on.setdefault(target, Queue())
+        heappush(queue.by_release, (release, number, position, wait))
+        heappush(queue.by_number, (number, position, wait))
+        self.of.setdefault(stream, {}).setdefault(number, []).append(wait)
+        return wait
+
+    def guessed(self, wait: Wait) -> Wait | None:
+        """The fence that was taken from the mark of this wait, where the script is not known.
+
+        A number works only while none of its waits is pending. So a pending fence is no fence, but the mark of what a
+        command of the number makes now.
+        """
+        if wait.by == "fence":
+            return None
+        pending = self.pending(wait.stream, wait.number)
+        return next((one for one in pending if (one.target, one.release) == (wait.target, wait.release)), None)
+
+    def why_dropped(self, wait: Wait) -> str:
+        """Why a wait is dropped at once, or nothing."""
+        target = self.standing.stream(wait.target)
+        if target is None:
+            return f"there is no stream {wait.target}" if wait.target else "there is no such stream"
+        if wait.target == wait.stream:
+            return "a stream does not wait for itself"
+        if target.gone is not None:
+            return f"stream {wait.target} is {'closed' if target.gone.kind == 'close' else 'lost'}"
+        if target.release >= wait.release:
+            return f"stream {wait.target} has come to release {target.release} already"
+        if target.front is None or target.front > wait.number:
+            return f"stream {wait.target} has no unprocessed number below {wait.number}"
+        return ""
+
+    def settle(self, stream: int) -> tuple[Wait, ...]:
+        """Ends the waits on a stream that have come to their end by now, in the order of their marks."""
+        queue, target = self.on.get(stream), self.standing.stream(stream)
+        if queue is None or target is None:
+            return ()
+        ended = []
+        while queue.by_release and queue.by_release[0][0] <= target.release:
+            ended.append((heappop(queue.by_release)[-1], "release"))
+        how = "closed" if target.gone is not None and target.gone.kind == "close" else "guard"
+        while queue.by_number and (target.front is None or queue.by_number[0][0] < target.front):
+            ended.append((heappop(queue.by_number)[-1], how))
+        told = [self.end(wait, how) for wait, how in ended if wait.how == "pending"]
+        told.sort(key=lambda wait: (wait.number, wait.position))
+        self.ended += told
+        return tuple(told)
+
+    def end(self, wait: Wait, how: str) -> Wait:
+        wait.how, wait.ended = how, self.standing.count
+        self.of[wait.stream][wait.number].remove(wait)
+        return wait
+
+    def leave(self, stream: int) -> list[Wait]:
+        """The pending waits of a stream that is lost or closed, which are gone."""
+        gone = [wait for waits in self.of.pop(stream, {}).values() for wait in waits]
+        for wait in gone:
+            wait.how, wait.ended = "gone", self.standing.count
+        return gone
+
+    def pending(self, stream: int, number: int) -> list[Wait]:
+        return self.of.get(stream, {}).get(number, [])

@@ -1,0 +1,206 @@
+"""What the commands of a journal do, carried out and said in words."""
+
+from collections.abc import Iterable, Sequence
+from typing import TYPE_CHECKING, NamedTuple
+
+from . import commands, faults
+from .images import Failed, Written, texels_of
+from .output import Event, words_of
+from .plain import counted, joined
+from .table import NOOP, TABLE
+
+if TYPE_CHECKING:
+    from .standing import Stand, Standing
+    from .waits import Wait
+
+
+class Deed(NamedTuple):
+    """What one event did."""
+
+    text: str = ""
+    mark: str = ""  # `failed`, `dropped` or `lost`, where it is one of these
+    error: str = ""  # of a failed image command, or the name of that of a loss
+    command: commands.Command | None = None  # of a step or a loss
+    waits: "tuple[Wait, ...]" = ()  # that it made, kept or dropped
+    ended: "tuple[Wait, ...]" = ()
+
+
+HOW = {"release": "by a release", "guard": "by a guard", "closed": "by a close"}
+
+
+def steps(count: int) -> str:
+    return counted(count, "step")
+
+
+def endings(ended: "Iterable[Wait]") -> str:
+    """The waits that an event ended, behind what else it did."""
+    return "".join(f"; ends the wait of number {wait.number} of stream {wait.stream} {HOW[wait.how]}" for wait in ended)
+
+
+def gone_waits(gone: "Sequence[Wait]") -> str:
+    return f"; {counted(len(gone), 'wait')} of the stream {'is' if len(gone) == 1 else 'are'} gone" if gone else ""
+
+
+def dropped_numbers(left: list[int]) -> str:
+    return f"; {'number' if len(left) == 1 else 'numbers'} {joined(left)} {'ends' if len(left) == 1 else 'end'} here" if left else ""
+
+
+def execute(standing: "Standing", event: Event, stand: "Stand") -> Deed:
+    """Does what a step does. Words that are no whole command do nothing."""
+    words = words_of(event.words)
+    command = commands.decode(words)
+    stand.at = words[0][0] + command.size
+    stand.entries += command.size
+    stand.fetched += len(words)
+    size = commands.entries_wanted(command.id, command.size)
+    if command.id not in TABLE or command.size < TABLE[command.id][1] or len(words) < size:
+        return Deed("these words are no whole command, and nothing is done", "failed", "no command", command)
+    fault = faults.fault_of_arguments(command) or faults.fault_of_store(command, stand)
+    if fault is not None:
+        why = f"these words fail check {fault.check}, and nothing is done: {fault.why}"
+        return Deed(why, "failed", f"check {fault.check}", command)
+    data = b"".join(value.to_bytes(4, "little") for _, value in words[size:])
+    match command.name:
+        case "Noop":
+            return Deed("passes over them", command=command)
+        case "SetToken":
+            return Deed(set_token(command, stand), command=command)
+        case "InsertFence":
+            return release(standing, event, command, stand)
+        case "WaitToken" | "WaitSyncToken":
+            return wait(standing, event, command, stand)
+        case name if name in IMAGE_COMMANDS:
+            return draw(standing, command, stand, data)
+    return Deed(keep(command, stand, [value for _, value in words[4:size]], data), command=command)
+
+
+def set_token(command: commands.Command, stand: "Stand") -> str:
+    token = command.values["token"]
+    before = f" after {stand.last_token}" if stand.token is not None else ""
+    stand.last_token = token
+    stand.token = token if stand.token is None else max(stand.token, token)
+    return f"the token is {token}{before}"
+
+
+def release(standing: "Standing", event: Event, command: commands.Command, stand: "Stand") -> Deed:
+    before, stand.release = stand.release, max(stand.release, command.values["release"])
+    ended = standing.waits.settle(event.stream)
+    done = f"the release count rises from {before} to {stand.release}" if before < stand.release else \
+        f"the release count stays {before}"
+    return Deed(done + endings(ended), command=command, ended=ended)
+
+
+def wait(standing: "Standing", event: Event, command: commands.Command, stand: "Stand") -> Deed:
+    told = command.values
+    target = standing.numbers.get((told["namespace"], told["id"]), 0) if "id" in told else told["stream"]
+    made = standing.waits.make(event.stream, stand.open[0].number, target, told["release"], command.name)
+    if made.how == "dropped":
+        why = f"no stream is called ({told['namespace']}, {told['id']})" if "id" in told and not target else made.why
+        return Deed(f"dropped: {why}", "dropped", "", command, (made,))
+    waited = standing.stream(target)
+    return Deed(f"waits for {made}, which has come to {waited.release if waited else 0}", "", "", command, (made,))
+
+
+# --- Images ---
+
+IMAGE_COMMANDS = ("CreateImage", "DeleteImage", "ClearRect", "CopyRect", "UploadRect", "UploadBucket", "UploadBuffer")
+
+
+def draw(standing: "Standing", command: commands.Command, stand: "Stand", data: bytes) -> Deed:
+    """The commands on images. What cannot be done changes nothing, and is counted."""
+    try:
+        standing.written = written = written_by(standing, command, stand, data)
+    except Failed as failed:
+        stand.errors[failed.error] += 1
+        return Deed(f"failed, {failed.error}: {failed.why}", "failed", failed.error, command)
+    return Deed(drawn(command, written), command=command)
+
+
+def written_by(standing: "Standing", command: commands.Command, stand: "Stand", data: bytes) -> Written:
+    told, images = command.values, standing.images
+    if command.name == "CreateImage":
+        return images.create(told["image"], told["width"], told["height"])
+    if command.name == "DeleteImage":
+        return images.delete(told["image"])
+    if command.name == "CopyRect":
+        return images.copy(*(told[field] for field in ("source", "source_x", "source_y", "target", "target_x", "target_y", "w", "h")))
+    image, x, y, w, h = (told[field] for field in ("image", "x", "y", "w", "h"))
+    images.inside(image, x, y, w, h)
+    if command.name == "ClearRect":
+        return images.write(image, x, y, w, h, told["texel"].to_bytes(4, "big"))
+    return images.write(image, x, y, w, h, texels_of(told["format"], uploaded(command, stand, data)))
+
+
+def uploaded(command: commands.Command, stand: "Stand", data: bytes) -> bytes:
+    """The bytes that an upload takes; zeros where a journal that is not legal has too few."""
+    told = command.values
+    size = faults.size_wanted(command)
+    if command.name == "UploadRect":
+        found = data[told["memory_offset"] % 4:]
+    elif command.name == "UploadBucket":
+        found = bytes(stand.buckets[told["bucket"]])
+    else:
+        found = bytes(stand.buffers[told["buffer"]][told["offset"]:])
+    return found[:size].ljust(size, b"\0")
+
+
+def drawn(command: commands.Command, written: Written) -> str:
+    many = counted(written.w * written.h, "texel")
+    match command.name:
+        case "CreateImage":
+            return f"image {written.image} is made, {written.w} by {written.h}"
+        case "DeleteImage":
+            return f"image {written.image} is gone"
+        case "CopyRect":
+            return f"copies {many} to image {written.image}"
+        case "ClearRect":
+            return f"sets {many} of image {written.image}"
+        case _:
+            return f"uploads {many} to image {written.image}"
+
+
+# --- Buckets and buffers ---
+
+
+def store(thing: bytearray, offset: int, data: bytes) -> None:
+    thing[offset:offset + len(data)] = data
+
+
+def keep(command: commands.Command, stand: "Stand", given: list[int], data: bytes) -> str:
+    """The commands on buckets and buffers, with the entries of data that were given."""
+    told = command.values
+    match command.name:
+        case "SetBucketSize":
+            bucket, size = told["bucket"], told["size"]
+            if len(stand.buckets.get(bucket, b"x" * (size + 1))) == size:
+                return f"bucket {bucket} has {counted(size, 'byte')} already, and keeps them"
+            stand.buckets[bucket] = bytearray(size)
+            return f"bucket {bucket} has {counted(size, 'byte')} of 0"
+        case "SetBucketData":
+            store(stand.buckets[told["bucket"]], told["offset"], data[told["memory_offset"] % 4:][:told["size"]])
+            return f"writes {counted(told['size'], 'byte')} into bucket {told['bucket']}"
+        case "SetBucketDataImmediate":
+            immediate = b"".join(value.to_bytes(4, "little") for value in given)
+            store(stand.buckets[told["bucket"]], told["offset"], immediate[:told["size"]])
+            return f"writes {counted(told['size'], 'byte')} into bucket {told['bucket']}"
+        case "CreateBuffer":
+            stand.buffers[told["buffer"]] = bytearray(told["size"])
+            return f"buffer {told['buffer']} is made, of {counted(told['size'], 'byte')}"
+        case "DeleteBuffer":
+            del stand.buffers[told["buffer"]]
+            return f"buffer {told['buffer']} is gone"
+        case "BufferData":
+            store(stand.buffers[told["buffer"]], told["offset"], data[told["memory_offset"] % 4:][:told["size"]])
+            return f"writes {counted(told['size'], 'byte')} into buffer {told['buffer']}"
+        case _:
+            return read_back(command, stand)
+
+
+def read_back(command: commands.Command, stand: "Stand") -> str:
+    """GetBucketStart and GetBucketData, which write result memories."""
+    told = command.values
+    if command.name == "GetBucketData":
+        return f"writes {counted(told['size'], 'byte')} of bucket {told['bucket']} to result memory {told['memory']}"
+    size = len(stand.buckets[told["bucket"]])
+    data = f" and {counted(min(size, told['data_size']), 'byte')} to result memory {told['data_memory']}" if told["data_size"] else ""
+    return f"writes the size of bucket {told['bucket']}, {size}, to result memory {told['size_memory']}{data}"
