@@ -10,8 +10,10 @@ import sys
 from pathlib import Path
 
 sys.path[:1] = [str(Path(__file__).resolve().parent.parent), str(Path(__file__).resolve().parent.parent / "python")]
-from view import explain, files, pictures, timeline  # noqa: E402
+from view import explain, files, looking, pictures, timeline  # noqa: E402
+from view.compare import NotOfOneScript  # noqa: E402
 from view.output import Refused, read_output  # noqa: E402
+from view.sources import NoScript, ReadFault, read_script  # noqa: E402
 
 USAGE, READ_FAULT, WRITE_FAULT, REFUSED, NO_MEMORY = 2, 3, 4, 5, 6
 
@@ -41,11 +43,14 @@ def words():
     tool = tools.add_parser("pictures", allow_abbrev=False, help="write the images of an output as PNG files, and a sheet")
     tool.add_argument("--into", metavar="FOLDER", type=Path, default=Path("pictures"), help="where to (left out: pictures)")
     tool.add_argument("--scale", metavar="N", type=scale, default=1, help="repeat each texel N times (left out: 1)")
+    tool.add_argument("--at", metavar="N", type=looking.number, help="as they were after event N (left out: at the end)")
     tool = tools.add_parser("timeline", allow_abbrev=False, help="write the history of an output as a trace or as a page")
     tool.add_argument("--trace", metavar="FILE", type=file_name, help="for Perfetto and chrome://tracing")
     tool.add_argument("--page", metavar="FILE", type=file_name, help="one HTML file that needs nothing else")
+    looking.add_script(tool)
     tool = tools.add_parser("explain", allow_abbrev=False, help="run verify, and say what its answer means")
     tool.add_argument("--program", metavar="FILE", type=Path, help="the program that verifies (left out: that of ./zorvleid)")
+    looking.add_tools(tools)
     asked = parser.parse_args()
     if asked.tool == "timeline":
         names = [name for name in (asked.trace, asked.page) if name]
@@ -74,9 +79,9 @@ def show(asked, data):
         return complain("refused: the output is empty, and nothing is written: did the run before fail?", REFUSED)
     output = read_output(data)
     if asked.tool == "pictures":
-        pictures.write(output, asked.into, asked.scale)
+        pictures.write(output, asked.into, asked.scale, asked.at)
     else:
-        timeline.write(output, asked.trace, asked.page)
+        timeline.write(output, asked.trace, asked.page, read_script(asked.script))
     return 0
 
 
@@ -84,11 +89,15 @@ def main():
     signal.signal(signal.SIGPIPE, signal.SIG_DFL)
     try:
         asked = words()
+        if asked.tool in looking.TOOLS:
+            return looking.TOOLS[asked.tool](asked)
         data = read()
         return explain.explain(data, asked.program) if asked.tool == "explain" else show(asked, data)
-    except Refused as refused:
+    except (Refused, NoScript, NotOfOneScript) as refused:
         return complain(refused, REFUSED)
-    except (pictures.TooLarge, files.WrongName) as wrong:
+    except ReadFault as fault:
+        return complain(fault, READ_FAULT)
+    except (pictures.TooLarge, pictures.NoEvent, files.WrongName) as wrong:
         return complain(f"bad command line: {wrong}", USAGE)
     except files.WriteFault as fault:
         return complain(fault, WRITE_FAULT)

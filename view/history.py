@@ -11,6 +11,7 @@ from .images import Picture
 from .output import Event, Image, Mark, Output, Refused, Stream
 from .plain import counted
 from .script import Script
+from .sources import NoScript
 from .standing import Bar, Stand, Standing
 from .waits import Wait
 from .working import Deed
@@ -19,10 +20,6 @@ BASE = 1000
 ENDINGS = {"release": 0, "guard": 1, "closed": 2}
 CODES = {"done": "", "closed": "close", "lost memory": "memory"}
 COUNTS = ("entries", "release", "token", "words", "error 0501", "error 0502", "error 0505")
-
-
-class NoScript(Exception):
-    """A script that is not the one of the output."""
 
 
 def rings(output: Output) -> list[int | None]:
@@ -45,8 +42,17 @@ def standing_of(output: Output, script: Script | None = None) -> Standing:
     if script is None:
         return Standing([Stand(None, ring) for ring in rings(output)], names, output.marks)
     if script.names != names:
-        raise NoScript(f"the script has {counted(len(script.plans), 'stream')} of other names than the output")
+        raise NoScript("refused: the script is of another run: its streams are not those of the output")
     return Standing([Stand(plan) for plan in script.plans], names)
+
+
+def images_after(output: Output, count: int) -> list[Image]:
+    """The images as they were after so many events."""
+    standing = standing_of(output)
+    for event in output.events[:count]:
+        standing.take(event)
+    return [Image(number, picture.width, picture.height, bytes(picture.texels))
+            for number, picture in sorted(standing.images.pictures.items())]
 
 
 class History:

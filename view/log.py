@@ -37,7 +37,8 @@ def what(history: History, place: int) -> str:
     if event.kind == "step" and deed.command is not None:
         return f"{commands.sentence(deed.command)}; {history.text(place)}"
     if event.kind == "lost":
-        at = f" at {commands.sentence(deed.command)}" if deed.command else ""
+        is_known = deed.command is not None and deed.command.id in commands.TABLE
+        at = f" at {commands.sentence(deed.command)}" if deed.command is not None and is_known else ""
         return f"lost by {deed.error}{at}; {history.text(place)}"
     return f"{event.kind}: {history.text(place)}"
 
@@ -79,11 +80,12 @@ class Progress:
     """How far a long work is, on standard error where that is a terminal."""
 
     def __init__(self, total: int) -> None:
-        self.total, self.is_told = total, total >= MANY and sys.stderr.isatty()
+        self.total, self.count, self.is_told = total, 0, total >= MANY and sys.stderr.isatty()
 
-    def reach(self, count: int) -> None:
-        if self.is_told and count % EVERY == 0:
-            print(f"\r{count:,} of {self.total:,} events", end="", file=sys.stderr, flush=True)
+    def step(self) -> None:
+        self.count += 1
+        if self.is_told and self.count % EVERY == 0:
+            print(f"\r{self.count:,} of {self.total:,} events", end="", file=sys.stderr, flush=True)
 
     def end(self) -> None:
         if self.is_told:

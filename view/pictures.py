@@ -1,52 +1,118 @@
 """The images of an output as PNG files, with exactly the texels that are printed, and a sheet that shows them all."""
 
+from collections.abc import Iterable, Sequence
+from html import escape
 from pathlib import Path
 
 from . import files
+from .history import History, images_after
+from .log import what
+from .output import Image, Output, Refused
+from .page import NAMING
+from .plain import counted
 from .png import png
 
 PIXELS_AT_MOST = 1 << 26
 SCALE_AT_MOST = 64
+MARKS_TOLD = 100
 
 
 class TooLarge(Exception):
     """An image that would have too many pixels."""
 
 
-def picture(image, scale):
+class NoEvent(Exception):
+    """A number that no event of an output has."""
+
+
+def picture(image: Image, scale: int) -> bytes:
     """The bytes of a PNG file that repeats each texel `scale` times in both directions."""
     if image.width * image.height * scale * scale > PIXELS_AT_MOST:
         raise TooLarge(f"image {image.number} would have more than {PIXELS_AT_MOST:,} pixels")
     return png(image.width, image.height, image.texels, scale)
 
 
-def name_of(image):
+def name_of(image: Image) -> str:
     return f"image-{image.number}.png"
 
 
-def size_of(image):
+def size_of(image: Image) -> str:
     return f"{image.width} by {image.height}"
 
 
-def figure(image):
-    """One image on the sheet, which shows its texels large enough to be seen."""
+def figure(image: Image, failed: int) -> str:
+    """One image on the sheet, which shows its texels large enough to be seen, and how many commands on it failed."""
     grown = max(1, 160 // max(image.width, image.height))
+    mark = f'<br><span class="failed">{counted(failed, "command")} on it failed</span>' if failed else ""
     return (f'<figure><div class="ground"><img src="{name_of(image)}" width="{image.width * grown}" '
             f'height="{image.height * grown}" alt="image {image.number}, {size_of(image)} texels"></div>'
-            f"<figcaption><b>image {image.number}</b><br>{size_of(image)}</figcaption></figure>")
+            f"<figcaption><b>image {image.number}</b><br>{size_of(image)}{mark}</figcaption></figure>")
 
 
-def sheet(images, scale):
-    count = "no image" if not images else "1 image" if len(images) == 1 else f"{len(images)} images"
+class Marks:
+    """The commands of an output that failed, the waits that were dropped, and the losses, up to an event."""
+
+    def __init__(self, output: Output, count: int) -> None:
+        self.why_none = ""
+        self.lines: list[str] = []
+        self.count = {"failed": 0, "dropped": 0, "lost": 0}
+        self.on: dict[int, int] = {}  # by image, how many commands on it failed
+        if output.is_verdict:
+            return
+        try:
+            history = History(output)
+        except Refused as refused:
+            self.why_none = f"What its commands did is not told: {refused}."
+            return
+        for place, deed in enumerate(history.deeds[:count]):
+            if deed.mark:
+                self.count[deed.mark] += 1
+                if deed.mark != "dropped":
+                    self.lines.append(f"event {place + 1}: {what(history, place)}")
+            told = deed.command.values if deed.mark == "failed" and deed.command else {}
+            for image in {told[field] for field in NAMING if field in told}:
+                self.on[image] = self.on.get(image, 0) + 1
+
+    def sentence(self) -> str:
+        names = {"failed": ("command failed", "commands failed"), "dropped": ("wait was dropped", "waits were dropped"),
+                 "lost": ("stream was lost", "streams were lost")}
+        return ", ".join(counted(self.count[mark], *names[mark]) for mark in names if self.count[mark])
+
+    def items(self) -> str:
+        if not self.lines:
+            return ""
+        rest = len(self.lines) - MARKS_TOLD
+        items = [escape(line) for line in self.lines[:MARKS_TOLD]] + ([f"and {rest:,} more"] if rest > 0 else [])
+        return "<h2>Failed commands and losses</h2><ul>" + "".join(f"<li>{item}</li>" for item in items) + "</ul>"
+
+
+def sheet(images: Sequence[Image], scale: int, marks: Marks, of: str = "The output has") -> str:
+    count = "no image" if not images else counted(len(images), "image")
     repeated = f"; the files repeat each texel {scale} times in both directions" if images and scale > 1 else ""
+    told = f" {marks.sentence()}." if marks.sentence() else f" {marks.why_none}" if marks.why_none else ""
     page = files.part_of_page("sheet.html")
-    page = page.replace("{{summary}}", f"The output has {count}{repeated}.")
-    return page.replace("{{figures}}", "\n".join(map(figure, images)))
+    page = page.replace("{{summary}}", escape(f"{of} {count}{repeated}.{told}"))
+    page = page.replace("{{figures}}", "\n".join(figure(image, marks.on.get(image.number, 0)) for image in images))
+    return page.replace("{{marks}}", marks.items())
 
 
-def write(output, folder, scale=1):
-    """Writes the pictures of an output and the sheet into a folder."""
-    made = [(Path(folder) / name_of(image), picture(image, scale)) for image in output.images]
-    made.append((Path(folder) / "index.html", sheet(output.images, scale).encode()))
+def images_of(output: Output, at: int | None) -> tuple[Iterable[Image], int, str]:
+    """The images to draw, the number of events behind them, and how the sheet begins to tell of them."""
+    if at is None:
+        return output.images, len(output.events), "The output has"
+    if output.is_verdict:
+        raise Refused(1, "the output of verify has no journal")
+    if at > len(output.events):
+        raise NoEvent(f"--at {at}: the output has {counted(len(output.events), 'event')}")
+    return images_after(output, at), at, f"After event {at:,} of {len(output.events):,} the run has"
+
+
+def write(output: Output, folder: Path, scale: int = 1, at: int | None = None) -> None:
+    """Writes the pictures of an output and the sheet into a folder: those at its end, or those after an event."""
+    found, count, of = images_of(output, at)
+    images = list(found)
+    made = [(Path(folder) / name_of(image), picture(image, scale)) for image in images]
+    marks = Marks(output, count)
+    made.append((Path(folder) / "index.html", sheet(images, scale, marks, of).encode()))
     files.make_folder(folder)
     files.write_all(made)

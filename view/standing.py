@@ -12,7 +12,7 @@ from . import faults, working
 from .commands import Command, decode
 from .images import Images, Written
 from .output import Event, Mark, Name, Refused, words_of
-from .script import Plan
+from .script import Plan, Target
 from .table import ERRORS
 from .waits import Waits
 from .working import Deed
@@ -88,6 +88,10 @@ class Stand:
         return heappop(self.free)
 
 
+def name_of(target: Target) -> Name | None:
+    return target if isinstance(target, tuple) else None
+
+
 class Standing:
     """How all streams stand after some events of a journal."""
 
@@ -135,9 +139,9 @@ class Standing:
         if event.number != self.drawn + 1:
             raise Refused(event.line, f"the next order number is {self.drawn + 1}")
         if stand.plan is not None and stand.plan.flushes[stand.ordered:stand.ordered + 1] != [event.actions]:
-            raise Refused(event.line, "the script has another flush here")
-        waits = tuple(self.waits.make(event.stream, event.number, target, release, "fence", place)
-                      for place, (target, release) in enumerate(self.fences(event, stand)))
+            raise Refused(event.line, "the script is of another run: it has no such flush")
+        waits = tuple(self.waits.make(event.stream, event.number, self.number_of(target), release, "fence", name_of(target))
+                      for target, release in self.fences(event, stand))
         bar = Bar(event.stream, event.number, self.count, stand.take_row(), stand.ordered)
         if stand.plan is not None:
             bar.put = stand.plan.put_of(event.actions)
@@ -146,13 +150,13 @@ class Standing:
         self.bars.append(bar)
         return bar, Deed("", "dropped" if any(wait.how == "dropped" for wait in waits) else "", waits=waits)
 
-    def fences(self, event: Event, stand: Stand) -> list[tuple[int, int]]:
+    def fences(self, event: Event, stand: Stand) -> Iterable[tuple[Target, int]]:
         """The fences of a flush: those of the script, or else all waits of the number that have a mark."""
         if stand.plan is None:
-            return list(self.marked.get(event.number, Counter()).elements())
-        return [(self.number_of(target), release) for target, release in stand.plan.fences_of(event.actions)]
+            return self.marked.get(event.number, Counter()).elements()
+        return stand.plan.fences_of(event.actions)
 
-    def number_of(self, target: int | tuple[int, int]) -> int:
+    def number_of(self, target: Target) -> int:
         """The number of a stream that is told by its number or by its name."""
         return self.numbers.get(target, 0) if isinstance(target, tuple) else target
 

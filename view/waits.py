@@ -5,7 +5,7 @@ from heapq import heappop, heappush
 from typing import TYPE_CHECKING
 
 if TYPE_CHECKING:
-    from .output import Mark
+    from .output import Mark, Name
     from .standing import Standing
 
 
@@ -25,9 +25,11 @@ class Wait:
     ended: int = -1  # the event that ended it, or with which it was gone
     lets: int = -1  # the event of the waiter that could come then
     mark: "Mark | None" = None
+    name: "Name | None" = None  # of the stream, where that is how it was told
 
     def __str__(self) -> str:
-        return f"stream {self.target} to come to release {self.release}"
+        stream = f"({self.name[0]}, {self.name[1]})" if self.name and not self.target else str(self.target)
+        return f"stream {stream} to come to release {self.release}"
 
 
 @dataclass
@@ -49,10 +51,10 @@ class Waits:
         self.of: dict[int, dict[int, list[Wait]]] = {}  # the pending ones, by stream and number
         self.made: dict[int, int] = {}  # how many waits a number has made
 
-    def make(self, stream: int, number: int, target: int, release: int, by: str, place: int = -1) -> Wait:
+    def make(self, stream: int, number: int, target: int, release: int, by: str, name: "Name | None" = None) -> Wait:
         """A new wait, which is kept or dropped."""
         position = self.made[number] = self.made.get(number, -1) + 1
-        wait = Wait(stream, number, target, release, by, self.standing.count, position)
+        wait = Wait(stream, number, target, release, by, self.standing.count, position, name=name)
         wait.why = self.why_dropped(wait)
         if wait.why:
             wait.how, wait.ended = "dropped", wait.made
@@ -84,7 +86,7 @@ class Waits:
         """Why a wait is dropped at once, or nothing."""
         target = self.standing.stream(wait.target)
         if target is None:
-            return f"there is no stream {wait.target}" if wait.target else "there is no such stream"
+            return f"no stream is called ({wait.name[0]}, {wait.name[1]})" if wait.name else f"there is no stream {wait.target}"
         if wait.target == wait.stream:
             return "a stream does not wait for itself"
         if target.gone is not None:

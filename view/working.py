@@ -92,11 +92,11 @@ def release(standing: "Standing", event: Event, command: commands.Command, stand
 
 def wait(standing: "Standing", event: Event, command: commands.Command, stand: "Stand") -> Deed:
     told = command.values
-    target = standing.numbers.get((told["namespace"], told["id"]), 0) if "id" in told else told["stream"]
-    made = standing.waits.make(event.stream, stand.open[0].number, target, told["release"], command.name)
+    name = (told["namespace"], told["id"]) if "id" in told else None
+    target = standing.number_of(name or told.get("stream", 0))
+    made = standing.waits.make(event.stream, stand.open[0].number, target, told["release"], command.name, name)
     if made.how == "dropped":
-        why = f"no stream is called ({told['namespace']}, {told['id']})" if "id" in told and not target else made.why
-        return Deed(f"dropped: {why}", "dropped", "", command, (made,))
+        return Deed(f"dropped: {made.why}", "dropped", "", command, (made,))
     waited = standing.stream(target)
     return Deed(f"waits for {made}, which has come to {waited.release if waited else 0}", "", "", command, (made,))
 
