@@ -4,7 +4,7 @@ A journal alone does not tell the script's fences, nor PUT before a flush is fin
 known; else the fences are those whose waits have a mark in the output, and the ring is known once it has gone round.
 """
 
-from collections import Counter, deque
+from collections import deque
 from collections.abc import Iterable, Sequence
 from heapq import heappop, heappush
 
@@ -103,9 +103,9 @@ class Standing:
         self.waits = Waits(self)
         self.count = 0  # how many events there were
         self.written: Written | None = None  # by the latest event
-        self.marked: dict[int, Counter[tuple[int, int]]] = {}  # by number, the waits that have a mark
+        self.marked: dict[int, list[tuple[Target, int]]] = {}  # by number, the waits that have a mark
         for mark in marks:
-            self.marked.setdefault(mark.number, Counter())[mark.target, mark.release] += 1
+            self.marked.setdefault(mark.number, []).append((mark.target, mark.release))
 
     @property
     def drawn(self) -> int:
@@ -153,7 +153,7 @@ class Standing:
     def fences(self, event: Event, stand: Stand) -> Iterable[tuple[Target, int]]:
         """The fences of a flush: those of the script, or else all waits of the number that have a mark."""
         if stand.plan is None:
-            return self.marked.get(event.number, Counter()).elements()
+            return self.marked.get(event.number, [])
         return stand.plan.fences_of(event.actions)
 
     def number_of(self, target: Target) -> int:

@@ -64,7 +64,6 @@ def point(history: History, place: int, event: Event) -> Record:
     name = event.kind
     if deed.command is not None:
         name = deed.command.name
-        args["command"] = commands.sentence(deed.command)
         args["arguments"] = {field: str(value) if value >= 2**53 else value for field, value in deed.command.values.items()}
         args["words"] = event.words[1:]
         name = f"lost at {name}" if event.kind == "lost" else name

@@ -93,7 +93,7 @@ def release(standing: "Standing", event: Event, command: commands.Command, stand
 def wait(standing: "Standing", event: Event, command: commands.Command, stand: "Stand") -> Deed:
     told = command.values
     name = (told["namespace"], told["id"]) if "id" in told else None
-    target = standing.number_of(name or told.get("stream", 0))
+    target = standing.number_of(name or told["stream"])
     made = standing.waits.make(event.stream, stand.open[0].number, target, told["release"], command.name, name)
     if made.how == "dropped":
         return Deed(f"dropped: {made.why}", "dropped", "", command, (made,))

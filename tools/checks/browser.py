@@ -109,11 +109,19 @@ class Browser:
     def size(self, width, height=900, sharp=1):
         self.call("Emulation.setDeviceMetricsOverride", width=width, height=height, deviceScaleFactor=sharp, mobile=width < 600)
 
-    def open(self, path):
+    def scheme(self, name):
+        """Asks for light or dark colours."""
+        self.call("Emulation.setEmulatedMedia", features=[{"name": "prefers-color-scheme", "value": name}])
+
+    def open(self, path, fragment=""):
         """Opens a file, waits until it is loaded and drawn, and answers how many seconds that took."""
         self.errors, self.events = [], []
         begun = time.monotonic()
-        self.call("Page.navigate", url=path.resolve().as_uri())
+        self.call("Page.navigate", url="about:blank")
+        while "Page.loadEventFired" not in self.events:
+            self.message(begun + SECONDS)
+        self.events, begun = [], time.monotonic()
+        self.call("Page.navigate", url=path.resolve().as_uri() + fragment)
         while "Page.loadEventFired" not in self.events:
             self.message(begun + SECONDS)
         self.value("new Promise(done => requestAnimationFrame(() => setTimeout(done)))")
@@ -133,9 +141,36 @@ class Browser:
         for kind in ("mousePressed", "mouseReleased"):
             self.call("Input.dispatchMouseEvent", type=kind, x=x, y=y, button="left", clickCount=1)
 
-    def key(self, name):
+    def key(self, name, code=0, modifiers=0):
+        """Presses a key. Where a key does something by itself, as Tab, its code has to be given."""
         for kind in ("keyDown", "keyUp"):
-            self.call("Input.dispatchKeyEvent", type=kind, key=name, code=name)
+            self.call("Input.dispatchKeyEvent", type=kind, key=name, code=name, windowsVirtualKeyCode=code, modifiers=modifiers)
+
+    def write(self, text):
+        """Writes a text where the focus is."""
+        self.call("Input.insertText", text=text)
+
+    def point(self, x, y, kind="mousePressed", **more):
+        """Does something with the mouse at a point of the window."""
+        self.call("Input.dispatchMouseEvent", type=kind, x=x, y=y, **more)
+
+    def drag(self, x, y, right):
+        """Drags the mouse from a point to the right."""
+        self.point(x, y, button="left", clickCount=1)
+        for part in (1, 2, 3, 4):
+            self.point(x + right * part / 4, y, "mouseMoved", button="left", buttons=1)
+        self.point(x + right, y, "mouseReleased", button="left", clickCount=1)
+
+    def pinch(self, x, y, apart, further):
+        """Moves two fingers from each other, by so much each."""
+        for kind, wide in (("touchStart", apart), ("touchMove", apart + further / 2), ("touchMove", apart + further)):
+            touches = [{"x": x - wide, "y": y, "id": 1}, {"x": x + wide, "y": y, "id": 2}]
+            self.call("Input.dispatchTouchEvent", type=kind, touchPoints=touches)
+        self.call("Input.dispatchTouchEvent", type="touchEnd", touchPoints=[])
+
+    def settle(self):
+        """Waits until the page has drawn what was asked of it."""
+        self.value("new Promise(done => requestAnimationFrame(() => requestAnimationFrame(() => setTimeout(done))))")
 
     def picture(self, path, selector=None, border=0):
         """Writes what the page looks like as a PNG file: the window, or an element with a border of so many pixels round it."""

@@ -88,9 +88,8 @@ def fault_of(text):
             return "its images have other texels than are printed", False
         if read.is_verdict:
             return None, False
-        told = history.History(read)
-        page.text(told)
-        return traces.fault_of(trace.text(told), text), False
+        page.text(read)
+        return traces.fault_of(trace.text(history.History(read)), text), False
     except output.Refused as refused:
         return None if 1 <= refused.line <= lines else f"{refused}, and there is no such line", True
     except Exception as error:  # this is what must not happen

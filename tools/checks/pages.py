@@ -1,5 +1,7 @@
-"""The page of a timeline in a real Chromium: nothing on its console, all bars, and the line of an event by mouse and by key."""
+"""The page of a timeline in a real Chromium: what it draws, tells and finds, by mouse, fingers and keys, at three widths and in the dark."""
 
+import json
+import re
 import subprocess
 import tempfile
 from pathlib import Path
@@ -7,98 +9,395 @@ from pathlib import Path
 from checks import browser, outputs
 
 EXAMPLES = ("compositor", "crossed_waits", "lost_stream")
-WIDTHS = (1280, 400)
-LARGE = ("generate", "1785", "1")  # a script whose run has 49,996 events
-SECONDS, TRIES = 2, 4
+WIDTHS = (1280, 700, 390)
+SIZE = ("2000", "1")  # of the generated script that is joined with itself: its run has 112,032 events
+SECONDS, TRIES = 6, 5  # a page opens in so many seconds
+FRAME, FRAMES = 100, 12  # a frame takes fewer milliseconds; so many are drawn one after another
 LINE = "document.querySelector('#detail code').textContent"
-COUNTS = "[...document.querySelectorAll('#chart .{}')].length"
+TEXT = "document.querySelector('{}').textContent"
+TAB = 9
 
 
 def check(top, program, tally):
-    """Tells a fault for each thing that the page does not show."""
+    """Tells a fault for each thing that the page does not do."""
     if browser.program() is None:
         tally.skip("the page in a browser", "Chromium is missing (apt install chromium)")
         return
     with tempfile.TemporaryDirectory() as folder:
-        pages = [(name, (top / f"examples/{name}.stdout").read_text()) for name in EXAMPLES]
         try:
             with browser.Browser() as page:
-                for name, text in pages:
-                    check_example(page, name, text, write_page(text, Path(folder) / f"{name}.html"), tally)
-                check_large(page, large_output(program), Path(folder) / "large.html", tally)
-                check_empty(page, Path(folder) / "empty.html", tally)
+                for name in EXAMPLES:
+                    text = (top / f"examples/{name}.stdout").read_text()
+                    check_example(Looker(page, name, tally), text, write_page(text, Path(folder) / f"{name}.html"))
+                check_hand(Looker(page, "failed commands", tally), program, Path(folder))
+                check_compositor(Looker(page, "compositor", tally), top, Path(folder) / "compositor.html")
+                check_large(Looker(page, "a large run", tally), program, Path(folder) / "large.html")
+                check_empty(Looker(page, "an empty output", tally), Path(folder) / "empty.html")
         except browser.BrowserFault as fault:
             tally.tell("the page in a browser", str(fault))
 
 
-def write_page(text, path):
-    from view import history, output, page
+class Looker:
+    """A browser that looks at one page, and tells what is not as it has to be."""
 
-    path.write_text(page.text(history.History(output.read_output(text.encode()))), encoding="utf-8")
+    def __init__(self, page, name, tally):
+        self.page, self.name, self.tally, self.where = page, name, tally, ""
+
+    def tell(self, what, got, wanted):
+        self.tally.tell(f"the page of {self.name}{self.where}, {what}",
+                        None if got == wanted else f"wanted {wanted!r}, got {got!r}")
+
+    def value(self, script):
+        return self.page.value(script)
+
+    def text(self, selector):
+        self.page.settle()
+        return self.page.value(TEXT.format(selector))
+
+    def line(self):
+        return self.text("#detail code")
+
+    def point(self, place):
+        """Where an event is drawn, in pixels of the window."""
+        return self.value(f"(box => [box.x + x({place}), box.y + y({place})])(element('chart').getBoundingClientRect())")
+
+    def click(self, place):
+        self.value("element('chart').scrollIntoView({block: 'center'})")
+        px, py = self.point(place)
+        for kind in ("mousePressed", "mouseReleased"):
+            self.page.point(px, py, kind, button="left", clickCount=1)
+
+    def colour(self, px, py):
+        """The colour of a point of the chart."""
+        return self.value(f"[...element('chart').getContext('2d').getImageData({px} * Math.min(2, devicePixelRatio), "
+                          f"{py} * Math.min(2, devicePixelRatio), 1, 1).data.subarray(0, 3)].join()")
+
+
+def write_page(text, path, most=None):
+    from view import output, page
+
+    read = output.read_output(text.encode())
+    path.write_text(page.text(read) if most is None else page.text(read, None, most), encoding="utf-8")
     return path
 
 
-def large_output(program):
-    script = subprocess.run([program, *LARGE], capture_output=True, check=True).stdout
-    return subprocess.run([program, "run"], input=script, capture_output=True, check=True).stdout.decode()
+def journal_of(text):
+    return [line for line in text.split("\n") if line.startswith(outputs.EVENTS)]
 
 
-def check_example(page, name, text, path, tally):
-    journal = [line for line in text.split("\n") if line.startswith(outputs.EVENTS)]
-    orders = sum(line.startswith("order ") for line in journal)
-    waits = sum(line.startswith("mark ") for line in text.split("\n"))
+# --- Each example, at each width ---
+
+
+def check_example(look, text, path):
+    journal, page = journal_of(text), look.page
     for width in WIDTHS:
+        look.where = f" at {width}"
         page.size(width)
         page.open(path)
-        at = f"the page of {name} at {width}"
-
-        def tell(what, got, wanted, at=at):
-            tally.tell(f"{at}, {what}", None if got == wanted else f"wanted {wanted!r}, got {got!r}")
-
-        tell("bars", page.value(COUNTS.format("bar")), orders)
-        tell("arrows", page.value(COUNTS.format("wait")), waits)
-        tell("rows of the table", page.value("document.querySelectorAll('#table tr').length"), len(journal))
-        tell("the line after a click", clicked(page, 3), journal[3])
+        look.tell("rows of the table", look.value("document.querySelectorAll('#table tr').length"), len(journal))
+        look.tell("bars that are drawn", bars_drawn(look), sum(line.startswith("order ") for line in journal))
+        look.click(3)
+        look.tell("the line after a click", look.line(), journal[3])
+        look.value("element('chart').focus()")
         page.key("ArrowRight")
-        tell("the line after a key", page.value(LINE), journal[4])
+        look.tell("the line after a key", look.line(), journal[4])
         page.key("End")
-        tell("the line after End", page.value(LINE), journal[-1])
-        tell("the focus", page.value("document.activeElement.dataset.place"), str(len(journal) - 1))
-        page.click("#table tr:nth-child(2) button")
-        tell("the line after a click in the table", page.value(LINE), journal[1])
-        tell("what is wider than the window", page.value("Math.max(0, document.documentElement.scrollWidth - innerWidth)"), 0)
-        tell("the console", page.errors, [])
+        look.tell("the line after End", look.line(), journal[-1])
+        look.tell("the focus", look.value("document.activeElement.id"), "chart")
+        look.value("document.querySelector('#table tr:nth-child(2) a').click()")
+        look.tell("the line after a link", look.line(), journal[1])
+        look.tell("the address", look.value("location.hash"), "#event=2")
+        look.tell("what is wider than the window", look.value("Math.max(0, document.documentElement.scrollWidth - innerWidth)"), 0)
+        look.tell("the console", complaints(page), [])
+    look.where = ", by its address"
+    page.open(path, "#event=5")
+    look.tell("the line", look.line(), journal[4])
 
 
-def clicked(page, place):
-    page.click(f"#chart .event[data-place='{place}']")
-    return page.value(LINE)
+def bars_drawn(look):
+    """How many bars have the colour of a bar where they begin: a little behind the order, near the lower edge."""
+    return look.value("""(() => { const pen = element('chart').getContext('2d'), sharp = Math.min(2, devicePixelRatio);
+        const probe = document.createElement('canvas').getContext('2d');
+        const known = ['--queue', '--run'].map(name => { probe.fillStyle = getComputedStyle(document.documentElement)
+          .getPropertyValue(name).trim(); probe.fillRect(0, 0, 1, 1); return probe.getImageData(0, 0, 1, 1).data.join(); });
+        return bars.filter(bar => [0.4, 0.5, 0.6].some(part => known.includes(pen.getImageData(x(bar.begin + part) * sharp,
+          (y(bar.begin) + 7) * sharp, 1, 1).data.join()))).length; })()""")
 
 
-def check_large(page, text, path, tally):
-    """A run of 50,000 events opens in time, says what is folded, and shows each event that is asked for."""
-    events = [line for line in text[:text.index("\nimage ")].split("\n")]
+# --- One example in all ways ---
+
+
+def check_compositor(look, top, path):
+    text = (top / "examples/compositor.stdout").read_text()
+    journal, page = journal_of(text), look.page
+    look.where = ""
+    page.size(1280)
+    page.open(path)
+    check_search(look, journal)
+    check_moving(look)
+    check_fold(look)
+    check_names(look)
+    check_pictures(look, top, text)
+    check_state(look)
+    check_dark(look, path)
+
+
+def check_search(look, journal):
+    """What is found, by a plain reading of the lines, and the way from match to match."""
+    page = look.page
+    for asked, wanted in (("ClearRect", [at for at, line in enumerate(journal) if ":20800007" in line]),
+                          ("command CopyRect", [at for at, line in enumerate(journal) if ":20a00009" in line]),
+                          ("stream 2", [at for at, line in enumerate(journal) if line.split(" ")[1] == "2"]),
+                          ("image 3", [13, 14, 15, 16]), ("order 2", [1, 8, 9, 10, 11, 12]),
+                          ("stream 1 texel 4a1513ff", [5]), ("event 9", [8]), ("7", [6]), ("0:20400004 1:00000003", [13]),
+                          ("nothing like it", [])):
+        look.tell(f"a search for {asked}", look.value(f"search({json.dumps(asked)})"), wanted)
+    page.open(Path(look.value("decodeURI(location.pathname)")))
+    page.key("/")
+    look.tell("the focus after a slash", look.value("document.activeElement.id"), "search")
+    page.write("CopyRect")
+    page.key("Enter", 13)
+    look.tell("the first match", (look.line(), look.text("#matches")), (journal[15], "match 1 of 2"))
+    page.key("Enter", 13)
+    look.tell("the next match", (look.line(), look.text("#matches")), (journal[16], "match 2 of 2"))
+    page.click("#previous")
+    look.tell("the previous match", look.line(), journal[15])
+    look.value("element('search').blur()")
+    page.key("n")
+    look.tell("the next match by a key", look.line(), journal[16])
+
+
+def check_moving(look):
+    """The wheel and two fingers zoom about the pointer; a drag and the keys move."""
+    page = look.page
+    look.value("element('chart').scrollIntoView({block: 'center'}), fit()")
+    page.settle()
+    left, top = look.value("(box => [box.x, box.y])(element('chart').getBoundingClientRect())")
+    before = look.value("[placeAt(200), view.count]")
+    page.point(left + 200, top + 60, "mouseWheel", deltaX=0, deltaY=-200)
+    page.settle()
+    after = look.value("[placeAt(200), view.count]")
+    look.tell("the wheel zooms", after[1] < before[1] * 0.9, True)
+    look.tell("the wheel keeps what is under it", abs(after[0] - before[0]) < 0.01, True)
+    look.value("show(5, 8)")
+    page.settle()
+    left, top = look.value("(box => [box.x, box.y])(element('chart').getBoundingClientRect())")
+    before = look.value("[view.from, view.column]")
+    page.drag(left + 300, top + 60, -60)
+    page.settle()
+    moved = look.value("view.from") - before[0]
+    look.tell("a drag moves", abs(moved - 60 / before[1]) < 0.05, True)
+    look.tell("a drag chooses nothing", look.value("view.count"), 8)
+    look.value("fit()")
+    page.settle()
+    page.pinch(left + 300, top + 60, 40, 40)
+    page.settle()
+    look.tell("two fingers zoom", look.value("view.count < 0.7 * total"), True)
+    for key, wanted in (("f", "view.count === total"), ("w", "view.count < total"), ("s", "view.count === total"),
+                        ("w", "view.count < total"), ("d", "view.from > 0"), ("f", "view.from === 0")):
+        page.key(key)
+        page.settle()
+        look.tell(f"the key {key}, {wanted}", look.value(wanted), True)
+
+
+def check_fold(look):
+    page, height = look.page, look.value("view.height")
+    page.click("#lanes button")
+    page.settle()
+    look.tell("a folded lane", look.value("[view.height < %d, document.querySelector('#lanes button').ariaExpanded, "
+                                          "document.activeElement.ariaExpanded]" % height), [True, "false", "false"])
+    page.click("#fold")
+    page.click("#fold")
+    page.settle()
+    look.tell("all lanes unfolded", look.value("view.height"), height)
+
+
+def check_names(look):
+    """Each control has a name, and Tab comes to all that are there."""
+    page = look.page
+    controls = "[...document.querySelectorAll('button, input, a, canvas[tabindex]')].filter(one => !one.disabled && one.offsetParent)"
+    nameless = look.value(f"{controls}.filter(one => !(one.ariaLabel || one.textContent.trim())).map(one => one.outerHTML)")
+    look.tell("controls without a name", nameless, [])
+    look.value("document.activeElement.blur(), scrollTo(0, 0)")
+    count, seen = look.value(f"{controls}.length"), set()
+    look.value(f"{controls}.forEach((one, at) => one.dataset.at = at)")
+    for _ in range(count + 2):
+        page.key("Tab", TAB)
+        seen.add(look.value("document.activeElement.dataset.at"))
+    look.tell("controls that Tab comes to", len(seen - {None}), count)
+
+
+def check_pictures(look, top, text):
+    """The images after each event, by a second run of the script; what is outlined; and who wrote a texel."""
+    from checks import replays
+
+    page, wanted = look.page, outputs.images_of(text)
+    for place, images in enumerate(replays.images_of((top / "examples/compositor.script").read_bytes())):
+        got = look.value(f"imageNumbers.map(image => [image, imageAt(image, {place})]).filter(([, one]) => one)"
+                         ".map(([image, one]) => [image, one.width, one.height, [...one.bytes].map(byte => "
+                         "byte.toString(16).padStart(2, '0')).join('')])")
+        look.tell(f"the images after event {place + 1}", {image: (width, height, texels) for image, width, height, texels in got},
+                  images)
+    shown = {image: (width, height, texels.hex()) for image, (width, height, texels) in wanted.items()}
+    look.tell("the last images are those that are printed", images, shown)
+    look.value("choose(15)")
+    page.settle()
+    outline = "[...document.querySelector('[data-image=\"3\"]').getContext('2d').getImageData({}, {}, 1, 1).data].join()"
+    scale = look.value("scaleOf({width: 18, height: 11})")
+    focus = look.value("(pen => (pen.fillStyle = colours.focus, pen.fillRect(0, 0, 1, 1), "
+                       "[...pen.getImageData(0, 0, 1, 1).data].join()))(document.createElement('canvas').getContext('2d'))")
+    look.tell("the outline of a copy to 1, 1", look.value(outline.format(scale + 30, scale)), focus)
+    look.tell("no outline beside it", look.value(outline.format(scale + 30, 8 * scale)) == focus, False)
+    page.click("[data-image='3']")
+    look.tell("who wrote a texel in the middle", re.findall(r"event \d+", look.text("#texel ul")), ["event 14", "event 15"])
+    look.value("pick(imageAt(3, 15), 2, 2)")
+    look.tell("who wrote texel 2, 2", re.findall(r"event \d+", look.text("#texel ul")), ["event 14", "event 15", "event 16"])
+    look.value("document.querySelector('[data-image=\"3\"]').focus()")
+    page.key("ArrowRight")
+    look.tell("the texel after a key", look.text("#texel h3"), "Texel 3, 2 of image 3: d9534fff")
+
+
+def check_state(look):
+    """How things stand after some events, by hand."""
+    for place, number, wanted in (
+            (2, 2, {"get": "0", "PUT": "29", "release count": "0", "token": "none", "open numbers": "3", "pending waits":
+                    "number 3 for stream 1 to come to release 1, number 3 for stream 2 to come to release 1"}),
+            (6, 0, {"get": "21", "PUT": "21", "release count": "1", "token": "none", "open numbers": "1", "pending waits": "none"}),
+            (6, 2, {"get": "0", "PUT": "29", "release count": "0", "token": "none", "open numbers": "3",
+                    "pending waits": "number 3 for stream 2 to come to release 1"}),
+            (17, 2, {"get": "29", "release count": "0", "token": "none", "open numbers": "none", "pending waits": "none"})):
+        look.value(f"choose({place})")
+        look.page.settle()
+        got = look.value(f"(list => Object.fromEntries([...list.querySelectorAll('dt')].map(term => "
+                         f"[term.textContent, term.nextSibling.textContent])))(document.querySelectorAll('#streams dl')[{number}])")
+        look.tell(f"stream {number + 1} after event {place + 1}", got, wanted)
+
+
+def check_dark(look, path):
+    """Dark colours come by themselves, also on the canvas, and also while the page is open."""
+    look.page.open(path)
+    light = look.colour(2, 30)
+    look.page.scheme("dark")
+    look.page.settle()
+    dark = look.colour(2, 30)
+    look.page.scheme("light")
+    for name, colour, is_dark in (("light", light, False), ("dark", dark, True)):
+        look.tell(f"the ground of a lane is {name}", max(map(int, colour.split(","))) < 64, is_dark)
+
+
+# --- Failed commands, by hand ---
+
+HAND = """gpu-script 1
+stream 1 normal 64
+put 0 20400004 1 2 2 20400004 1 2 2 20800007 3 0 0 1 1 ff 20800007 1 1 1 2 1 ff 20200004 9 1 0 7fe00001
+flush 27
+"""
+HAND_MARKS = {"failed": [2, 3, 4], "dropped": [5], "lost": [6]}
+
+
+def check_hand(look, program, folder):
+    """A script with three failed commands, a dropped wait and a loss."""
+    ran = subprocess.run([program, "run"], input=HAND.encode(), capture_output=True, check=False)
+    path, page = write_page(ran.stdout.decode(), folder / "hand.html"), look.page
+    page.size(1280)
+    page.open(path)
+    look.tell("the marks", look.value("marks"), HAND_MARKS)
+    for mark, places in HAND_MARKS.items():
+        look.tell(f"the count of {mark}", look.text(f"#count-{mark}"), str(len(places)))
+        page.click(f"#next-{mark}")
+        look.tell(f"the badge of {mark}", look.text("#detail .badge"), mark)
+        look.tell(f"the rows that are {mark}", look.value(f"document.querySelectorAll('#table .{mark}').length"), len(places))
+        px, py = look.value(f"choose({places[0]}), drawNow(), [x({places[0]}), y({places[0]})]")
+        colour = look.value(f"(pen => (pen.fillStyle = colours.{mark}, pen.fillRect(0, 0, 1, 1), [...pen.getImageData(0, 0, 1, 1)"
+                            ".data.subarray(0, 3)].join()))(document.createElement('canvas').getContext('2d'))")
+        look.tell(f"the mark of {mark} on the chart", look.colour(px, py), colour)
+    look.value("choose(2)")
+    look.tell("why it failed", "failed, 0502: image 1 is there already" in look.text("#detail .what"), True)
+    look.value("element('chart').focus(), choose(0)")
+    page.key("l")
+    look.tell("the loss by a key", look.value("view.chosen"), 6)
+    page.open(write_page(ran.stdout.decode(), folder / "left_out.html", 0))
+    look.tell("what is left out is told", "left out" in look.text("#images-note"), True)
+
+
+# --- A large run ---
+
+
+def joined(program):
+    """The output of the generated script and a second one like it, with streams and images of its own, in one script."""
+    script = subprocess.run([program, "generate", *SIZE], capture_output=True, check=True).stdout.decode()
+
+    def moved(line):
+        words = line.split(" ")
+        if words[0] == "stream":
+            words[1] = str(int(words[1]) + 4)
+        elif words[0] == "put":
+            for at in (3, 19) if len(words) == 6 else (3, 7, 14, 17, 23):
+                if at < len(words):
+                    words[at] = f"{int(words[at], 16) + 4:x}"
+        return " ".join(words)
+
+    both = script + "\n".join(map(moved, script.split("\n")[1:]))
+    return subprocess.run([program, "run"], input=both.encode(), capture_output=True, check=True).stdout.decode()
+
+
+def check_large(look, program, path):
+    """A run of 112,032 events opens in time, moves in time, and shows each event that is asked for."""
+    text, page = joined(program), look.page
+    events = text[:text.index("\nimage ")].split("\n")
+    look.tell("its events", len(events), 112_032)
     write_page(text, path)
     page.size(WIDTHS[0])
     seconds = [page.open(path)]
     while min(seconds) > SECONDS and len(seconds) < TRIES:
         seconds.append(page.open(path))
-    slow = None if min(seconds) <= SECONDS else f"it took {min(seconds):.1f} seconds at best"
-    tally.tell(f"a page of {len(events):,} events opens", slow)
-    folded = page.value("document.querySelector('#folded').textContent")
-    is_told = f"of {len(events):,} are drawn" in folded and "folded away" in folded
-    tally.tell("a large page says what is folded", None if is_told else folded)
-    clicked(page, 3)
+    look.tally.tell("a large page opens", None if min(seconds) <= SECONDS else f"it took {min(seconds):.1f} seconds at best")
+    for what, begin, step in (("all of it", "fit()", "show(0, total - 40 * at)"),
+                              ("a tenth of it", "show(30000, 11000)", "show(30000 + 300 * at)"),
+                              ("a small part", "show(50000, 100)", "show(50000 + 9 * at)"),
+                              ("by zooming", "fit()", "zoom(0.8, 500)")):
+        took = min(frame(look, begin, step) for _ in range(TRIES))
+        look.tally.note(f"a frame of {what} takes {took:.0f} ms")
+        look.tally.tell(f"a frame of a large page, {what}", None if took < FRAME else f"it took {took:.0f} ms at best")
+    look.value("fit()")
+    look.tell("what is folded is told", f"of {len(events):,} are drawn. Single events are folded" in look.text("#drawn"), True)
+    look.value("element('chart').focus()")
     page.key("End")
-    tally.tell("the last event of a large page", None if page.value(LINE) == events[-1] else page.value(LINE))
-    page.key("PageUp")
-    page.value("document.querySelector('#wider').click()")
-    tally.tell("the console of a large page", None if not page.errors else str(page.errors))
+    look.tell("the last event", look.line(), events[-1])
+    look.value("location.hash = '#event=77777'")
+    look.tell("an event by its address", look.line(), events[77_776])
+    look.click(77_770)
+    look.tell("an event by a click", look.line(), events[77_770])
+    look.tell("a search", look.value("search('InsertFence').length"), sum(":20000003" in event for event in events))
+    final = outputs.images_of(text)
+    got = look.value("imageNumbers.map(image => [image, [...imageAt(image, total - 1).bytes].map(byte => "
+                     "byte.toString(16).padStart(2, '0')).join('')])")
+    look.tell("the last images", dict(got), {number: texels.hex() for number, (_, _, texels) in final.items()})
+    look.tell("the console", complaints(page), [])
 
 
-def check_empty(page, path, tally):
+def complaints(page):
+    """What is on the console, but for advice about the reading of pixels, which this check does."""
+    return [text for text in page.errors if "willReadFrequently" not in text]
+
+
+def frame(look, begin, step):
+    """How many milliseconds the middle one of some frames takes, each of which is drawn for sure."""
+    return look.value(f"""(async () => {{ {begin};
+        const next = () => new Promise(done => requestAnimationFrame(done));
+        await next();
+        const took = [];
+        for (let at = 1; at <= {FRAMES}; at += 1) {{
+          const begun = performance.now();
+          {step};
+          await next();
+          element('chart').getContext('2d').getImageData(0, 0, 1, 1);
+          took.push(performance.now() - begun);
+        }}
+        return took.sort((one, other) => one - other)[{FRAMES} >> 1]; }})()""")
+
+
+def check_empty(look, path):
     """A run without streams has a page too."""
-    page.open(write_page("", path))
-    said = page.value("document.querySelector('#folded').textContent")
-    is_told = (said, page.errors) == ("There is no event.", [])
-    tally.tell("the page of an empty output", None if is_told else f"{said} {page.errors}")
+    look.page.open(write_page("", path))
+    look.tell("what it says", (look.text("#drawn"), look.page.errors), ("There is no event.", []))

@@ -1,4 +1,4 @@
-"""The trace of every case: valid JSON, slices that nest, flows with both ends, and as many steps as the journal has."""
+"""The trace of every case: slices that nest, flows with both ends, counters as the journal counts, and a slice for each step."""
 
 import json
 from concurrent.futures import ProcessPoolExecutor
@@ -43,7 +43,8 @@ def fault_of(trace, text):
     for kind in ("order", "step", "finish", "lost", "close"):
         if got.get(kind, []) != [place for place, words in enumerate(journal, 1) if words[0] == kind]:
             return f"its events of {kind} are not those of the journal"
-    return fault_of_slices(events) or fault_of_flows(events, text) or fault_of_streams(events, journal)
+    return fault_of_slices(events) or fault_of_flows(events, text) or fault_of_streams(events, journal) or \
+        fault_of_steps(events, journal) or fault_of_counters(events, journal)
 
 
 def fault_of_slices(events):
@@ -54,7 +55,7 @@ def fault_of_slices(events):
             tracks.setdefault(event["tid"], []).append((event["ts"], -event["dur"]))
             if event["cat"] == "order":
                 orders[event["args"]["number"]] = event
-            else:
+            elif event["cat"] == "run":
                 order = orders[event["args"]["number"]]
                 if order["tid"] != event["tid"] or order["ts"] + order["dur"] != event["ts"] + event["dur"]:
                     return "a run does not end with its order number"
@@ -76,7 +77,7 @@ def fault_of_flows(events, text):
     marks = [line.split(" ") for line in text.split("\n") if line.startswith("mark ")]
     if not len(begins) == len(ends) == len(marks) or begins.keys() != ends.keys():
         return f"{len(marks)} waits ended, and {len(begins)} flows begin and {len(ends)} end"
-    there = {(event["tid"], event["ts"]) for event in events if event["ph"] == "i"}
+    there = {(event["tid"], event["ts"]) for event in events if event["ph"] == "i" or event.get("cat") == "step"}
     for number, mark in enumerate(marks, 1):
         begin, end = begins[number], ends[number]
         if [str(end["pid"]), str(begin["pid"]), begin["name"]] != [mark[1], mark[3], mark[5]] or begin["ts"] >= end["ts"]:
@@ -93,4 +94,48 @@ def fault_of_streams(events, journal):
         if "ts" in event and event["ph"] in "iX" and event["cat"] != "run":
             if str(event["pid"]) != journal[event["ts"] - 1][1] or owner.setdefault(event["tid"], event["pid"]) != event["pid"]:
                 return f"the event at {event['ts']} is told of another stream"
+    return None
+
+
+def fault_of_steps(events, journal):
+    """Each step is a slice up to the next event, with the arguments that its words have."""
+    for event in events:
+        if event.get("cat") != "step":
+            continue
+        words = [int(word.partition(":")[2], 16) for word in journal[event["ts"] - 1][2:]]
+        if (event["ph"], event["dur"]) != ("X", 1) or event["args"]["words"] != " ".join(journal[event["ts"] - 1][2:]):
+            return f"the step at {event['ts']} is no slice of its words"
+        header = (words[0] >> 21, words[0] % 2**21)
+        if header in FIRST and int(event["args"]["arguments"].get(FIRST[header], -1)) != words[1]:
+            return f"the step at {event['ts']} has another {FIRST[header]} than its words"
+    return None
+
+
+FIRST = {(1, 2): "token", (2, 3): "bucket", (257, 4): "stream", (258, 4): "image", (260, 7): "image", (261, 9): "source"}
+
+
+def fault_of_counters(events, journal):
+    """The counters of numbers and of words are those that a count of the journal's lines gives; waits begin and end with 0."""
+    got = {}
+    for event in events:
+        if event["ph"] == "C":
+            (value, ) = event["args"].values()
+            got.setdefault((event["name"], str(event["pid"])), []).append((event["ts"], value))
+    numbers, words = {}, {}
+    for place, line in enumerate(journal, 1):
+        stream, kind = line[1], line[0]
+        had = numbers.setdefault(stream, [(0, 0)])[-1][1]
+        now = {"order": had + 1, "finish": had - 1, "lost": 0, "close": 0}.get(kind, had)
+        if now != had:
+            numbers[stream].append((place, now))
+        if kind == "step":
+            before = words[stream][-1][1] if stream in words else 0
+            words.setdefault(stream, []).append((place, before + len(line) - 2))
+    for name, wanted in (("open order numbers", {of: list_[1:] for of, list_ in numbers.items()}), ("fetched words", words)):
+        for stream, values in wanted.items():
+            if got.get((name, stream), []) != values:
+                return f"the counter of {name} of stream {stream} is not that of the journal"
+    for (name, stream), values in got.items():
+        if name == "pending waits" and (values[-1][1] != 0 or min(value for _, value in values) < 0):
+            return f"the counter of pending waits of stream {stream} does not end with 0"
     return None

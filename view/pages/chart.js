@@ -52,18 +52,40 @@ function barsBetween(lane, from, to) {
 
 // ---- Drawing
 
-// Fills the parts of bars, each row from the left to the right and no pixel twice.
+// Fills spans of rows, each row from the left to the right. What is dense is filled by whole pixels, and in one piece.
+class Spans {
+  constructor(pen, rows, fill) {
+    Object.assign(this, { pen, fill, from: new Float64Array(rows).fill(-9), to: new Float64Array(rows).fill(-9) });
+  }
+
+  add(row, from, to) {
+    if (to - from < 3) [from, to] = [Math.floor(from), Math.max(Math.floor(from) + 1, Math.ceil(to))];
+    if (from <= this.to[row]) {
+      this.to[row] = Math.max(this.to[row], to);
+      return;
+    }
+    this.flush(row);
+    this.from[row] = from;
+    this.to[row] = to;
+  }
+
+  flush(row) {
+    if (this.to[row] > this.from[row]) this.fill(row, this.from[row], this.to[row] - this.from[row]);
+  }
+
+  end() {
+    for (let row = 0; row < this.to.length; row += 1) this.flush(row);
+  }
+}
+
+// Fills the parts of bars from where they begin.
 function fillBars(pen, lane, [first, last], begin, at, top, tall, right) {
-  const painted = new Float64Array(ROWS_DRAWN).fill(-8);
+  const spans = new Spans(pen, ROWS_DRAWN, (row, from, wide) => pen.fillRect(from, top(row), wide, tall));
   for (let index = first; index < last; index += 1) {
     const bar = lane.bars[index], start = begin(bar);
-    if (start < 0) continue;
-    const row = Math.min(bar.row, ROWS_DRAWN - 1), from = Math.max(at(start), painted[row]);
-    const to = Math.min(Math.max(at(bar.end), at(start) + 1), right + 8);
-    if (to - from < 0.9 && from > at(start)) continue;
-    pen.fillRect(from, top(bar), Math.max(1, to - from), tall);
-    painted[row] = Math.max(from + 1, to);
+    if (start >= 0) spans.add(Math.min(bar.row, ROWS_DRAWN - 1), Math.max(-8, at(start)), Math.min(at(bar.end), right + 8));
   }
+  spans.end();
 }
 
 function drawGround(pen, lane) {
@@ -108,9 +130,9 @@ function drawAxis(pen) {
 function drawBars(pen, lane) {
   const range = barsBetween(lane, view.from - 1, until() + 1), tall = barTall(lane);
   pen.fillStyle = colours.queue;
-  fillBars(pen, lane, range, bar => bar.begin, x, bar => rowTop(lane, bar.row), tall, view.width);
+  fillBars(pen, lane, range, bar => bar.begin, x, row => rowTop(lane, row), tall, view.width);
   pen.fillStyle = colours.run;
-  fillBars(pen, lane, range, bar => bar.first, x, bar => rowTop(lane, bar.row) + 1, tall - 2, view.width);
+  fillBars(pen, lane, range, bar => bar.first, x, row => rowTop(lane, row) + 1, tall - 2, view.width);
   if (lane.folded || view.column * total < view.width / 8) return;
   pen.lineWidth = 1;
   const labelled = new Float64Array(ROWS_DRAWN);
@@ -180,16 +202,18 @@ function drawEvents(pen) {
 // Failed and dropped commands and losses, which are drawn however many events there are: a tick a pixel where they are dense.
 function drawMarks(pen) {
   for (const mark of ["dropped", "failed", "lost"]) {
-    const list = marks[mark], last = new Map();
-    pen.fillStyle = colours[mark];
-    for (let at = lowest(list, view.from - 1); at < list.length && list[at] <= until(); at += 1) {
-      const place = list[at], lane = lanes[streamOf(place)], pixel = Math.round(x(place));
-      if (view.column >= MARK_COLUMN && !lane.folded && lane.row >= 20) { drawMark(pen, mark, x(place), y(place)); continue; }
-      if (last.get(lane) >= pixel - 1) continue;
-      last.set(lane, pixel);
+    const list = marks[mark];
+    const tall = lane => mark === "lost" ? lane.height - LANE_HEAD + 4 : mark === "failed" ? 6 : 3;
+    const spans = new Spans(pen, lanes.length, (number, from, wide) => {
       pen.fillStyle = colours[mark];
-      pen.fillRect(pixel - 1, lane.top + LANE_HEAD - 4, 2, mark === "lost" ? lane.height - LANE_HEAD + 4 : 6);
+      pen.fillRect(from, lanes[number].top + LANE_HEAD - 4, wide, tall(lanes[number]));
+    });
+    for (let at = lowest(list, view.from - 1); at < list.length && list[at] <= until(); at += 1) {
+      const place = list[at], lane = lanes[streamOf(place)];
+      if (view.column >= MARK_COLUMN && !lane.folded && lane.row >= 20) drawMark(pen, mark, x(place), y(place));
+      else spans.add(streamOf(place), x(place) - 1, x(place) + 1);
     }
+    spans.end();
   }
 }
 

@@ -19,8 +19,7 @@ function redraw(withWords = false) {
 function drawNow() {
   const hidden = drawChart();
   const whole = view.count >= total;
-  element("whole").hidden = whole;
-  if (!whole) drawOverview();
+  if (total) drawOverview();
   element("slider").max = Math.max(1, Math.ceil(total - view.count) + 1);
   element("slider").value = Math.round(view.from) + 1;
   element("earlier").disabled = view.from <= 0;
@@ -178,7 +177,7 @@ const MOVING = {
 
 function pressed(event) {
   const active = document.activeElement;
-  if (event.ctrlKey || event.altKey || event.metaKey || (active !== element("chart") && active !== document.body)) return;
+  if (event.ctrlKey || event.altKey || event.metaKey || active instanceof HTMLInputElement) return;
   const choosing = active === element("chart") && Object.hasOwn(CHOOSING, event.key) && CHOOSING[event.key];
   const moving = Object.hasOwn(MOVING, event.key) && MOVING[event.key];
   if (!choosing && !moving) return;
@@ -243,6 +242,7 @@ function measure() {
 
 function begin() {
   readColours();
+  element("whole").hidden = !total;
   layOut();
   tellLanes();
   tellMarks();
