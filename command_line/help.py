@@ -23,6 +23,7 @@ Examples:
     ./zorvleid run examples/two_texels.script
     ./zorvleid run examples/compositor.script | ./zorvleid pictures --into pictures --scale 16
     ./zorvleid run examples/compositor.script | ./zorvleid timeline --page timeline.html
+    ./zorvleid run examples/lost_stream.script | ./zorvleid log --script examples/lost_stream.script
     (cat examples/names.script; echo journal; sed 's/^order 2 2/order 2 3/' examples/names.stdout) |
         ./zorvleid explain"""
 
@@ -86,7 +87,8 @@ def of_command(command: Command) -> Iterator[str]:
     yield ""
     yield from rows_of(command)
     if command.reads:
-        source = "FILE, or standard input without it," if command.operands else "Standard input"
+        first = command.operands[0].name if command.operands else ""
+        source = f"{first}, or standard input without it," if first else "Standard input"
         yield from ("", f"{source} is {command.reads}.")
 
 

@@ -32,7 +32,7 @@ def is_option(word: str) -> bool:
 def takes(command: Command) -> str:
     """What stands behind a command, beside its options."""
     if command.operands:
-        return f"{command.name} takes {listed([value.what for value in command.operands])}"
+        return f"{command.name} takes {listed(list(dict.fromkeys(value.what for value in command.operands)))}"
     return f"{command.name} takes {'options alone' if command.options else 'no word behind it'}"
 
 
@@ -101,8 +101,8 @@ def check_words(command: Command, words: Sequence[str]) -> None:
         if option.behind:
             check_place(option, words, here)
     check_operands(command, operands)
-    if command.needs_one and not seen:
-        choices = (option.words for option in command.options)
+    if command.needs_one and all(option.is_aside for option in command.options if option.name in seen):
+        choices = (option.words for option in command.options if not option.is_aside)
         raise Wrong(f"{command.name} needs {' or '.join(choices)}")
 
 

@@ -40,6 +40,7 @@ class Option:
     value: Value | None
     says: str
     behind: str = ""  # the option that stands right before this one, where both are two words
+    is_aside: bool = False  # whether it is none of those of which a command needs one
 
     @property
     def words(self) -> str:
@@ -85,11 +86,27 @@ PICTURES = (
     Option("--into", FOLDER, "where the files go; left out: pictures"),
     Option("--scale", numbers("N", "1 to 64", 1, 64, 10),
            "repeats each texel 1 to 64 times in both directions; left out: 1"),
+    Option("--at", numbers("N", "the number of an event", 0, 2**32 - 1, 10),
+           "as they were after event N; left out: at the end"),
 )
 TIMELINE = (
     Option("--trace", FILE, "the history for Perfetto and chrome://tracing"),
     Option("--page", FILE, "the history as one HTML file that needs nothing else"),
+    Option("--script", FILE, "the script of the run, which tells PUT and all fences", is_aside=True),
 )
+LOG = (
+    Option("--json", None, "as JSON, an object a line, by docs/log.schema.json"),
+    Option("--stream", numbers("S", "the number of a stream", 0, 2**32 - 1, 10), "events of stream S alone"),
+    Option("--order", numbers("N", "an order number", 0, 2**32 - 1, 10), "events of order number N alone"),
+    Option("--command", Value("NAME", "the name of a command"), "steps and losses of this command alone"),
+    Option("--failed", None, "image commands that changed nothing"),
+    Option("--lost", None, "losses of streams"),
+    Option("--waits", None, "what made, dropped or ended a wait"),
+    Option("--script", FILE, "the script of the run, which tells PUT and all fences"),
+)
+COMPARE = (Option("--page", FILE, "both and the difference as one HTML file"),)
+OF_RUN = Value("OUTPUT", "an output of run")
+FIRST, SECOND = Value("A", "two outputs of run"), Value("B", "two outputs of run")
 EXPLAIN = (Option("--program", FILE, "the program that verifies; left out: that of ./zorvleid"),)
 ASSEMBLE = (
     Option("--await", None,
@@ -112,6 +129,10 @@ ROWS = (
             ("view/run", "pictures"), options=PICTURES, reads=OUTPUT),
     Command("timeline", "writes the history for Perfetto, or as a page to look at",
             ("view/run", "timeline"), options=TIMELINE, needs_one=True, reads=OUTPUT),
+    Command("log", "writes the events of an output in words, one a line", ("view/run", "log"),
+            operands=(OF_RUN,), may_lack=1, options=LOG, reads=OUTPUT),
+    Command("compare", "says where two outputs of one script differ, with status 1 where they do",
+            ("view/run", "compare"), operands=(FIRST, SECOND), options=COMPARE),
     Command("explain", "runs verify, and says what its answer means",
             ("view/run", "explain"), options=EXPLAIN, reads=SCRIPT_AND_JOURNAL),
     Command("assemble", "turns a text of commands into a script", ("python/run", "assemble"),
