@@ -1,4 +1,4 @@
-"""The command line of the tools: python3 view pictures | timeline | explain, which ./zorvleid calls.
+"""The command line of the tools: python3 view pictures | timeline | log | compare | explain, which ./zorvleid calls.
 
 Each tool is told in docs/zorvleid.1. The status is 0 where all was written, 2 for words that are no command, 3 and 4 where
 reading or writing failed, 5 for a text that is no output, and for explain that of `verify`.

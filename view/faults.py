@@ -100,7 +100,7 @@ def results_of(command: commands.Command) -> list[tuple[str, str, int]]:
     told = command.values
     if command.name == "GetBucketStart":
         data = [("data_memory", "data_offset", told["data_size"])] if told["data_size"] else []
-        return [("size_memory", "size_offset", 4), *data]
+        return [("result_memory", "result_offset", 4), *data]
     return [("memory", "memory_offset", told["size"])] if command.name == "GetBucketData" else []
 
 

@@ -123,7 +123,7 @@ def written_by(standing: "Standing", command: commands.Command, stand: "Stand", 
     if command.name == "DeleteImage":
         return images.delete(told["image"])
     if command.name == "CopyRect":
-        return images.copy(*(told[field] for field in ("source", "source_x", "source_y", "target", "target_x", "target_y", "w", "h")))
+        return images.copy(*(told[field] for field in ("source", "x", "y", "target", "x2", "y2", "w", "h")))
     image, x, y, w, h = (told[field] for field in ("image", "x", "y", "w", "h"))
     images.inside(image, x, y, w, h)
     if command.name == "ClearRect":
@@ -203,4 +203,4 @@ def read_back(command: commands.Command, stand: "Stand") -> str:
         return f"writes {counted(told['size'], 'byte')} of bucket {told['bucket']} to result memory {told['memory']}"
     size = len(stand.buckets[told["bucket"]])
     data = f" and {counted(min(size, told['data_size']), 'byte')} to result memory {told['data_memory']}" if told["data_size"] else ""
-    return f"writes the size of bucket {told['bucket']}, {size}, to result memory {told['size_memory']}{data}"
+    return f"writes the size of bucket {told['bucket']}, {size}, to result memory {told['result_memory']}{data}"

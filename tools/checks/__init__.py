@@ -9,7 +9,8 @@ import subprocess
 import sys
 
 PARTS = ("workers", "refuse_memory", "refuse_io", "soak", "costs", "memory", "pictures", "traces", "mutations", "explaining",
-         "manual", "releases", "pages", "building", "previews", "times", "assembling", "packaging", "recording")
+         "replays", "logs", "comparing", "manual", "releases", "pages", "building", "previews", "times", "assembling", "packaging",
+         "recording")
 ASIDE = ("greatest",)  # parts that take long, and come only where they or the large size are asked for
 
 # Faults that the parts have to find, for the test of the check itself: a part, a file, what stands there, what is put there.
@@ -31,6 +32,12 @@ PLANTED = (
     ("costs", "bench/once", "signal.alarm(int(limit))", "os.kill(process, signal.SIGKILL)"),
     ("mutations", "view/output.py", "return bytes.fromhex(row)", "return bytes.fromhex(row)[::-1]"),
     ("traces", "view/trace.py", 'if event.kind != "order":', 'if event.kind == "finish":'),
+    ("traces", "view/trace.py", "self.note(bar.end, bar.stream, 0, -1)", "self.note(bar.end, bar.stream, 0, 0)"),
+    ("replays", "view/images.py", "picture.put(x, y, w, rows)", "picture.put(x, y, w, rows[:1])"),
+    ("replays", "view/waits.py", "target.release >= wait.release", "target.release > wait.release"),
+    ("logs", "view/faults.py", "told[field] % 4", "told[field] % 2"),
+    ("logs", "view/log.py", 'deed.mark or "done"', '"done"'),
+    ("comparing", "view/compare.py", "return event.kind, event.actions,", "return event.kind, event.number,"),
     ("traces", "view/trace.py", '"ts": bar.begin + 1', '"ts": bar.begin + 2'),
     ("explaining", "docs/FORMATS.md", "the number is the next one |", "|"),
     ("explaining", "view/due.py", "standing.drawn + 1", "standing.drawn"),

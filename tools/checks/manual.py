@@ -4,9 +4,10 @@ import re
 import shutil
 import subprocess
 
-COMMANDS = ("run", "check", "generate", "trial", "verify", "pictures", "timeline", "explain",
+COMMANDS = ("run", "check", "generate", "trial", "verify", "pictures", "timeline", "log", "compare", "explain",
             "assemble", "disassemble", "--help", "--version")
-OPTIONS = ("--into", "--scale", "--trace", "--page", "--program", "--await")
+OPTIONS = ("--into", "--scale", "--at", "--trace", "--page", "--script", "--json", "--stream", "--order", "--command",
+           "--failed", "--lost", "--waits", "--program", "--await")
 STATUSES = (*range(1, 12), 126, 127)
 EXAMPLE = re.compile(r"examples/\w+\.(?:script|stdout)")
 SENTENCES = range(3, 7)
@@ -43,7 +44,7 @@ def check_text(name, text, before, tally):
 
 def check_status_line(top, program, tally):
     """Words that are no command line are told in one line."""
-    for words in (["timeline"], ["pictures", "--scale", "0"], ["pictures", "--in", "x"], ["explain", "x"]):
+    for words in (["timeline"], ["compare", "x"], ["log", "--json=1"], ["pictures", "--scale", "0"], ["pictures", "--in", "x"], ["explain", "x"]):
         ran = subprocess.run([top / "zorvleid", *words], input=b"", capture_output=True, check=False)
         is_so = ran.returncode == 2 and ran.stderr.startswith(b"bad command line: ") and ran.stderr.count(b"\n") == 1
         tally.tell(f"zorvleid {' '.join(words)}", None if is_so else str(ran))
