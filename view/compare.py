@@ -58,8 +58,8 @@ class ImageDifference:
         places, count = self.places(), self.first.width * self.first.height
         x, y = places[0] % self.first.width, places[0] // self.first.width
         values = [image.texels[CHANNELS * places[0]:][:CHANNELS].hex() for image in (self.first, self.second)]
-        return f"{counted(len(places), 'texel')} of {count:,} {'differs' if len(places) == 1 else 'differ'}, first at {x}, {y}: " \
-               f"{values[0]} in A, {values[1]} in B"
+        how_many = f"{counted(len(places), 'texel')} of {count:,} {'differs' if len(places) == 1 else 'differ'}"
+        return f"{how_many}, first at {x}, {y}: {values[0]} in A, {values[1]} in B"
 
 
 def parting(first: Sequence[object], second: Sequence[object]) -> Parting:
@@ -143,7 +143,8 @@ def ended_waits(history: History) -> dict[str, str]:
     numbers = {bar.number: at for lane in range(1, len(history.lanes) + 1)
                for at, bar in enumerate((bar for bar in history.bars if bar.stream == lane), 1)}
     for wait in history.waits:
-        key = f"the wait of flush {numbers[wait.number]} of stream {wait.stream} for stream {wait.target} at release {wait.release}"
+        key = f"the wait of flush {numbers[wait.number]} of stream {wait.stream} " \
+              f"for stream {wait.target} at release {wait.release}"
         found[key] = f"{found[key]}, {wait.how}" if key in found else wait.how
     return found
 

@@ -1,4 +1,4 @@
-"""The page of two outputs beside each other: what differs in words, the images with their differences, and where the journals part."""
+"""The page of two outputs beside each other: what differs in words, the images with their differences, where they part."""
 
 import base64
 from collections.abc import Sequence

@@ -28,7 +28,8 @@ class Choice:
         return (not self.streams or event.stream in self.streams) and \
             (not self.orders or (bar is not None and bar.number in self.orders)) and \
             (not self.commands or name in self.commands) and \
-            (not self.marks or deed.mark in self.marks or ("waits" in self.marks and bool(history.waits_made(place) or deed.ended)))
+            (not self.marks or deed.mark in self.marks
+             or ("waits" in self.marks and bool(history.waits_made(place) or deed.ended)))
 
 
 def what(history: History, place: int) -> str:

@@ -42,7 +42,9 @@ def gone_waits(gone: "Sequence[Wait]") -> str:
 
 
 def dropped_numbers(left: list[int]) -> str:
-    return f"; {'number' if len(left) == 1 else 'numbers'} {joined(left)} {'ends' if len(left) == 1 else 'end'} here" if left else ""
+    if not left:
+        return ""
+    return f"; number {left[0]} ends here" if len(left) == 1 else f"; numbers {joined(left)} end here"
 
 
 def execute(standing: "Standing", event: Event, stand: "Stand") -> Deed:
@@ -202,5 +204,7 @@ def read_back(command: commands.Command, stand: "Stand") -> str:
     if command.name == "GetBucketData":
         return f"writes {counted(told['size'], 'byte')} of bucket {told['bucket']} to result memory {told['memory']}"
     size = len(stand.buckets[told["bucket"]])
-    data = f" and {counted(min(size, told['data_size']), 'byte')} to result memory {told['data_memory']}" if told["data_size"] else ""
+    data = ""
+    if told["data_size"]:
+        data = f" and {counted(min(size, told['data_size']), 'byte')} to result memory {told['data_memory']}"
     return f"writes the size of bucket {told['bucket']}, {size}, to result memory {told['result_memory']}{data}"
