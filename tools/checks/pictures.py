@@ -13,7 +13,7 @@ from pathlib import Path
 
 if __name__ == "__main__":
     top = Path(__file__).resolve().parent.parent.parent
-    sys.path[:0] = [str(top), str(top / "tools"), str(top / "tests")]
+    sys.path[:0] = [str(top), str(top / "python"), str(top / "tools"), str(top / "tests")]
 
 from checks import outputs  # noqa: E402
 
