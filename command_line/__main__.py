@@ -5,9 +5,11 @@ For a command line of the program that is right it does nothing, and ends with 0
 """
 
 import os
+import signal
 import sys
 
 from . import help, judge, version
+from .marks import printable
 from .table import COMMANDS, TOP
 
 USAGE, WRITE_FAULT, MISSING = 2, 4, 127
@@ -35,19 +37,29 @@ def start(words: list[str]) -> int:
     return MISSING
 
 
-def main() -> int:
-    """Answers the words of this process."""
-    words = sys.argv[1:]
-    if words[:1] and words[0] in COMMANDS and not {"--help", "-h"}.isdisjoint(words[1:]):
+def answer(words: list[str]) -> int:
+    """Answers the words behind the name of the program."""
+    if words and words[0] in COMMANDS and not {"--help", "-h"}.isdisjoint(words[1:]):
         words = ["help", words[0]]
     if (why := judge.reason(words)) is not None:
-        print(f"bad command line: {why}", file=sys.stderr)
+        print(f"bad command line: {printable(why)}", file=sys.stderr)
         return USAGE
     if words[0] in judge.HELP:
         return write(help.text(words[1:]))
     if words[0] in judge.VERSION:
         return write(version.text())
     return start(words) if COMMANDS[words[0]].tool else 0
+
+
+def main() -> int:
+    """Answers the words of this process. A fault of this package itself is a line too."""
+    try:
+        return answer(sys.argv[1:])
+    except KeyboardInterrupt:
+        return 128 + signal.SIGINT
+    except Exception as fault:
+        print(f"fault of command_line: {type(fault).__name__}: {fault}", file=sys.stderr)
+        return WRITE_FAULT
 
 
 if __name__ == "__main__":

@@ -3,7 +3,8 @@
 import re
 from collections.abc import Sequence
 
-from .scripts import Fault, Form, near, words_of
+from .marks import Fault
+from .scripts import Form, near, words_of
 
 FORMS = (
     Form("order", ("S", "N", "C")), Form("step", ("S",), ("I:V",)), Form("finish", ("S", "N")),

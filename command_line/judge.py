@@ -1,12 +1,13 @@
 """Why a command line is refused, by the table: the word that is wrong, and what may stand there."""
 
 import difflib
+import os
 from collections.abc import Iterable, Sequence
-from pathlib import Path
 
 from .table import COMMANDS, Command, Option
 
 HELP, VERSION = ("help", "--help", "-h"), ("version", "--version")
+NAMES_ALL = "'./zorvleid --help' names all"
 
 
 class Wrong(Exception):
@@ -53,9 +54,12 @@ def option_of(command: Command, word: str) -> Option:
     name = word.partition("=")[0]
     if (option := command.option(name)) is not None:
         return option
-    near = meant(name, [*(option.name for option in command.options), "--help"])
-    if command.operands and Path(word).exists():
-        near = f"; the file of this name is './{word}'"
+    if command.operands and os.path.exists(word):
+        raise Wrong(f"{command.name} has no option '{word}'; the file is called './{word}'")
+    names = [option.name for option in command.options]
+    if not names:
+        raise Wrong(f"{command.name} takes no option, not '{name}'{meant(name, ['--help'])}")
+    near = meant(name, [*names, "--help"]) or f"; it has {listed(names)}"
     raise Wrong(f"{command.name} has no option '{name}'{near}")
 
 
@@ -110,16 +114,17 @@ def command_of(name: str) -> Command:
     """The row of a name."""
     if name in COMMANDS:
         return COMMANDS[name]
-    if Path(name).is_file():
+    if os.path.isfile(name):
         raise Wrong(f"no command '{name}'; did you mean 'run {name}'?")
     kind = "option" if name.startswith("-") else "command"
-    raise Wrong(f"no {kind} '{name}'{meant(name, [*COMMANDS, *HELP, *VERSION])}")
+    near = meant(name, [*COMMANDS, *HELP, *VERSION]) or f"; {NAMES_ALL}"
+    raise Wrong(f"no {kind} '{name}'{near}")
 
 
 def check(words: Sequence[str]) -> None:
     """Refuses a command line that is wrong."""
     if not words:
-        raise Wrong(f"a command is missing; the commands are {listed(list(COMMANDS))}")
+        raise Wrong(f"a command is missing; {NAMES_ALL}")
     name, rest = words[0], words[1:]
     if name in VERSION and rest:
         raise Wrong(f"{name} takes no word behind it, not '{rest[0]}'")

@@ -11,40 +11,26 @@ import subprocess
 import sys
 
 from . import journals, scripts, texts
-from .scripts import Fault
+from .marks import told
 
 NO_JOURNAL = 11
 SCRIPT_LINE = re.compile(r"refused: line (\d+): (\w+)")
 JOURNAL_LINE = re.compile(r"refused: journal line (\d+)")
-WORDS_SHOWN, LETTERS_SHOWN = 3, 40
 
 
-def read() -> bytes:
-    """The input from its beginning, which the program has read before."""
-    os.lseek(0, 0, os.SEEK_SET)
-    return sys.stdin.buffer.read()
+def read() -> bytes | None:
+    """The input from its beginning, which the program has read before; or None where it is gone."""
+    try:
+        os.lseek(0, 0, os.SEEK_SET)
+        return sys.stdin.buffer.read()
+    except OSError:
+        return None
 
 
 def lines_of(data: bytes) -> list[str]:
     """The lines of a text, each byte a character."""
     lines = data.decode("latin-1").split("\n")
     return lines if lines[-1] else lines[:-1]
-
-
-def shown(word: str) -> str:
-    """A word as it can be printed, cut where it is long."""
-    text = word.encode("latin-1").decode("utf-8", "backslashreplace")
-    text = "".join(char if char.isprintable() else f"\\x{ord(char):02x}" for char in text)
-    return text if len(text) <= LETTERS_SHOWN else text[:LETTERS_SHOWN] + ".."
-
-
-def marked(words: list[str], place: int) -> str:
-    """The words of a line, with the one at a place in brackets, and those far from it left out."""
-    parts = [shown(word) for word in words] + [""] * (place - len(words) + 1)
-    parts[place] = f"[{parts[place] or ' '}]"
-    first, last = max(place - WORDS_SHOWN, 0), place + WORDS_SHOWN + 1
-    front = [parts[0], *([".."] if first > 1 else [])] if first > 0 else []
-    return " ".join([*front, *parts[first:last], *([".."] if last < len(parts) else [])])
 
 
 def of_script(data: bytes, number: int, kind: str) -> str | None:
@@ -65,11 +51,6 @@ def of_journal(data: bytes, number: int) -> str:
     return told(lines[number - 1].split(" ") if number <= len(lines) else [], fault)
 
 
-def told(words: list[str], fault: Fault) -> str:
-    """A fault behind the line that has it."""
-    return f"{marked(words, fault.place)}: {fault.expected}" if words else fault.expected
-
-
 def why(data: bytes, said: str) -> str | None:
     """The line that says why an input is refused, where there is one."""
     if found := SCRIPT_LINE.fullmatch(said):
@@ -79,18 +60,28 @@ def why(data: bytes, said: str) -> str | None:
     return None
 
 
-def main() -> int:
-    """Says why the input is refused, and ends with the status."""
+def explain() -> int:
+    """Says why the input is refused, and answers the status."""
     program, status, said = sys.argv[1], int(sys.argv[2]), sys.argv[3]
     data = read()
-    if status == NO_JOURNAL and b"\r\n" in data:
+    if data and status == NO_JOURNAL and b"\r\n" in data:
         data = data.replace(b"\r\n", b"\n")
         ran = subprocess.run([program, "verify"], input=data, stderr=subprocess.PIPE, check=False)
         status, said = ran.returncode, ran.stderr.decode().rstrip("\n")
-    for line in (said, why(data, said)):
+    for line in (said, None if data is None else why(data, said)):
         if line:
             print(line, file=sys.stderr)
     return status
+
+
+def main() -> int:
+    """Ends with the status, also where a fault of this package leaves the second line out."""
+    try:
+        return explain()
+    except Exception as fault:
+        print(sys.argv[3], file=sys.stderr)
+        print(f"fault of command_line: {type(fault).__name__}: {fault}", file=sys.stderr)
+        return int(sys.argv[2])
 
 
 if __name__ == "__main__":

@@ -10,18 +10,12 @@ import re
 from collections.abc import Callable, Iterable, Iterator, Sequence
 from dataclasses import dataclass, field
 
+from .marks import Fault
+
 BLANKS = re.compile(r"[ \t\r]+")
 PRIORITIES = ("high", "normal", "low")
 STREAMS, FENCES, MEMORIES, NAMESPACES = 16, 16, 16, 256
 LEAST_RING, MOST_RING, MOST_WORDS, ACTIONS, FLUSHES = 16, 4096, 65_536, 1_000_000, 100_000
-
-
-@dataclass(frozen=True)
-class Fault:
-    """The place of the wrong word, which may be the one behind the last; and what was expected."""
-
-    place: int
-    expected: str
 
 
 @dataclass(frozen=True)

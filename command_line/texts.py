@@ -2,7 +2,7 @@
 
 import re
 
-from .scripts import Fault
+from .marks import Fault
 
 HEADS = "`gpu-script 1` or `gpu-script 2`"
 BEGINS = f"a script begins with the line {HEADS}"

@@ -1,7 +1,8 @@
 """Files that are whole or not there, whatever their names lead to.
 
-`write_all` looks at all names first. A regular file, also one behind links, is written beside its place, and takes it once
-all files are written. What is no regular file, as a device or a pipe, is written as it stands, and `-` is standard output.
+`write_all` looks at all names first. A regular file, also one behind links, is written beside its
+place, and takes it once all files are written. What is no regular file, as a device or a pipe, is
+written as it stands, and `-` is standard output.
 """
 
 import errno
@@ -62,7 +63,7 @@ def descriptor_of(path: Path) -> int | None:
 
 
 def target_of(name: str | Path) -> Target:
-    """What a name leads to, by its links. One at a time is followed, since a link may lead to an open descriptor."""
+    """What a name leads to, by its links: the last of them may be one to an open descriptor."""
     text = str(name)
     if not text:
         raise WrongName("the name of a file is empty")
@@ -106,7 +107,8 @@ def write_beside(target: Target, data: bytes, part: Path) -> None:
 
 def write_in_place(place: int | Path, data: bytes) -> None:
     """Writes bytes into what stands there."""
-    with open(os.dup(place) if isinstance(place, int) else os.open(place, os.O_WRONLY), "wb") as file:
+    descriptor = os.dup(place) if isinstance(place, int) else os.open(place, os.O_WRONLY)
+    with open(descriptor, "wb") as file:
         file.write(data)
 
 

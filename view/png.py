@@ -1,4 +1,4 @@
-"""PNG files of one kind: red, green, blue and alpha with 8 bits each, no interlacing, and no other chunk."""
+"""PNG files of one kind: red, green, blue and alpha with 8 bits each, and no interlacing."""
 
 import struct
 import zlib
@@ -25,8 +25,9 @@ def rows(width: int, texels: bytes, scale: int) -> Iterator[bytes]:
 
 
 def png(width: int, height: int, texels: bytes, scale: int = 1) -> bytes:
-    """A file of an image, given row after row, that repeats each texel `scale` times in both directions."""
-    header = struct.pack(">IIBBBBB", width * scale, height * scale, DEPTH, COLOURS_AND_ALPHA, 0, 0, 0)
+    """A file of an image that repeats each texel `scale` times in both directions."""
+    size = struct.pack(">II", width * scale, height * scale)
+    header = size + bytes([DEPTH, COLOURS_AND_ALPHA, 0, 0, 0])
     packer = zlib.compressobj()
     data = b"".join(map(packer.compress, rows(width, texels, scale))) + packer.flush()
     return SIGNATURE + chunk(b"IHDR", header) + chunk(b"IDAT", data) + chunk(b"IEND", b"")

@@ -9,7 +9,8 @@ import subprocess
 import sys
 
 PARTS = ("workers", "refuse_memory", "refuse_io", "soak", "costs", "memory", "pictures", "traces", "mutations", "explaining",
-         "replays", "logs", "comparing", "manual", "releases", "pages", "building", "previews", "times", "assembling", "packaging",
+         "replays", "logs", "comparing", "command_lines", "manual", "releases", "pages", "building", "previews", "times",
+         "assembling", "packaging",
          "recording")
 ASIDE = ("greatest",)  # parts that take long, and come only where they or the large size are asked for
 
@@ -41,6 +42,8 @@ PLANTED = (
     ("traces", "view/trace.py", '"ts": bar.begin + 1', '"ts": bar.begin + 2'),
     ("explaining", "docs/FORMATS.md", "the number is the next one |", "|"),
     ("explaining", "view/due.py", "standing.drawn + 1", "standing.drawn"),
+    ("command_lines", "command_line/table.py", '"1 to 8", 0, 8)', '"1 to 8", 1, 8)'),
+    ("command_lines", "view/files.py", "path = path.parent / os.readlink(path)", "break"),
     ("manual", "docs/zorvleid.1", ".It Cm explain", ".It Cm expound"),
     ("releases", "tools/release", '"view",', ""),
     ("assembling", "python/zorvleid/commands.py", '"image width height"', '"image height width"'),
