@@ -1,5 +1,6 @@
 """A release of a copy of the repository: it is made, it is refused where it has to be, and it runs with no toolchain."""
 
+import re
 import shutil
 import subprocess
 import tarfile
@@ -7,7 +8,8 @@ import tempfile
 from pathlib import Path
 
 PROGRAM = Path("crates/script_main/out/script_main")
-COMMANDS = ("sh", "cat", "dirname", "readlink", "python3")
+COMMANDS = ("sh", "cat", "dirname", "readlink", "mktemp", "head", "rm", "python3")
+LINK = re.compile(r"\]\(([^)\s#:]+)[^):]*\)")
 LEFT_OUT = (".git", "out", "__pycache__", "cases", "crates", "bench")
 TIME = "2020-01-01T00:00:00Z"
 
@@ -119,6 +121,9 @@ def check_unpacked(top, archive, folder, commit, tally):
     run(["timeline", "--page", "page.html", "--trace", "trace.json"], output, b"", "timeline")
     run(["explain"], script + b"journal\n" + output, None, "explain")
     run(["assemble"], read(there / "examples/compositor.commands"), script, "assemble")
+    version = f"zorvleid 0.1.0\ncommit: {commit}\nkit: a toolchain\nprogram: proved, of this commit; the gate passed on {commit}\n"
+    run(["--version"], b"", version.encode(), "version")
+    check_links(there, tally)
     checker = ["sha256sum", "--check", "--quiet", "SHA256SUMS"]
     sums = subprocess.run(checker, cwd=there, capture_output=True, text=True, check=False)
     tally.tell("the release, its sums", sums.stderr.strip() or sums.stdout.strip() or None)
@@ -129,3 +134,14 @@ def check_unpacked(top, archive, folder, commit, tally):
     wanted = {"bin/script_main", "zorvleid", "README.md", "RELEASE", "docs/zorvleid.1", "docs/FORMATS.md", "examples/README.md",
               "view/output.py", "view/pages/timeline.js"}
     tally.tell("the release, its files", None if wanted <= listed else f"it lacks {sorted(wanted - listed)}")
+
+
+def check_links(there, tally):
+    """Each link of an unpacked document leads to an unpacked file, and a document that lost links has their texts."""
+    count = 0
+    for document in sorted(there.rglob("*.md")):
+        for target in LINK.findall(document.read_text(encoding="utf-8")):
+            count += 1
+            is_there = (document.parent / target).exists()
+            tally.tell(f"the release, {document.relative_to(there)}: {target}", None if is_there else "it is not packed")
+    tally.tell("the release, its links", None if count > 9 else f"there are {count}")
