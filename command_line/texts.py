@@ -22,7 +22,7 @@ def is_utf_16(data: bytes) -> bool:
     """Whether every other byte of a text is zero, as in UTF-16 without its mark."""
     front = data[:LOOKED_AT]
     halves = (front[::2], front[1::2])
-    return len(front) >= 4 and any(not any(half) for half in halves) and all(map(len, halves))
+    return len(front) >= 4 and any(not any(half) for half in halves)
 
 
 def of_bytes(data: bytes) -> str | None:
