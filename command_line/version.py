@@ -39,7 +39,7 @@ def of_tree() -> Iterator[str]:
         yield "program: older than its sources; the next run proves and builds it anew"
     else:
         of = "this changed tree" if is_changed else "this commit" if commit else "these sources"
-        yield f"program: proved and built by tools/build, of {of}"
+        yield f"program: newer than its sources, of {of}; tools/build builds only what is proved"
 
 
 def of_release() -> Iterator[str]:

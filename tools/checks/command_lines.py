@@ -361,7 +361,7 @@ def check_versions(tree: Tree, tally: Tally) -> None:
         ran = tree.run(["--version"])
         tally.tell(f"{tell}, {wanted}", told(ran, Ran(0, f"{head}program: {wanted}\n".encode(), "")))
 
-    said("proved and built by tools/build, of these sources")
+    said("newer than its sources, of these sources; tools/build builds only what is proved")
     os.utime(tree.top / "crates.txt", (2**32, 2**32))
     said("older than its sources; the next run proves and builds it anew")
     os.utime(tree.top / "crates.txt", (0, 0))
