@@ -32,7 +32,7 @@ def check(top, program, tally):
 def check_text(name, text, before, tally):
     """All that a text has to name; a command and a status begin what is said of them."""
     for command in COMMANDS:
-        found = re.search(rf"^ *{before}(?:--help, )?{command}\b", text, re.MULTILINE)
+        found = re.search(rf"^ *{before}(?:--help, |version, )?{command}\b", text, re.MULTILINE)
         tally.tell(f"{name}: {command}", None if found else "it is not named")
     for option in OPTIONS:
         tally.tell(f"{name}: {option}", None if option in text else "it is not named")
@@ -44,7 +44,8 @@ def check_text(name, text, before, tally):
 
 def check_status_line(top, program, tally):
     """Words that are no command line are told in one line."""
-    for words in (["timeline"], ["compare", "x"], ["log", "--json=1"], ["pictures", "--scale", "0"], ["pictures", "--in", "x"], ["explain", "x"]):
+    for words in (["timeline"], ["compare", "x"], ["log", "--json=1"], ["pictures", "--scale", "0"], ["pictures", "--in", "x"],
+                  ["explain", "x"]):
         ran = subprocess.run([top / "zorvleid", *words], input=b"", capture_output=True, check=False)
         is_so = ran.returncode == 2 and ran.stderr.startswith(b"bad command line: ") and ran.stderr.count(b"\n") == 1
         tally.tell(f"zorvleid {' '.join(words)}", None if is_so else str(ran))
