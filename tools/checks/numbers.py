@@ -1,7 +1,7 @@
 """Sees that the numbers of the documents are those of the sources.
 
 A number of ten or more needs a fact: the words around it, with `#` for the number, and where the sources have it. A smaller number
-is looked up only where a fact fits. Headings, table cells and sentences count alike, and code does not. Left out are versions, powers
+is looked up only where a fact fits, and so is one within code. Headings, table cells and sentences count alike. Left out are versions, powers
 such as 2^32, the widths of machine words, and examples/README.md, whose numbers belong to its scripts.
 """
 
@@ -167,12 +167,18 @@ def numbers_in(text: str) -> Iterator[tuple[str, str]]:
             yield match[0], re.sub(r"[*`]|\s+", lambda it: " " if it[0].isspace() else "", f"{before}#{after}")
 
 
-def fault(top: Path, number: str, around: str) -> str | None:
-    """What is wrong with a number."""
+def code_of(text: str) -> str:
+    """The lines of a document that are code: those within fences, and those that are set in."""
+    fenced = [match[0] for match in prose.FENCE.finditer(text)]
+    return "\n".join([*fenced, *(line for line in text.split("\n") if line.startswith("    "))])
+
+
+def fault(top: Path, number: str, around: str, is_code: bool = False) -> str | None:
+    """What is wrong with a number; within code it needs no fact."""
     value = value_of(number)
     fact = next((fact for fact in FACTS if re.search(fact.words.replace("#", r"\#"), around)), None)
     if fact is None:
-        is_free = value < FREE or IMAGE_ERRORS.fullmatch(number) or (value in (16, 32, 64, 128) and WIDTHS.search(around))
+        is_free = is_code or value < FREE or IMAGE_ERRORS.fullmatch(number) or (value in (16, 32, 64, 128) and WIDTHS.search(around))
         return None if is_free else f"no fact of tools/checks/numbers.py says where '{around.strip()}' comes from"
     wanted = fact.value(top)
     fits = 0 < value <= wanted if fact.source in AT_MOST else value == wanted
@@ -185,6 +191,7 @@ def check(top: Path, _program: Path, tally: Tally) -> None:
         name = str(path.relative_to(top))
         if name in LEFT_OUT:
             continue
-        page = prose.read(path.read_text(encoding="utf-8"))
-        wrong = [(f"the number {number}", fault(top, number, around)) for number, around in numbers_in(page.prose)]
-        tally.tell_all(name, [(where, text) for where, text in wrong if text])
+        text = path.read_text(encoding="utf-8")
+        seen = [(number, fault(top, number, around)) for number, around in numbers_in(prose.read(text).prose)]
+        seen += [(number, fault(top, number, around, True)) for number, around in numbers_in(code_of(text))]
+        tally.tell_all(name, [(f"the number {number}", wrong) for number, wrong in seen if wrong])
