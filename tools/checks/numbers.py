@@ -1,8 +1,9 @@
 """Sees that the numbers of the documents are those of the sources.
 
-A number of ten or more needs a fact: the words around it, with `#` for the number, and where the sources have it. A smaller number
-is looked up only where a fact fits, and so is one within code. Headings, table cells and sentences count alike. Left out are versions, powers
-such as 2^32, the widths of machine words, and examples/README.md, whose numbers belong to its scripts.
+A number of ten or more needs a fact: the words around it, with `#` for the number, and where the
+sources have it. A smaller number is looked up only where a fact fits, and so is one within code.
+Headings, table cells and sentences count alike. Left out are versions, powers such as 2^32, the
+widths of machine words, and examples/README.md, whose numbers belong to its scripts.
 """
 
 import re
@@ -19,8 +20,10 @@ AROUND = 48
 FREE = 10
 LEFT_OUT = ("examples/README.md",)
 NUMBER = re.compile(r"(?<![\w.,^:-])(?:0x)?\d+(?:,\d{3})*(?![\w.,^:-]*\w|\^)")
-SPELLED = ("zero one two three four five six seven eight nine ten eleven twelve thirteen fourteen fifteen sixteen seventeen eighteen "
-           "nineteen twenty").split()
+SPELLED = (
+    "zero one two three four five six seven eight nine ten eleven twelve thirteen fourteen "
+    "fifteen sixteen seventeen eighteen nineteen twenty"
+).split()
 WORD = re.compile(rf"\b(?:{'|'.join(SPELLED)})\b", re.IGNORECASE)
 
 
@@ -54,7 +57,9 @@ def constant(path: str, name: str) -> Source:
 
 def counted(path: str, pattern: str) -> Source:
     """How often a pattern fits in a file."""
-    return lambda top: len(re.findall(pattern, (top / path).read_text(encoding="utf-8"), re.MULTILINE))
+    return lambda top: len(
+        re.findall(pattern, (top / path).read_text(encoding="utf-8"), re.MULTILINE)
+    )
 
 
 def files(pattern: str, without: tuple[str, ...] = ()) -> Source:
@@ -88,7 +93,10 @@ SIZE_BITS = constant("gpu_word/src/header.rt", "SIZE_BITS")
 ID_BITS = constant("gpu_word/src/header.rt", "ID_BITS")
 CLAUSES = counted("crates/script_main/src/program.rt", r"^    ensures ")
 RULES = counted("crates/gpu_journal/specs/Legal.antt", r"^  pub rule_\d+ :")
-CHECKS = counted("docs/FORMATS.md", r"^\| \d+ \| [^|]+ \| (?:InvalidSize|OutOfBounds|UnknownCommand|InvalidArguments|Quota) \|$")
+CHECKS = counted(
+    "docs/FORMATS.md",
+    r"^\| \d+ \| [^|]+ \| (?:InvalidSize|OutOfBounds|UnknownCommand|InvalidArguments|Quota) \|$",
+)
 DRAWS = "crates/script_generator/specs/Draws.antt"
 GENERATOR = "crates/script_generator/specs/Generator.antt"
 NUMBERS = "crates/script_words/specs/Numbers.antt"
@@ -104,7 +112,10 @@ FACTS = (
     Fact(r"bucket or buffer is above #", SLOTS, -1),
     Fact(r"buffers are # optional", SLOTS),
     Fact(r"more than # streams|streams of a script \| #|are # streams at most", MOST_STREAMS),
-    Fact(r"namespaces are at most #|NS of a stream is above #", constant("gpu_plan/src/adding.rt", "LAST_NAMESPACE")),
+    Fact(
+        r"namespaces are at most #|NS of a stream is above #",
+        constant("gpu_plan/src/adding.rt", "LAST_NAMESPACE"),
+    ),
     Fact(r"M of a declaration is above #", constant("gpu_plan/src/spans.rt", "LAST_MEMORY")),
     Fact(r"more than # actions|actions of a script \| #", MOST_ACTIONS),
     Fact(r"actions or # flushes|flushes of a script \| #|at most # numbers", MOST_FLUSHES),
@@ -113,7 +124,11 @@ FACTS = (
     Fact(r"more than # texels|texels of all images \| #", MOST_TEXELS),
     Fact(r"\b(?:to|\|) # workers|workers \| #|with N workers, from 1 to #", MOST_WORKERS),
     Fact(r"\b(?:to|\|) # viewers|viewers \| #|with V viewers, from 1 to #", MOST_VIEWS),
-    Fact(r"while (?:it holds )?# notes|are # notes in it|after # posts|that # flushes were posted|queue has # places", MOST_NOTES),
+    Fact(
+        r"while (?:it holds )?# notes|are # notes in it|after # posts|that # flushes were posted"
+        r"|queue has # places",
+        MOST_NOTES,
+    ),
     Fact(r"hands # flushes", constant("flush_queue/src/tests/posting.rt", "FLUSHES")),
     Fact(r"room for # words from the first", constant("gpu_fetch/src/fetch.rt", "USUAL_ENTRIES")),
     Fact(r"up to # commands", constant("gpu_house/src/batch.rt", "MOST_MEMBERS")),
@@ -127,22 +142,36 @@ FACTS = (
     Fact(r"checks \d+ (?:to|and) #|check #,|checks # and|[Cc]hecks 1 to #", CHECKS),
     Fact(r"low # bits", SIZE_BITS),
     Fact(r"id in the other #", ID_BITS),
-    Fact(r"[Aa] serial history has at most # events", found("crates/history_laws/specs/Laws.antt", r"most_events p ≤ (\d+)")),
-    Fact(r"block of # values|BASE and PUT are #|and # for even", found(GENERATOR, r"base_of round = (\d+)")),
+    Fact(
+        r"[Aa] serial history has at most # events",
+        found("crates/history_laws/specs/Laws.antt", r"most_events p ≤ (\d+)"),
+    ),
+    Fact(
+        r"block of # values|BASE and PUT are #|and # for even",
+        found(GENERATOR, r"base_of round = (\d+)"),
+    ),
     Fact(r"sets x to # x", found(DRAWS, r"\((\d+) \* state")),
     Fact(r"x \+ # modulo", found(DRAWS, r"state \+ (\d+)\)")),
     Fact(r"gives x / #", found(DRAWS, r"draw / (\d+)")),
     Fact(r"small draws below #", found(GENERATOR, r"below (16)")),
     Fact(r"\| number \| 1 to #", found(NUMBERS, r"^decimal_of word = number_of 10 (\d+)")),
     Fact(r"long number \| 1 to #", found(NUMBERS, r"^long_decimal_of word = number_of 10 (\d+)")),
-    Fact(r"alpha is #|becomes c\s+# /", found("crates/gpu_store/specs/Conversion.antt", r"\b(255)\b")),
-    Fact(r"# theorems in", files("crates/history_laws/proofs/worked/*.antt", ("Applied.antt", "Said.antt", "MayBeTold.antt"))),
+    Fact(
+        r"alpha is #|becomes c\s+# /", found("crates/gpu_store/specs/Conversion.antt", r"\b(255)\b")
+    ),
+    Fact(
+        r"# theorems in",
+        files(
+            "crates/history_laws/proofs/worked/*.antt",
+            ("Applied.antt", "Said.antt", "MayBeTold.antt"),
+        ),
+    ),
     Fact(r"^# examples", files("examples/*.script")),
     Fact(r"at most # wrong bodies", most_wrong_bodies),
 )
 AT_MOST = (RULES, CHECKS)
 
-# What other checks see to in the rows of some tables: tools/checks/agreeing.py compares commands, statuses, checks and rules.
+# What agreeing.py compares in the rows of some tables: commands, statuses, checks and rules.
 ROWS = re.compile(
     r"^\| \d+ \| [A-Z]\w+ \| \d+ [^\n]* \| [0-9a-f]{8} \|$"  # a command
     r"|^\| [A-Z]\w+ \| \d+ \|"  # a status
@@ -162,9 +191,16 @@ def value_of(text: str) -> int:
 def numbers_in(text: str) -> Iterator[tuple[str, str]]:
     """Each number of a text, and the words around it, with `#` for the number."""
     for line in ROWS.sub("|", text).split("\n"):
-        for match in sorted((*NUMBER.finditer(line), *WORD.finditer(line)), key=lambda it: it.start()):
-            before, after = line[max(0, match.start() - AROUND):match.start()], line[match.end():match.end() + AROUND]
-            yield match[0], re.sub(r"[*`]|\s+", lambda it: " " if it[0].isspace() else "", f"{before}#{after}")
+        for match in sorted(
+            (*NUMBER.finditer(line), *WORD.finditer(line)), key=lambda it: it.start()
+        ):
+            before, after = (
+                line[max(0, match.start() - AROUND) : match.start()],
+                line[match.end() : match.end() + AROUND],
+            )
+            yield match[0], re.sub(
+                r"[*`]|\s+", lambda it: " " if it[0].isspace() else "", f"{before}#{after}"
+            )
 
 
 def code_of(text: str) -> str:
@@ -178,8 +214,17 @@ def fault(top: Path, number: str, around: str, is_code: bool = False) -> str | N
     value = value_of(number)
     fact = next((fact for fact in FACTS if re.search(fact.words.replace("#", r"\#"), around)), None)
     if fact is None:
-        is_free = is_code or value < FREE or IMAGE_ERRORS.fullmatch(number) or (value in (16, 32, 64, 128) and WIDTHS.search(around))
-        return None if is_free else f"no fact of tools/checks/numbers.py says where '{around.strip()}' comes from"
+        is_free = (
+            is_code
+            or value < FREE
+            or IMAGE_ERRORS.fullmatch(number)
+            or (value in (16, 32, 64, 128) and WIDTHS.search(around))
+        )
+        return (
+            None
+            if is_free
+            else f"no fact of tools/checks/numbers.py says where '{around.strip()}' comes from"
+        )
     wanted = fact.value(top)
     fits = 0 < value <= wanted if fact.source in AT_MOST else value == wanted
     return None if fits else f"{number} stands in '{around.strip()}', and the sources have {wanted}"
@@ -192,6 +237,12 @@ def check(top: Path, _program: Path, tally: Tally) -> None:
         if name in LEFT_OUT:
             continue
         text = path.read_text(encoding="utf-8")
-        seen = [(number, fault(top, number, around)) for number, around in numbers_in(prose.read(text).prose)]
-        seen += [(number, fault(top, number, around, True)) for number, around in numbers_in(code_of(text))]
+        seen = [
+            (number, fault(top, number, around))
+            for number, around in numbers_in(prose.read(text).prose)
+        ]
+        seen += [
+            (number, fault(top, number, around, True))
+            for number, around in numbers_in(code_of(text))
+        ]
         tally.tell_all(name, [(f"the number {number}", wrong) for number, wrong in seen if wrong])

@@ -1,9 +1,11 @@
-"""Sees that the documents read at once: the lengths of their sentences and of their table cells, and words that they avoid.
+"""Sees that the documents read at once: how long their sentences and table cells are.
 
-A sentence ends with a full stop, a question mark or an exclamation mark before a blank, and with its paragraph or list item.
-Headings, table cells and code are no sentences. A link counts by its text, and code within a line by its words. In SHORT, the
-documents that are read first, a sentence has MEAN words on average at most; in every document a sentence has LONGEST at
-most, and a table cell WIDEST. README.md has LINES lines at most, and names each kind of user.
+A sentence ends with a full stop, a question mark or an exclamation mark before a blank, and with
+its paragraph or list item. Headings, table cells and code are no sentences. A link counts by its
+text, and code within a line by its words. In SHORT, the documents that are read first, a sentence
+has MEAN words on average at most. In every document a sentence has LONGEST at most, a table cell
+WIDEST, and no text has a word of AVOIDED. README.md has LINES lines at most, and names each kind of
+user.
 """
 
 import re
@@ -13,9 +15,20 @@ from pathlib import Path
 
 from checks.tally import Tally
 
-SHORT = ("README.md", "docs/ARCHITECTURE.md", "docs/DEFINITIONS.md", "docs/CHANGING.md", "SECURITY.md")
+SHORT = (
+    "README.md",
+    "docs/ARCHITECTURE.md",
+    "docs/DEFINITIONS.md",
+    "docs/CHANGING.md",
+    "SECURITY.md",
+)
 MEAN, LONGEST, WIDEST, LINES = 18, 40, 25, 160
-USERS = ("debug the order of GPU work", "judge the journal of a real service", "learn how sync tokens", "a fully proved service")
+USERS = (
+    "debug the order of GPU work",
+    "judge the journal of a real service",
+    "learn how sync tokens",
+    "a fully proved service",
+)
 
 # What a reader stumbles over, and what to write in its place.
 AVOIDED = (
@@ -66,7 +79,7 @@ def plain(text: str) -> str:
 
 
 def blocks(text: str) -> Iterator[tuple[str, str]]:
-    """Each block of a document with its kind: a `row` of a table, a `head`, or a `text`, which is a paragraph or an item."""
+    """Each block of a document with its kind: `row`, `head`, or `text` for a paragraph or an item."""
     kept: list[str] = []
     after_blank = True
     for line in [*text.split("\n"), ""]:
@@ -97,7 +110,9 @@ def sentences_of(text: str) -> list[str]:
 def read(text: str) -> Page:
     """What stands in the text of a document."""
     parts = list(blocks(plain(text)))
-    sentences = [sentence for kind, part in parts if kind == "text" for sentence in sentences_of(part)]
+    sentences = [
+        sentence for kind, part in parts if kind == "text" for sentence in sentences_of(part)
+    ]
     cells = [cell for kind, part in parts if kind == "row" for cell in cells_of(part)]
     return Page(tuple(sentences), tuple(cells), "\n".join(CODE.sub(" ", part) for _, part in parts))
 
@@ -108,13 +123,20 @@ def documents(top: Path) -> list[Path]:
     return [path for folder in folders for path in sorted(folder.glob("*.md"))]
 
 
+def too_many(texts: list[str], most: int) -> str | None:
+    """What is wrong with the first of the texts that have too many words."""
+    return f"{count(texts[0])} words are more than {most}: {texts[0][:90]}" if texts else None
+
+
 def faults(name: str, page: Page) -> Iterator[tuple[str, str | None]]:
     """What is asked of a document, each with its fault or None."""
     long = [text for text in page.sentences if count(text) > LONGEST]
-    yield "its sentences", f"{count(long[0])} words are more than {LONGEST}: {long[0][:90]}" if long else None
+    yield "its sentences", too_many(long, LONGEST)
     wide = [text for text in page.cells if count(text) > WIDEST]
-    yield "its table cells", f"{count(wide[0])} words are more than {WIDEST}: {wide[0][:90]}" if wide else None
-    found = [(match[0], advice) for pattern, advice in AVOID for match in pattern.finditer(page.prose)]
+    yield "its table cells", too_many(wide, WIDEST)
+    found = [
+        (match[0], advice) for pattern, advice in AVOID for match in pattern.finditer(page.prose)
+    ]
     yield "its words", f"'{found[0][0]}' stands there: write {found[0][1]}" if found else None
     if name in SHORT:
         mean = page.mean()
@@ -140,4 +162,6 @@ def check_readme(text: str, tally: Tally) -> None:
     tally.tell("README.md, its lines", f"{lines} are more than {LINES}" if lines > LINES else None)
     whole = " ".join(text.split())
     for user in USERS:
-        tally.tell(f"README.md, its users: {user}", None if user in whole else "it does not name them")
+        tally.tell(
+            f"README.md, its users: {user}", None if user in whole else "it does not name them"
+        )
