@@ -128,7 +128,7 @@ def half_hour(top: Path) -> Iterator[tuple[str, str | None]]:
     ]
     words = prose.count(prose.plain(page)) + sum(map(prose.count, sentences))
     is_so = texts and words <= MINUTES * WORDS_A_MINUTE
-    yield "half an hour", None if is_so else f"{words} words read aloud take above {MINUTES} minutes"
+    yield "half an hour", None if is_so else f"{words} words take above {MINUTES} minutes aloud"
 
 
 def check_toolchain(top: Path, tally: Tally) -> None:

@@ -79,7 +79,7 @@ def plain(text: str) -> str:
 
 
 def blocks(text: str) -> Iterator[tuple[str, str]]:
-    """Each block of a document with its kind: `row`, `head`, or `text` for a paragraph or an item."""
+    """Each block of a document with its kind: `row`, `head`, or `text`, a paragraph or an item."""
     kept: list[str] = []
     after_blank = True
     for line in [*text.split("\n"), ""]:
