@@ -1,9 +1,9 @@
 """Sees that the numbers of the documents are those of the sources.
 
 A number of ten or more needs a fact: the words around it, with `#` for the number, and where the
-sources have it. A smaller number is looked up only where a fact fits, and so is one within code.
-Headings, table cells and sentences count alike. Left out are versions, powers such as 2^32, the
-widths of machine words, and examples/README.md, whose numbers belong to its scripts.
+sources have it. A smaller number is looked up only where a fact fits, and so is one within code
+or in examples/README.md, whose numbers belong to its scripts. Headings, table cells and sentences
+count alike. Left out are versions, powers such as 2^32, and the widths of machine words.
 """
 
 import re
@@ -18,7 +18,7 @@ Source = Callable[[Path], int]
 
 AROUND = 48
 FREE = 10
-LEFT_OUT = ("examples/README.md",)
+OF_SCRIPTS = ("examples/README.md",)
 NUMBER = re.compile(r"(?<![\w.,^:-])(?:0x)?\d+(?:,\d{3})*(?![\w.,^:-]*\w|\^)")
 SPELLED = (
     "zero one two three four five six seven eight nine ten eleven twelve thirteen fourteen "
@@ -166,7 +166,7 @@ FACTS = (
             ("Applied.antt", "Said.antt", "MayBeTold.antt"),
         ),
     ),
-    Fact(r"^# examples", files("examples/*.script")),
+    Fact(r"# examples$", files("examples/*.script")),
     Fact(r"at most # wrong bodies", most_wrong_bodies),
 )
 AT_MOST = (RULES, CHECKS)
@@ -209,40 +209,29 @@ def code_of(text: str) -> str:
     return "\n".join([*fenced, *(line for line in text.split("\n") if line.startswith("    "))])
 
 
-def fault(top: Path, number: str, around: str, is_code: bool = False) -> str | None:
-    """What is wrong with a number; within code it needs no fact."""
-    value = value_of(number)
+def fault(top: Path, number: str, around: str, needs_fact: bool) -> str | None:
+    """What is wrong with a number."""
+    value, where = value_of(number), around.strip()
     fact = next((fact for fact in FACTS if re.search(fact.words.replace("#", r"\#"), around)), None)
-    if fact is None:
-        is_free = (
-            is_code
-            or value < FREE
-            or IMAGE_ERRORS.fullmatch(number)
-            or (value in (16, 32, 64, 128) and WIDTHS.search(around))
-        )
-        return (
-            None
-            if is_free
-            else f"no fact of tools/checks/numbers.py says where '{around.strip()}' comes from"
-        )
-    wanted = fact.value(top)
-    fits = 0 < value <= wanted if fact.source in AT_MOST else value == wanted
-    return None if fits else f"{number} stands in '{around.strip()}', and the sources have {wanted}"
+    if fact is not None:
+        wanted = fact.value(top)
+        fits = 0 < value <= wanted if fact.source in AT_MOST else value == wanted
+        return None if fits else f"{number} stands in '{where}', and the sources have {wanted}"
+    is_width = value in (16, 32, 64, 128) and WIDTHS.search(around)
+    if value < FREE or is_width or IMAGE_ERRORS.fullmatch(number) or not needs_fact:
+        return None
+    return f"no fact of tools/checks/numbers.py says where '{where}' comes from"
 
 
 def check(top: Path, _program: Path, tally: Tally) -> None:
     """Tells of each document the numbers that the sources do not have."""
     for path in prose.documents(top):
-        name = str(path.relative_to(top))
-        if name in LEFT_OUT:
-            continue
-        text = path.read_text(encoding="utf-8")
-        seen = [
-            (number, fault(top, number, around))
-            for number, around in numbers_in(prose.read(text).prose)
-        ]
-        seen += [
-            (number, fault(top, number, around, True))
-            for number, around in numbers_in(code_of(text))
-        ]
-        tally.tell_all(name, [(f"the number {number}", wrong) for number, wrong in seen if wrong])
+        name, text = str(path.relative_to(top)), path.read_text(encoding="utf-8")
+        wrong = []
+        for part, needs_fact in (
+            (prose.read(text).prose, name not in OF_SCRIPTS),
+            (code_of(text), False),
+        ):
+            for number, around in numbers_in(part):
+                wrong.append((f"the number {number}", fault(top, number, around, needs_fact)))
+        tally.tell_all(name, [(where, said) for where, said in wrong if said])
