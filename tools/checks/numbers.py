@@ -163,7 +163,7 @@ FACTS = (
         r"# theorems in",
         files(
             "crates/history_laws/proofs/worked/*.antt",
-            ("Applied.antt", "Said.antt", "MayBeTold.antt"),
+            ("Applied.antt", "Said.antt", "MayBeTold.antt", "ClosesWaiting.antt"),
         ),
     ),
     Fact(r"# examples$", files("examples/*.script")),
