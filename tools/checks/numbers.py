@@ -102,24 +102,29 @@ GENERATOR = "crates/script_generator/specs/Generator.antt"
 NUMBERS = "crates/script_words/specs/Numbers.antt"
 
 FACTS = (
-    Fact(r"# bytes (?:were|was) read|bytes of an input \| #|input has at most # bytes", MOST_BYTES),
+    Fact(r"# bytes (?:were|was) read|bytes of an input \| #|has at most # bytes", MOST_BYTES),
     Fact(r"# reads that succeed", MOST_BYTES, 1),
     Fact(r"RING is not # to", constant("gpu_cmd/src/areas.rt", "LEAST_RING")),
     Fact(r"RING is not \d+ to #|entries of a ring \| #", MOST_RING),
-    Fact(r"# words of one sort|memories of one sort \| #", MOST_WORDS),
+    Fact(r"# words of one sort|at most # words together|memories of one sort \| #", MOST_WORDS),
     Fact(r"fetched words past #|fetched for a stream \| #", MOST_FETCHED),
     Fact(r"more than # bytes \| Invalid|bytes of a bucket or buffer \| #", MOST_BLOCK),
     Fact(r"bucket or buffer is above #", SLOTS, -1),
     Fact(r"buffers are # optional", SLOTS),
-    Fact(r"more than # streams|streams of a script \| #|are # streams at most", MOST_STREAMS),
+    Fact(
+        r"(?:more than|at most) # streams|streams of a script \| #|are # streams at most",
+        MOST_STREAMS,
+    ),
     Fact(
         r"namespaces are at most #|NS of a stream is above #",
         constant("gpu_plan/src/adding.rt", "LAST_NAMESPACE"),
     ),
     Fact(r"M of a declaration is above #", constant("gpu_plan/src/spans.rt", "LAST_MEMORY")),
-    Fact(r"more than # actions|actions of a script \| #", MOST_ACTIONS),
-    Fact(r"actions or # flushes|flushes of a script \| #|at most # numbers", MOST_FLUSHES),
-    Fact(r"more than # fences|fences of a flush \| #", MOST_FENCES),
+    Fact(r"(?:more than|at most) # actions|actions of a script \| #", MOST_ACTIONS),
+    Fact(
+        r"(?:actions or|at most) # flushes|flushes of a script \| #|at most # numbers", MOST_FLUSHES
+    ),
+    Fact(r"(?:more than|at most) # fences|fences of a flush \| #", MOST_FENCES),
     Fact(r"side is 0 or above #|side of an image, in texels \| #", MOST_SIDE),
     Fact(r"more than # texels|texels of all images \| #", MOST_TEXELS),
     Fact(r"\b(?:to|\|) # workers|workers \| #|with N workers, from 1 to #", MOST_WORKERS),

@@ -22,6 +22,7 @@ SHORT = (
     "docs/CHANGING.md",
     "SECURITY.md",
 )
+MESSAGES = "| Why | When |"
 MEAN, LONGEST, WIDEST, LINES = 18, 40, 25, 160
 USERS = (
     "debug the order of GPU work",
@@ -113,8 +114,17 @@ def read(text: str) -> Page:
     sentences = [
         sentence for kind, part in parts if kind == "text" for sentence in sentences_of(part)
     ]
-    cells = [cell for kind, part in parts if kind == "row" for cell in cells_of(part)]
+    cells = list(cells_in(parts))
     return Page(tuple(sentences), tuple(cells), "\n".join(CODE.sub(" ", part) for _, part in parts))
+
+
+def cells_in(parts: list[tuple[str, str]]) -> Iterator[str]:
+    """The cells of all tables, but for messages of a tool, which the first column of one quotes."""
+    quotes = False
+    for kind, part in parts:
+        quotes = kind == "row" and (quotes or part.startswith(MESSAGES))
+        if kind == "row":
+            yield from cells_of(part)[quotes:]
 
 
 def documents(top: Path) -> list[Path]:
