@@ -9,7 +9,7 @@ import subprocess
 import sys
 
 PARTS = ("workers", "refuse_memory", "refuse_io", "soak", "costs", "memory", "pictures", "traces", "mutations", "explaining",
-         "manual", "releases", "pages", "building", "previews", "times", "assembling", "packaging", "recording",
+         "replays", "logs", "comparing", "manual", "releases", "pages", "building", "previews", "times", "assembling", "packaging", "recording",
          "prose", "numbers", "agreeing")
 ASIDE = ("greatest",)  # parts that take long, and come only where they or the large size are asked for
 
