@@ -373,7 +373,7 @@ def check_versions(tree: Tree, tally: Tally) -> None:
 def check_last_resorts(tree: Tree, tally: Tally) -> None:
     """A fault of a tool itself is one line, and without Python the program runs as it does."""
     page = tree.top / "view/page.py"
-    page.write_text(page.read_text() + "\n\ndef text(history):\n    return history / 0\n")
+    page.write_text(page.read_text() + "\n\ndef text_of(history, recorder):\n    return history / 0\n")
     ran = tree.shell("$Z timeline --page - < examples/names.stdout")
     is_line = (ran.status, ran.output, ran.said.count("\n")) == (4, b"", 1) and "TypeError" in ran.said
     tally.tell("a fault of a tool", None if is_line else str(ran))

@@ -1,6 +1,7 @@
 """Sees that each crate is described once, and that crates.txt lists for it no library that its files never name.
 
-A crate is described by its row in the tables of docs/ARCHITECTURE.md, which names as what it stands on crates that it lists.
+A crate has one row in the tables of docs/ARCHITECTURE.md, which names as what it stands on crates that it lists, and one part of
+docs/crates.md, below a heading with its name, which is not empty.
 
 A file of src/, specs/ or proofs/ names a library by a path: `Rattle.NAME.` in a definition or a proof, and in code
 `NAME::` or `use NAME`. What a remark says is no name.
@@ -8,8 +9,9 @@ A file of src/, specs/ or proofs/ names a library by a path: `Rattle.NAME.` in a
 
 import re
 
-LIST, TABLE = "crates.txt", "docs/ARCHITECTURE.md"
-ROW = re.compile(r"^\| `(\w+)` \|[^|]+\| ([^|]*) \|[^|]+\|$", re.MULTILINE)
+LIST, TABLE, PARTS = "crates.txt", "docs/ARCHITECTURE.md", "docs/crates.md"
+ROW = re.compile(r"^\| `(\w+)` \|[^|]+\| ([^|]*) \|$", re.MULTILINE)
+PART = re.compile(r"^### `(\w+)`\n\n(?=[^#\s])", re.MULTILINE)
 REMARK = {".rt": re.compile(r"(?<!:)//[^\n]*"), ".antt": re.compile(r"(?:^|(?<=\s))--[^\n]*", re.MULTILINE)}
 NAMES = {
     ".rt": re.compile(r"\bRattle\.(\w+)\.|(?<![\w:])(\w+)::|\buse (\w+)\b(?!\.)"),
@@ -36,13 +38,19 @@ def named(folder):
     return found
 
 
+def check_once(where, crates, names, tally):
+    """Tells of each crate that a page does not describe once, and of each name there that is no crate's."""
+    for crate in sorted(crates.keys() | set(names)):
+        found = names.count(crate)
+        tally.tell(f"{where}: {crate}", None if found == 1 and crate in crates else f"it is described {found} times")
+
+
 def check_rows(top, tally):
-    """Tells of each crate that has no row or two, and of each row that names what its crate does not list."""
+    """Tells of each crate that is not described once, and of each row that names what its crate does not list."""
     crates = dict(listed(top))
     rows = ROW.findall((top / TABLE).read_text(encoding="utf-8"))
-    for crate in sorted(crates.keys() | {name for name, _ in rows}):
-        found = [below for name, below in rows if name == crate]
-        tally.tell(f"{TABLE}: {crate}", None if len(found) == 1 and crate in crates else f"it has {len(found)} rows")
+    check_once(TABLE, crates, [name for name, _ in rows], tally)
+    check_once(PARTS, crates, PART.findall((top / PARTS).read_text(encoding="utf-8")), tally)
     for crate, below in rows:
         strange = [name for name in re.findall(r"`(\w+)`", below) if name not in crates.get(crate, ())]
         tally.tell(f"{TABLE}: what {crate} stands on", f"{LIST} does not list {strange[0]}" if strange else None)
