@@ -10,7 +10,7 @@ import sys
 
 PARTS = ("workers", "refuse_memory", "refuse_io", "soak", "costs", "memory", "pictures", "traces", "mutations", "explaining",
          "replays", "logs", "comparing", "command_lines", "manual", "releases", "pages", "building", "previews", "times",
-         "assembling", "packaging", "recording", "prose", "numbers", "agreeing")
+         "assembling", "packaging", "recording", "prose", "figures", "agreeing")
 ASIDE = ("greatest",)  # parts that take long, and come only where they or the large size are asked for
 
 # Faults that the parts have to find, for the test of the check itself: a part, a file, what stands there, what is put there.
@@ -56,8 +56,8 @@ PLANTED = (
     ("prose", "README.md", "So no waits form a cycle.", f"So {'no waits and ' * 14}form a cycle."),
     ("prose", "docs/CHANGING.md", "| seconds to a minute |", f"| {'seconds to ' * 13}a minute |"),
     ("prose", "README.md", "debug the order of GPU work", "see the order of GPU work"),
-    ("numbers", "README.md", "while it holds 16 notes", "while it holds 17 notes"),
-    ("numbers", "crates/gpu_store/src/images.rt", "const MOST_SIDE: u32 = 4096;", "const MOST_SIDE: u32 = 8192;"),
+    ("figures", "README.md", "while it holds 16 notes", "while it holds 17 notes"),
+    ("figures", "crates/gpu_store/src/images.rt", "const MOST_SIDE: u32 = 4096;", "const MOST_SIDE: u32 = 8192;"),
     ("agreeing", "docs/FORMATS.md", "| 265 | DeleteBuffer | 2 |", "| 265 | DeleteBuffer | 3 |"),
     ("agreeing", "CHANGELOG.md", "## 0.1.0", "## 0.1.1"),
     ("agreeing", "docs/TESTS.md", "`two_workers_at_once`", "`two_workers_at_twice`"),

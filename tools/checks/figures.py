@@ -225,7 +225,7 @@ def fault(top: Path, number: str, around: str, needs_fact: bool) -> str | None:
     is_width = value in (16, 32, 64, 128) and WIDTHS.search(around)
     if value < FREE or is_width or IMAGE_ERRORS.fullmatch(number) or not needs_fact:
         return None
-    return f"no fact of tools/checks/numbers.py says where '{where}' comes from"
+    return f"no fact of tools/checks/figures.py says where '{where}' comes from"
 
 
 def check(top: Path, _program: Path, tally: Tally) -> None:
