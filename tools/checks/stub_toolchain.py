@@ -138,8 +138,9 @@ class Place:
         )
 
     def start(self, *words: str, **more: str) -> "subprocess.Popen[str]":
+        """Starts a build that Ctrl-C ends, also where the check runs in the background and ignores it."""
         return subprocess.Popen(
-            [self.top / "tools/build", *words],
+            ["env", "--default-signal=INT", self.top / "tools/build", *words],
             stdout=subprocess.PIPE,
             stderr=subprocess.PIPE,
             text=True,
