@@ -5,8 +5,8 @@ use Rattle.gpu_threads.specs.Rows.{AreShared}
 use Rattle.gpu_threads.proofs.Made.{writers_named, clients_named, clients_fit, shared_named}
 use Rattle.gpu_threads.proofs.tests.holding.looked.Goals as goal
 
-pub make-requires-clause-results : goal.make-requires-clause-results
-make-requires-clause-results g c = writers_named g.N.Naming.plans c.args.plans c.args.parts g.N.Naming.result_words c.requires.plans c.requires.results c.requires.fresh
+pub make-requires-2-clause-results : goal.make-requires-2-clause-results
+make-requires-2-clause-results g c = writers_named g.N.Naming.plans c.args.plans c.args.parts g.N.Naming.result_words c.requires.plans c.requires.results c.requires.fresh
 
 pub look_between-two-requires-clause-clients : goal.look_between-two-requires-clause-clients
 look_between-two-requires-clause-clients g c =
