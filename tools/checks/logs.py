@@ -116,6 +116,8 @@ def fault_of_example(top, path, schema):
             return f"the line of event {number} is {line!r}"
         if (record["text"], record["what"], record["event"]) != (" ".join(words), found[4], number):
             return f"the record of event {number} is {record}"
+        if (record["result"] == "lost") != (words[0] == "lost"):
+            return f"the result of event {number} is {record['result']}"
         if (fault := fault_of_schema(record, schema, schema)) is not None:
             return f"the record of event {number} {fault}"
     marks = [line.split(" ")[1:6] for line in output.split("\n") if line.startswith("mark ")]
