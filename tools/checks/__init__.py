@@ -49,7 +49,7 @@ PLANTED = (
     ("assembling", "python/zorvleid/errors.py", "stands twice", "stands again"),
     ("packaging", "python/zorvleid/calls.py", '"x2": x2,', '"x2": y2,'),
     ("recording", "include/zorvleid_record.h", "number /= 10", "number /= 100"),
-    ("building", "tools/building/plan.py", "key=lambda it: (-behind[it], it)", "key=lambda it: it"),
+    ("building", "tools/building/plan.py", "key=lambda it: (-behind[it], it)", "key=lambda it: (behind[it], it)"),
     ("previews", "tools/preview", "return int(ended[1])", "return 0"),
     ("times", "tools/gate_times", "{**seconds, crate: 0.0}", "seconds"),
     ("prose", "README.md", "So no waits form a cycle.", "Behind that no waits form a cycle."),
