@@ -1,4 +1,4 @@
--- What is kept of a client's reach, one action further.
+-- The record of a client's reach, one action further.
 use Rattle.std.proofs.Common.{◌≡◌, ◌≢◌, ℕ, ◌+◌, ◌-◌, ◌≤◌, ◌<◌, ◌⊎◌, inl, inr, Bool, true, false, cond, eqb, ltb, leb, Option, Some, List, length, take, get_or, set, refl, sym, ap, subst, ◌∙◌, arith}
 use Rattle.std.specs.Prelude.{◌&&◌, ◌||◌, slice_get, slice_index}
 use Rattle.std.specs.Bool.{Decides}
@@ -71,7 +71,7 @@ here_decides actions from upto p v value old at d = by (eqb v value) (ltb from (
         let apart : (eqb p p && eqb v value) ≡ false = grind (arith, nat_tests) in
         same_puts actions from upto p value old (λ q. other_put p v p value apart (slice_get actions upto) at q) d
 
--- ---- what is kept of the puts, one action further
+-- ---- the record of the puts, one action further
 
 -- the older put with the last one tells as much as both did
 older_tells : (from done last end value : ℕ) (o : Option ℕ) → done ≤ from → ((eqb last value && ltb from end) || is_since from o ≡ true → from < end)
@@ -139,7 +139,7 @@ puts_more actions done Finish old from place value at valued ended is since = sa
 puts_more actions done (Token token) old from place value at valued ended is since = same_puts actions from old.upto place value (has_since from old place value) (λ q. absurd (cc)) (is.puts from place value since)
 puts_more actions done Close old from place value at valued ended is since = same_puts actions from old.upto place value (has_since from old place value) (λ q. absurd (cc)) (is.puts from place value since)
 
--- no put at a place stands behind the last one
+-- no put at a place stands after the last one
 last_more : (actions : List Action) (done : ℕ) (action : Action) (old : Reached) (from place value : ℕ) → slice_get actions old.upto ≡ Some action → IsWithin (length old.ends) action → IsReached actions done old
     → PutBetween actions from (old.upto + 1) place value → from < slice_index (ends_after action old.upto old.ends) place
 last_more actions done (Put p v) old from place value at ended is put = by (eqb p place) refl
@@ -193,7 +193,7 @@ reached_more actions done action old new at valued ended reached taken =
           rw (taken.values, taken.ends, taken.older place value, taken.upto) (puts_more actions done action old from place value at valued ended reached since);
     }
 
--- what is kept is so where the client has done more, too
+-- the record is so where the client has done more, too
 pub reached_later : (actions : List Action) (done to : ℕ) (reached : Reached) → done ≤ to → IsReached actions done reached → IsReached actions to reached
 reached_later actions done to reached later is = record {
   within = is.within;
@@ -212,7 +212,7 @@ passes_here : (actions : List Action) (done : ℕ) (reached : Reached) (finished
 passes_here actions done reached finished tokens action at is =
     ap (λ n. passes_behind n finished tokens action) is.behind ∙ ap (λ (o : Option Action). passes_if_there (flushes (take reached.upto actions)) finished tokens o) (sym at)
 
--- where the action at hand passes, the bound lies behind it
+-- where the action at hand passes, the bound lies after it
 pub bound_behind_passed : (actions : List Action) (done : ℕ) (reached : Reached) (finished : ℕ) (tokens : List ℕ) (action : Action) → slice_get actions reached.upto ≡ Some action → IsReached actions done reached
     → reached.upto ≤ bound actions finished tokens → passes_behind reached.behind finished tokens action ≡ true → reached.upto + 1 ≤ bound actions finished tokens
 bound_behind_passed actions done reached finished tokens action at is below pass = bound_one_further actions reached.upto finished tokens below (sym (passes_here actions done reached finished tokens action at is) ∙ pass)

@@ -1,4 +1,4 @@
--- What is kept of a client: the least and the most that it can have done.
+-- The record of a client: the least and the most that it can have done.
 use Rattle.std.specs.Prelude.{ℕ, ◌==◌, ◌||◌, Bool, List, length, slice_index}
 use Rattle.std.specs.List.{All}
 use Rattle.gpu_plan.specs.declared.plan.Action.{Action}
@@ -15,7 +15,7 @@ pub record Client : Type 0 where
 abbrev pub may_have : Client → ℕ × ℕ → Bool
 may_have client word = slice_index client.held.values word.0 == word.1 || has_since client.held.done client.reached word.0 word.1
 
--- what is kept is so of a client with these actions, whose puts have a word each
+-- the record is so of a client with these actions, whose puts have a word each
 pub record IsClient (actions : List Action) (client : Client) : Type 0 where
   pub held : IsHeld actions client.held
   pub reached : IsReached actions client.held.done client.reached

@@ -1,4 +1,4 @@
--- The values of a client's words after so many actions.
+-- The values of a client's words after a given number of actions.
 use Rattle.std.specs.Prelude.{◌≡◌, ℕ, ◌≤◌, List, length, slice_index, slice_set}
 use Rattle.gpu_plan.specs.declared.plan.Action.{Action}
 use Rattle.gpu_plan.specs.declared.plan.Action.TheVariants.{Put, Flush, Finish, Token, Close}
@@ -17,7 +17,7 @@ stored Finish values = values
 stored (Token token) values = values
 stored Close values = values
 
--- what is kept is so of these actions
+-- the record is so of these actions
 pub record IsHeld (actions : List Action) (held : Held) : Type 0 where
   pub within : held.done ≤ length actions
   pub values : (place : ℕ) → slice_index held.values place ≡ value_at actions held.done place

@@ -11,7 +11,7 @@ use Rattle.gpu_plan.specs.Plans.{IsWithin}
 use Rattle.gpu_plan.specs.Passes.{flush_count, flushes}
 use Rattle.client_reach.specs.Held.{stored}
 
--- a position, how many flushes stand before it, the value of the last put at each place and the position behind that put,
+-- a position, how many flushes stand before it, the value of the last put at each place and the position after that put,
 -- which is 0 where there is none, and the position of an older put of each value at each place
 pub record Reached : Type 0 where
   pub upto : ℕ
@@ -24,20 +24,20 @@ pub record Reached : Type 0 where
 abbrev pub pair_cmp : ℕ × ℕ → ℕ × ℕ → Ordering
 pair_cmp x y = ordering_then (nat_cmp x.0 y.0) (nat_cmp x.1 y.1)
 
--- what is kept of a place and a value among the older puts
+-- the record of a place and a value among the older puts
 abbrev pub last_of : List ((ℕ × ℕ) × ℕ) → ℕ → ℕ → Option ℕ
 last_of puts place value = lookup (λ (key : ℕ × ℕ). is_eq (pair_cmp (place, value) key)) puts
 
--- a put stands at a position or behind it
+-- a put stands at a position or after it
 abbrev pub is_since : ℕ → Option ℕ → Bool
 is_since from None = false
 is_since from (Some at) = nat_le from at
 
--- the last put at the place is one of the value, and stands at a position or behind it
+-- the last put at the place is one of the value, and stands at a position or after it
 abbrev pub is_last_since : ℕ → Reached → ℕ → ℕ → Bool
 is_last_since from reached place value = slice_index reached.values place == value && nat_lt from (slice_index reached.ends place)
 
--- by what is kept, a put of the value at the place stands at a position or behind it
+-- by the record, a put of the value at the place stands at a position or after it
 abbrev pub has_since : ℕ → Reached → ℕ → ℕ → Bool
 has_since from reached place value = is_last_since from reached place value || is_since from (last_of reached.older place value)
 
@@ -49,11 +49,11 @@ pub record PutBetween (actions : List Action) (from upto place value : ℕ) : Ty
   pub put : slice_get actions at ≡ Some (Put place value)
 
 -- the older put that is kept of a place and a value once the last put at a place `p` is kept among these, if it stands at
--- a position or behind it
+-- a position or after it
 abbrev pub older_with : ℕ → ℕ → Reached → ℕ → ℕ → Option ℕ
 older_with done p old place value = if (p == place && slice_index old.values p == value) && nat_lt done (slice_index old.ends p) then Some (slice_index old.ends p - 1) else last_of old.older place value
 
--- the last put at a place is kept among the older ones, if it stands at a position or behind it
+-- the last put at a place is kept among the older ones, if it stands at a position or after it
 pub record IsKept (done p : ℕ) (old new : Reached) : Type 0 where
   pub upto : new.upto ≡ old.upto
   pub behind : new.behind ≡ old.behind
@@ -61,7 +61,7 @@ pub record IsKept (done p : ℕ) (old new : Reached) : Type 0 where
   pub ends : new.ends ≡ old.ends
   pub older : (place value : ℕ) → last_of new.older place value ≡ older_with done p old place value
 
--- the position behind the last put at each place, after one more action, which stands at this position
+-- the position after the last put at each place, after one more action, which stands at this position
 abbrev pub ends_after : Action → ℕ → List ℕ → List ℕ
 ends_after (Put place value) at ends = slice_set ends place (at + 1)
 ends_after (Flush put fences) at ends = ends
@@ -77,7 +77,7 @@ older_after Finish done old place value = last_of old.older place value
 older_after (Token token) done old place value = last_of old.older place value
 older_after Close done old place value = last_of old.older place value
 
--- one more action is taken up, of a client that has done so many
+-- one more action is taken up, of a client that has done this number
 pub record IsTakenUp (done : ℕ) (action : Action) (old new : Reached) : Type 0 where
   pub upto : new.upto ≡ old.upto + 1
   pub behind : new.behind ≡ old.behind + flush_count action
@@ -85,7 +85,7 @@ pub record IsTakenUp (done : ℕ) (action : Action) (old new : Reached) : Type 0
   pub ends : new.ends ≡ ends_after action old.upto old.ends
   pub older : (place value : ℕ) → last_of new.older place value ≡ older_after action done old place value
 
--- what is kept is so of these actions, of which the client has done so many
+-- the record is so of these actions, of which the client has done this number
 pub record IsReached (actions : List Action) (done : ℕ) (reached : Reached) : Type 0 where
   pub within : reached.upto ≤ length actions
   pub behind : reached.behind ≡ flushes (take reached.upto actions)

@@ -31,7 +31,7 @@ impl Model for Client {
 }
 
 impl Client {
-    /// A client with so many words that has done nothing. Each of its puts is at one of these.
+    /// A client with a given number of words that has done nothing. Each of its puts is at one of these.
     pub fn make(alloc: Global, actions: &[Action], places: u32) -> Result<Client, Memory>
         requires within { All (IsWithin places) actions.now }
         ensures least { IfOk result (λ client. client.held.done ≡ 0) }
@@ -50,7 +50,7 @@ impl Client {
         self.reach.upto()
     }
 
-    /// It can have done all before the first action that does not pass where so many flushes are finished and this is the
+    /// It can have done all before the first action that does not pass at this number of finished flushes and this
     /// greatest token.
     pub fn go_on(&mut self, actions: &[Action], finished: u32, token: u32) -> Result<(), Memory>
         requires few { length actions.now ≤ 1000000 }

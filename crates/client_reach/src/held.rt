@@ -50,7 +50,7 @@ impl Held {
     {
         match action {
             Action::Put { place, value } => {
-                self.values[*place as usize] = *value;
+                self.values[place.get() as usize] = *value;
                 self.done += 1;
             }
             Action::Flush { .. } | Action::Finish | Action::Token { .. } | Action::Close => {

@@ -10,10 +10,11 @@ use std::alloc::{AllocError, Global};
 use std::collections::BTreeMap;
 use std::marker::Model;
 
-/// How many of a client's actions it can have done, how many of these are flushes, and the puts among them: the last one
-/// at each place, by its value and the position behind it, which is 0 where there is none, and the last ones of other
-/// values. A put that is overwritten is kept only where it stands behind the least that the client can have done, so a
-/// client that waits before it uses its ring again has few of these.
+/// How far a client can be:
+/// - how many of its actions it can have done, and how many of these are flushes
+/// - the last put at each place, by its value and the position after it, which is 0 where there is none
+/// - the last puts of other values; one that is overwritten is kept only where it stands after the least that the client
+///   can have done, so a client that waits before it uses its ring again has few of these
 #[derive(Drop)]
 pub(crate) struct Reach {
     upto: u32,
@@ -48,7 +49,7 @@ fn number_at(numbers: &[u32], place: u32) -> u32
 }
 
 impl Reach {
-    /// Before the first action of a client with so many words.
+    /// Before the first action of a client with this number of words.
     pub(crate) fn make(alloc: Global, actions: &[Action], places: u32) -> Result<Reach, AllocError>
         requires within { All (IsWithin places) actions.now }
         ensures upto { IfOk result (λ reached. reached.upto ≡ 0) }
@@ -72,7 +73,7 @@ impl Reach {
         self.upto
     }
 
-    // Keeps the last put at a place beside that, if the client can have done it after so many actions.
+    // Keeps the last put at a place beside that, if the client can have done it after this number of actions.
     fn keep(&mut self, done: u32, place: u32) -> Result<(), AllocError>
         requires there { place < length self.old.ends }
         requires valued { place < length self.old.values }
@@ -109,7 +110,7 @@ impl Reach {
         ensures { OnOk result (IsTakenUp done action.now self.old self.new) }
     {
         match action {
-            Action::Put { place, value } => self.take_up_put(done, *place, *value),
+            Action::Put { place, value } => self.take_up_put(done, place.get(), *value),
             Action::Flush { .. } => {
                 self.behind += 1;
                 self.upto += 1;
@@ -122,8 +123,8 @@ impl Reach {
         }
     }
 
-    /// Goes on to the first action that does not pass where so many flushes are finished and this is the greatest token.
-    /// The client has done so many actions at least.
+    /// Goes on to the first action that does not pass at this number of finished flushes and this greatest token. The
+    /// client has done at least `done` actions.
     pub(crate) fn advance(
         &mut self,
         actions: &[Action],
@@ -157,7 +158,7 @@ impl Reach {
         }
     }
 
-    // Whether the last put at a place is one of a value, and stands at a position or behind it.
+    // Whether the last put at a place is one of a value, and stands at a position or after it.
     fn is_put_last(&self, from: u32, place: u32, value: u32) -> bool
         ensures { result ≡ is_last_since from self.now place value }
     {

@@ -94,7 +94,7 @@ parted id v is items views keeps at =
 
 -- ---- flushes go through the queue
 
--- behind the latest flush comes the next one
+-- after the latest flush comes the next one
 next_behind : (words : TableId) (plan : PlanData) (taken posted : ℕ) (items : List Item) → AreFlushes words plan taken items posted → posted < flushes plan.actions → AreFlushes words plan taken (items ++ Ok (note_at words plan posted) ∷ []) (posted + 1)
 next_behind words plan taken posted [] are there = (ap (λ (n : ℕ). Ok (note_at words plan n)) (sym are), subst (λ (n : ℕ). n < flushes plan.actions) (sym are) there, ap (λ (n : ℕ). n + 1) are)
 next_behind words plan taken posted (item ∷ items) are there = (are.0, are.1, next_behind words plan (taken + 1) posted items are.2 there)

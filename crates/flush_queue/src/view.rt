@@ -10,8 +10,8 @@ pub enum View {
     Told(ClientPass),
     /// It has taken the pass out again.
     Whole(ClientPass),
-    /// It posts the flushes of this client, and so many were posted.
+    /// It posts the flushes of this client, and this number was posted.
     Poster(ClientPass, u64),
-    /// It takes the flushes of this client, and so many were taken.
+    /// It takes the flushes of this client, and this number was taken.
     Taker(ClientPass, u64),
 }

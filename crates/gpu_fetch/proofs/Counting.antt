@@ -1,4 +1,4 @@
--- How many flushes stand before an action and before the one behind it.
+-- How many flushes stand before an action and before the one after it.
 use Rattle.std.proofs.Common.{◌≡◌, ℕ, ◌+◌, Option, Some, None, List, take, refl, arith}
 use Rattle.std.specs.Prelude.{slice_get}
 use Rattle.std.specs.Option.{IsSomeAnd}

@@ -1,4 +1,4 @@
--- Commands whose words stand in one list, one behind the other.
+-- Commands whose words stand in one list, one after the other.
 use Rattle.std.proofs.Common.{◌≡◌, ℕ, zero, suc, ◌+◌, ◌-◌, ◌<◌, ◌≤◌, List, [], ◌∷◌, ◌++◌, length, take, drop, get_or, refl, sym, ap, ◌∙◌, subst, arith, length-append}
 use Rattle.std.specs.Prelude.{slice_range}
 use Rattle.std.specs.List.{All}
@@ -50,7 +50,7 @@ words_whole list longer parts part all grows count =
 
 -- ---- one command after the other
 
--- the commands from an index on are the one at the index and those behind it
+-- the commands from an index on are the one at the index and those after it
 pub part_next : (list : List (ℕ × ℕ)) (from : ℕ) (parts rest : List FetchedPart) (part : FetchedPart) → parts ≡ part ∷ rest
     → parts_of (drop from list) parts ≡ record { words = take part.count (drop from list); verdict = part.verdict; facts = part.facts } ∷ parts_of (drop (from + part.count) list) rest
 part_next list from parts rest part are =

@@ -56,7 +56,7 @@ one_more S list longer word push all one = subst (All S) (sym push) (All-append 
 pub none_at_all : (S : ℕ × ℕ → Type 0) (list : List (ℕ × ℕ)) → list ≡ [] → All S list
 none_at_all S list none = subst (All S) (sym none) (All-nil S)
 
--- ---- what a list has behind all that it had
+-- ---- what a list has after all that it had
 
 added_append : (list own : List (ℕ × ℕ)) → added list (list ++ own) ≡ own
 added_append [] own = refl
@@ -71,7 +71,7 @@ appends list own longer is = is ∙ ap (λ (l : List (ℕ × ℕ)). list ++ l) (
 pub added_then : (list own pushed more longer : List (ℕ × ℕ)) → pushed ≡ list ++ own → longer ≡ pushed ++ more → added list longer ≡ own ++ more
 added_then list own pushed more longer is grows = added_is list (own ++ more) longer (grows ∙ ap (λ (l : List (ℕ × ℕ)). l ++ more) is ∙ append_assoc list own more)
 
--- a row behind words that were added
+-- a row after words that were added
 pub row_behind : (s t : SideData) (place count : ℕ) (list own pushed longer : List (ℕ × ℕ)) → pushed ≡ list ++ own → FetchesRow s t place count pushed longer → FetchesRow s t place count own (added list longer)
 row_behind s t place count list own pushed longer is row = record {
   values = row.values;
@@ -80,12 +80,12 @@ row_behind s t place count list own pushed longer is row = record {
   appended = added_then list own pushed (words_at place row.values) longer is row.appended;
 }
 
--- all that was added, behind a row
+-- all that was added, after a row
 pub row_appends : (s t : SideData) (place count : ℕ) (list own pushed longer : List (ℕ × ℕ)) → pushed ≡ list ++ own → FetchesRow s t place count pushed longer → longer ≡ list ++ added list longer
 row_appends s t place count list own pushed longer is row =
     appends list (own ++ words_at place row.values) longer (row.appended ∙ ap (λ (l : List (ℕ × ℕ)). l ++ words_at place row.values) is ∙ append_assoc list own (words_at place row.values))
 
--- what holds of each word added, behind a row of which it holds
+-- what holds of each word added, after a row of which it holds
 pub row_shown : (S : ℕ × ℕ → Type 0) (s t : SideData) (place count : ℕ) (list own pushed longer : List (ℕ × ℕ)) → pushed ≡ list ++ own → FetchesRow s t place count pushed longer → All S own → All S (added pushed longer) → All S (added list longer)
 row_shown S s t place count list own pushed longer is row all more =
     let words : List (ℕ × ℕ) = words_at place row.values in

@@ -30,14 +30,14 @@ range_cut place (suc n) m =
     let same : place + 1 + n ≡ place + suc n = omega arith in
     ap (range_with_len place) next ∙ ap (λ rest. place ∷ rest) (range_cut (place + 1) n m ∙ ap (λ p. range_with_len (place + 1) n ++ range_with_len p m) same)
 
--- a row of so many places begins with the places of any shorter one
+-- a row of a given number of places begins with the places of any shorter one
 row_begins : (place most : ℕ) (values : List ℕ) → length values ≤ most → range_with_len place most ≡ places_listed (words_at place values) ++ range_with_len (place + length values) (most - length values)
 row_begins place most values few =
     let n = length values in
     let whole : most ≡ n + (most - n) = omega arith in
     ap (range_with_len place) whole ∙ range_cut place n (most - n) ∙ ap (λ places. places ++ range_with_len (place + n) (most - n)) (sym (places_at place values))
 
--- ---- where the fetching stops for want of memory
+-- ---- where the fetching stops as out of memory
 
 -- within the ring places of a command
 pub some_ring : (s t : SideData) (facts : StreamFacts) (shape : Shape) (entry : ℕ) (values : List ℕ) → facts.put < facts.areas.ring → headed entry facts ≡ Ok shape → length (entry ∷ values) ≤ shape.ring_words → Fetches s t (words_at facts.get (entry ∷ values)) → FetchesSome s t facts
@@ -91,11 +91,11 @@ ring_fetched s m t facts entry shape list longer header is some row = record {
   listed = row.appended ∙ ap (λ (l : List (ℕ × ℕ)). l ++ words_at (facts.get + 1) row.values) is;
 }
 
--- the header behind the words that a list had
+-- the header after the words that a list had
 pub header_onto : (facts : StreamFacts) (entry : ℕ) (were room pushed : List (ℕ × ℕ)) → room ≡ were → pushed ≡ room ++ (facts.get, entry) ∷ [] → pushed ≡ were ++ (facts.get, entry) ∷ []
 header_onto facts entry were room pushed same push = push ∙ ap (λ (l : List (ℕ × ℕ)). l ++ (facts.get, entry) ∷ []) same
 
--- all ring words behind the words that a list had
+-- all ring words after the words that a list had
 pub ring_onto : (s m t : SideData) (facts : StreamFacts) (entry : ℕ) (shape : Shape) (were room pushed longer : List (ℕ × ℕ)) → m ≡ with_words s ((facts.get, entry) ∷ []) → MayFetch s (facts.get, entry) → room ≡ were → pushed ≡ room ++ (facts.get, entry) ∷ []
     → 1 ≤ shape.ring_words → FetchesRow m t (facts.get + 1) (shape.ring_words - 1) pushed longer → RingFetched s t facts entry shape (added were longer)
 ring_onto s m t facts entry shape were room pushed longer grows may same push some row =
@@ -103,7 +103,7 @@ ring_onto s m t facts entry shape were room pushed longer grows may same push so
     ring_fetched s m t facts entry shape one (added were longer) (fetches_one s m facts.get entry grows may) refl some
     (row_behind m t (facts.get + 1) (shape.ring_words - 1) were one pushed longer (header_onto facts entry were room pushed same push) row)
 
--- the words behind those that a list had, as they are read
+-- the words after those that a list had, as they are read
 pub added_read : (were list longer : List (ℕ × ℕ)) (from : ℕ) → list ≡ longer → from ≡ length were → slice_range list from (length list) ≡ added were longer
 added_read were list longer from same at =
     take_all (length list - from) (drop from list) (let long = length-drop from list in omega (arith, long)) ∙ ap (λ (n : ℕ). drop n list) at ∙ ap (drop (length were)) same

@@ -26,6 +26,6 @@ one_less (Token token ∷ xs) zero h = absurd (omega arith)
 one_less (Close ∷ xs) zero h = absurd (omega arith)
 one_less (x ∷ xs) (suc k) h = one_less xs k h
 
--- behind a put that is ahead, one less is left
+-- after a put that is ahead, one less is left
 pub puts_left : (xs : List Action) (k : ℕ) → 0 < puts_ahead (drop k xs) → puts_ahead (drop (k + 1) xs) + 1 ≡ puts_ahead (drop k xs)
 puts_left xs k h = ap (λ n. puts_ahead (drop n xs) + 1) (add-one k) ∙ one_less xs k h

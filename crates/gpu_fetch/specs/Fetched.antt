@@ -20,25 +20,25 @@ pub record IsFetched (found : FetchedData) : Type 0 where
   pub more : found.facts.get ≢ found.facts.put
   pub copy : IsCopy found.words found.facts found.verdict
 
--- what a list has behind all that it had
+-- what a list has after all that it had
 abbrev pub added : List (ℕ × ℕ) → List (ℕ × ℕ) → List (ℕ × ℕ)
 added list longer = drop (length list) longer
 
--- the side fetched the first of the places that are to be fetched by the words that it had, in order
+-- the side fetched the first of the places that must be fetched by the words that it had, in order
 pub record FetchesSome (old new : SideData) (facts : StreamFacts) : Type 0 where
   pub words : List (ℕ × ℕ)
   pub rest : List ℕ
   pub fetches : Fetches old new words
   pub first : fetched_places words facts ≡ places_listed words ++ rest
 
--- the side fetched so many values of places that follow one another, and they were appended to a list
+-- the side fetched a given number of values of places that follow one another, and they were appended to a list
 pub record FetchesRow (old new : SideData) (place count : ℕ) (list longer : List (ℕ × ℕ)) : Type 0 where
   pub values : List ℕ
   pub all : length values ≡ count
   pub fetches : Fetches old new (words_at place values)
   pub appended : longer ≡ list ++ words_at place values
 
--- the side fetched at most so many values of places that follow one another
+-- the side fetched at most a given number of values of places that follow one another
 pub record FetchesRowInPart (old new : SideData) (place count : ℕ) : Type 0 where
   pub values : List ℕ
   pub some : length values ≤ count

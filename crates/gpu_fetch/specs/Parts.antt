@@ -1,4 +1,4 @@
--- Commands whose words stand in one list, one behind the other.
+-- Commands whose words stand in one list, one after the other.
 use Rattle.std.specs.Prelude.{ℕ, ◌+◌, List, [], ◌∷◌, take, drop}
 use Rattle.gpu_fetch.specs.declared.sharing.FetchedPart.{FetchedPart}
 use Rattle.gpu_fetch.specs.Fetched.{FetchedData}
@@ -8,7 +8,7 @@ abbrev pub words_in : List FetchedPart → ℕ
 words_in [] = 0
 words_in (part ∷ more) = part.count + words_in more
 
--- what was fetched of each: the first has the first words of the list, and each further one those behind
+-- what was fetched of each: the first has the first words of the list, and each further one those after
 abbrev pub parts_of : List (ℕ × ℕ) → List FetchedPart → List FetchedData
 parts_of list [] = []
 parts_of list (part ∷ more) = record { words = take part.count list; verdict = part.verdict; facts = part.facts } ∷ parts_of (drop part.count list) more

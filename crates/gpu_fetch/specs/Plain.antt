@@ -50,7 +50,7 @@ IsAwait Finish = Unit {0}
 IsAwait (Token token) = Unit {0}
 IsAwait Close = ⊥
 
--- each place has its value after so many actions
+-- each place has its value after a given number of actions
 pub record IsStored (plan : PlanData) (done : ℕ) (values : List ℕ) : Type 0 where
   pub count : length values ≡ places_of plan.areas
   pub within : done ≤ length plan.actions

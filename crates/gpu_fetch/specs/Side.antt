@@ -54,6 +54,6 @@ pub record Fetches (old new : SideData) (words : List (ℕ × ℕ)) : Type 0 whe
   pub grows : new ≡ with_words old words
   pub may : All (MayFetch old) words
 
--- a list that is told has members more; one that is not told stays so
+-- a known list has members more; an unknown one stays so
 abbrev pub told_more : Option (List Written) → List Written → Option (List Written)
 told_more told more = option_map (λ list. list ++ more) told

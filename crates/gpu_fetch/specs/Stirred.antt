@@ -24,7 +24,7 @@ puts_ahead (Close ∷ actions) = 0
 abbrev pub ComesToFlush : List Action → Type 0
 ComesToFlush actions = IsNext IsFlush actions (puts_ahead actions)
 
--- the words with so many more puts done
+-- the words with a given number of further puts done
 abbrev pub puts_further : PlainData → ℕ → PlainData
 puts_further words count = record words { done = words.done + count }
 

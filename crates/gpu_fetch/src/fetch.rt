@@ -16,7 +16,7 @@ use std::alloc::Global;
 /// For how many words room is made at first: most commands have no more ring entries.
 const USUAL_ENTRIES: usize = 16;
 
-// Fetches the words of so many places that follow one another, in rising order, and appends them to a list.
+// Fetches the words of a given number of places that follow one another, in rising order, and appends them to a list.
 fn fetch_row<P: ServiceSide>(
     side: &mut P,
     words: &P::Words,
@@ -47,15 +47,15 @@ fn fetch_row<P: ServiceSide>(
     Ok(())
 }
 
-/// Fetches the next command of a stream and adds its words to a list: its header alone, then its other ring entries, then
-/// its transfer words, each place once and in order, as far as the checks let it come. No place is fetched for a put out of
-/// range. The answer is the verdict. The values of the command's ring entries are left in a list of their own, so that the
-/// next fetch takes no memory for them.
+/// Fetches the next command of a stream and adds its words to a list. The answer is the verdict.
+/// - The words come in this order, each place once: its header alone, its other ring entries, its transfer words.
+/// - The fetch goes as far as the checks let it come. No place is fetched for a put out of range.
+/// - The values of the ring entries are left in a list of their own, so that the next fetch takes no memory for them.
 ///
 /// # Errors
 ///
-/// `Memory`: the side fetched the first of the places that were to be fetched. Where the side itself never wants memory,
-/// these are no place, the header's place, or all ring places of the command.
+/// `Memory`: the side fetched the first of the places that must be fetched. Where the side itself never runs out of
+/// memory, these are no place, the header's place, or all ring places of the command.
 pub fn fetch_onto<P: ServiceSide>(
     side: &mut P,
     words: &P::Words,
@@ -112,8 +112,8 @@ pub fn fetch_onto<P: ServiceSide>(
 ///
 /// # Errors
 ///
-/// `Memory`: the side fetched the first of the places that were to be fetched. Where the side itself never wants memory,
-/// these are no place, the header's place, or all ring places of the command.
+/// `Memory`: the side fetched the first of the places that must be fetched. Where the side itself never runs out of
+/// memory, these are no place, the header's place, or all ring places of the command.
 pub fn fetch_command<P: ServiceSide>(
     alloc: Global,
     side: &mut P,

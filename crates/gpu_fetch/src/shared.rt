@@ -43,7 +43,7 @@ impl ServiceSide for ServicePass {
 
     ghost reads = { λ r. [] };
 
-    /// Fetches the word at a place by one load. No memory is wanted.
+    /// Fetches the word at a place by one load. No memory is needed.
     fn fetch(&mut self, words: &SharedWords, place: u32) -> Result<u32, Memory>
         requires belongs { IsOf self.old words.now }
         requires place { place < places_of self.old.plan.areas }

@@ -1,4 +1,4 @@
-//! Commands whose words stand in one list, one behind the other.
+//! Commands whose words stand in one list, one after the other.
 ghost use Rattle.std.specs.Prelude.{◌≡◌, length, IfOk};
 ghost use Rattle.std.specs.List.{All};
 ghost use Rattle.gpu_fetch.specs.Fetched.{IsFetched};
@@ -10,7 +10,7 @@ use gpu_cmd::{CmdError, Command, StreamFacts};
 use gpu_word::Memory;
 use std::alloc::Global;
 
-/// What was fetched of a command whose words stand in a list behind those of others: how many they are, the verdict on
+/// What was fetched of a command whose words stand in a list after those of others: how many they are, the verdict on
 /// them, and the facts of the stream that it rests on.
 #[derive(Clone, Copy, Debug)]
 pub struct FetchedPart {

@@ -10,9 +10,12 @@ use gpu_word::Memory;
 
 /// The service's side of one stream: what fetches its words and publishes to its client.
 ///
-/// Contracts see the stream's plan, the list of words fetched, the flushes published as finished, the greatest token
-/// published and the latest flush met. The client may store into the words at any moment; what is known of a word
-/// fetched is that the client may have put it, between the latest flush met and its bound by the side's own numbers.
+/// Contracts see:
+/// - the stream's plan and the list of words fetched
+/// - the flushes published as finished, the greatest token published and the latest flush met
+///
+/// The client may store into the words at any moment. A word fetched is one that it may have put, between the latest
+/// flush met and its bound by the side's own numbers.
 pub trait ServiceSide: Drop {
     /// The words that the side shares with its client, and with them the result words where there are any.
     type Words;
@@ -35,7 +38,7 @@ pub trait ServiceSide: Drop {
     // How many actions the client had done once a note's flush was made: its place and one more, or 0 for no flush.
     ghost mark: { Self.Note → ℕ };
 
-    // A note is of a table of words: what is known of it wherever it lies, where its words are not at hand.
+    // A note is of a table of words: its facts wherever it lies, where its words are not at hand.
     ghost note_of: { Self.Note → TableId → Type 0 } = { λ n t. Unit {0} };
 
     // Results are of a table of result words, and a reader is.
@@ -52,7 +55,7 @@ pub trait ServiceSide: Drop {
     // What a fetch finds in the words, which nothing need be known of: a place with a value.
     ghost shows: { Self.Words → ℕ × ℕ → Type 0 } = { λ w word. Unit {0} };
 
-    // Whether a fetch can want memory.
+    // Whether a fetch can run out of memory.
     ghost wants: { Type 0 } = { Unit {0} };
 
     // The words and the results are of one stream.
@@ -64,7 +67,7 @@ pub trait ServiceSide: Drop {
     // Whether the results take a place.
     ghost takes: { Self.Results → ℕ → Bool };
 
-    // The results and finishes that were written, in order, where they are told.
+    // The results and finishes that were written, in order, where they are known.
     ghost written: { Self.Results → Option (List Written) };
 
     // What the reader was given: the place, the finishes asked for, and the value of each read.

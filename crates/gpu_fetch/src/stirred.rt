@@ -69,7 +69,7 @@ pub(crate) fn count_puts(actions: &[Action]) -> usize
     count
 }
 
-// Does so many puts.
+// Does a given number of puts.
 pub(crate) fn put_many(words: &mut PlainWords, plan: &Plan, count: usize)
     requires plan { plan.now ≡ words.old.plan }
     requires there { count ≤ puts_ahead (drop words.old.done plan.now.actions) }

@@ -1,7 +1,6 @@
 -- What a history says of order numbers and waits: its sync events, and what follows from them.
 use Rattle.std.specs.Prelude.{◌≡◌, ℕ, true, List, [], ◌∷◌, length, Option, Some, None, slice_get}
-use Rattle.gpu_plan.specs.declared.plan.Action.{Action}
-use Rattle.gpu_plan.specs.declared.plan.Action.TheVariants.{Flush}
+pub use Rattle.gpu_plan.specs.Fencing.{fences_in}
 use Rattle.gpu_plan.specs.Plans.{PlansData, number_of, plan_of}
 use Rattle.stream_state.specs.declared.effect.Effect.{Effect}
 use Rattle.stream_state.specs.declared.effect.Effect.TheVariants.{Release, Wait, WaitName}
@@ -14,11 +13,6 @@ use Rattle.sync_core.specs.Pending.{pending, endings}
 use Rattle.gpu_journal.specs.declared.event.Event.{Event}
 use Rattle.gpu_journal.specs.declared.event.Event.TheVariants.{Order, Step, Finish, Lost, Close}
 use Rattle.gpu_journal.specs.World.{World, world, stream_in, asked_by}
-
--- the fences of a flush
-abbrev pub fences_in : Option Action → List (ℕ × ℕ)
-fences_in (Some (Flush put fences)) = fences
-fences_in _ = []
 
 -- what a step does to waits, by what it asks: it releases, it waits on a stream, or it waits on the stream of a name
 abbrev pub deed_asked : PlansData → Effect → Option Deed

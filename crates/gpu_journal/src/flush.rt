@@ -1,7 +1,6 @@
 //! The flush at a place of a plan.
 ghost use Rattle.std.specs.Prelude.{◌≡◌, slice_get};
 ghost use Rattle.gpu_journal.specs.Facts.{put_in};
-ghost use Rattle.gpu_journal.specs.Waits.{fences_in};
 
 use gpu_plan::Action;
 
@@ -12,15 +11,5 @@ pub fn put_at(actions: &[Action], place: u32) -> u32
     match actions.get(place as usize) {
         Some(Action::Flush { put, .. }) => *put,
         _ => 0,
-    }
-}
-
-/// The fences of the flush at a place, or none where no flush is.
-pub fn fences_at(actions: &[Action], place: u32) -> &[(u32, u64)]
-    ensures { result.now ≡ fences_in (slice_get actions.now place) }
-{
-    match actions.get(place as usize) {
-        Some(Action::Flush { fences, .. }) => fences.as_slice(),
-        _ => &[],
     }
 }

@@ -58,7 +58,7 @@ all_of_front p zero xs e = refl
 all_of_front p (suc n) [] e = refl
 all_of_front p (suc n) (x ∷ xs) e = let both = and_parts (p x) (list_all p xs) e in rw both.0 (all_of_front p n xs both.1)
 
--- behind actions that are no Close, whatever is one action closes at most last
+-- after actions that are no Close, one more action closes at most last
 closes_behind : (old : List Action) (action : Action) → is_closed old ≡ false → list_all stays_open (take (length (old ++ action ∷ []) - 1) (old ++ action ∷ [])) ≡ true
 closes_behind old action unclosed =
     let n : length (old ++ action ∷ []) - 1 ≡ length old = omega (arith, length_push old action) in
@@ -97,6 +97,10 @@ lawful_start areas ring actions alone low high none =
       closes_last = refl;
       few = omega arith;
     })
+
+-- a lawful stream has places for three bytes
+pub few_places : (areas : Areas) (actions : List Action) → IsLawfulPlan areas actions → places_of areas ≤ 2 ^ 24
+few_places areas actions h = let ring = h.laid_out.ring_most in let memories = h.laid_out.memories.few in omega arith
 
 pub lawful_puts : (areas : Areas) (place : ℕ) (words : List (List ℕ)) (old new : List Action) → IsLawfulPlan areas old → is_closed old ≡ false → place + length words ≤ places_of areas → length old + length words ≤ 1000000
     → new ≡ old ++ puts place (map value_of words) → IsLawfulPlan areas new

@@ -1,6 +1,7 @@
 pub mod Apart
 pub mod Counts
 pub mod Dumps
+pub mod Fencing
 pub mod Holding
 pub mod Lawful
 pub mod LawfulNames

@@ -169,7 +169,7 @@ zero_space (s ∷ p ∷ r ∷ []) said e =
     ap (λ (x : Name × Priority × ℕ). x.0.namespace) (sym (same (record { namespace = 0; id = stream.0 }, priority.0, ring.0) said ring.2))
 zero_space (s ∷ p ∷ r ∷ more ∷ words) said e = absurd cc
 
--- what is known where a stream line is taken up: what it says, that its name and its number are new, and its small namespace
+-- the facts where a stream line is taken up: what it says, that its name and its number are new, and its small namespace
 pub record Begins (version : ℕ) (words : List (List ℕ)) (d e : Draft) : Type 0 where
   pub said : Name × Priority × ℕ
   pub is : stream_said version words ≡ Ok said

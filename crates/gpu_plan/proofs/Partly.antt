@@ -1,4 +1,4 @@
--- A list of which the first so many have been changed, one after the other.
+-- A list of which a first part has been changed, one element after the other.
 use Rattle.std.proofs.Common.{◌≡◌, ℕ, zero, suc, ◌+◌, ◌≤◌, ◌<◌, List, [], ◌∷◌, length, map, get_or, set, refl, ap, ◌∙◌, arith}
 
 abbrev pub partly : {X : Type 0} → (X → X) → ℕ → List X → List X
@@ -29,14 +29,20 @@ module _ {X : Type 0} (f : X → X) where
   next (suc i) [] d h = absurd (omega arith)
   next (suc i) (x ∷ xs) d h = ap (λ rest. f x ∷ rest) (next i xs d (omega arith))
 
+  pub partly_long : (xs now : List X) (i : ℕ) → now ≡ partly f i xs → length now ≡ length xs
+  partly_long xs now i is = ap length is ∙ as_long i xs
+
+  pub partly_at : (xs now : List X) (i : ℕ) (d : X) → now ≡ partly f i xs → get_or now i d ≡ get_or xs i d
+  partly_at xs now i d is = ap (λ ys. get_or ys i d) is ∙ at i xs d
+
   pub partly_goes : (xs now : List X) (i : ℕ) (d new : X) → now ≡ partly f i xs → i < length now → new ≡ f (get_or now i d) → set now i new ≡ partly f (i + 1) xs
   partly_goes xs now i d new is less changed =
-      let long : length now ≡ length xs = ap length is ∙ as_long i xs in
-      let here : get_or now i d ≡ get_or xs i d = ap (λ ys. get_or ys i d) is ∙ at i xs d in
+      let long = partly_long xs now i is in
+      let here = partly_at xs now i d is in
       let more : suc i ≡ i + 1 = omega arith in
       rw (changed, here, is) (next i xs d (omega arith)) ∙ ap (λ k. partly f k xs) more
 
   pub partly_done : (xs now : List X) (i : ℕ) → now ≡ partly f i xs → length now ≤ i → now ≡ map f xs
   partly_done xs now i is far =
-      let long : length now ≡ length xs = ap length is ∙ as_long i xs in
+      let long = partly_long xs now i is in
       is ∙ all i xs (omega arith)

@@ -48,7 +48,7 @@ by_flush P Finish flush other = other
 by_flush P (Token token) flush other = other
 by_flush P Close flush other = other
 
--- a position passes behind the first action as it does in the rest
+-- a position passes after the first action as it does in the rest
 passes_next : (f g : ℕ) (tokens : List ℕ) (x : Action) (xs : List Action) (k : ℕ) → passes_if_there (f + flushes (take (suc k) (x ∷ xs))) g tokens (slice_get xs k) ≡ passes_if_there (f + flush_count x + flushes (take k xs)) g tokens (slice_get xs k)
 passes_next f g tokens x xs k = ap (λ n. passes_if_there n g tokens (slice_get xs k)) (omega arith)
 

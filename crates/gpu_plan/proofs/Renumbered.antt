@@ -13,7 +13,9 @@ use Rattle.gpu_plan.specs.declared.plan.Action.{Action}
 use Rattle.gpu_plan.specs.declared.plan.Action.TheVariants.{Put, Flush, Finish, Token, Close}
 use Rattle.gpu_plan.specs.Plans.{PlanData, IsWithin, HasFewFences, IsLawfulPlan, IsLawfulScript, IsDump, RiseFrom, stays_open, is_flush}
 use Rattle.gpu_plan.specs.Named.{names_in}
-use Rattle.gpu_plan.specs.Renumbered.{renumbered_fence, renumbered_action, renumbered_plan}
+use Rattle.gpu_plan.specs.Renumbered.{renumbered_fence, renumbered_note, renumbered_action, renumbered_plan}
+use Rattle.gpu_plan.specs.Fencing.{fenced_from}
+use Rattle.gpu_plan.proofs.Fencing.{moved_here}
 
 -- what was written back into a whole list is the list that was lent, changed
 pub written_back : {X : Type 0} (f : X → X) (n : ℕ) (old lent new : List X) → lent ≡ old → length lent ≡ n → new ≡ map f lent → take n (new ++ drop (length new) old) ≡ map f old
@@ -21,7 +23,7 @@ written_back f n old lent new same long is =
     let as_long : length new ≡ n = (let l = length-map lent f in let e = ap length is in omega arith) in
     take_at new (drop (length new) old) n as_long ∙ is ∙ ap (map f) same
 
--- one more number behind those of the names before
+-- one more number after those of the names before
 pub numbers_go : {X : Type 0} (f : X → ℕ) (names : List X) (i : ℕ) (d : X) (numbers new : List ℕ) (number : ℕ) → numbers ≡ 0 ∷ map f (take i names) → i < length names → number ≡ f (get_or names i d) → new ≡ numbers ++ number ∷ [] → new ≡ 0 ∷ map f (take (i + 1) names)
 numbers_go f names i d numbers new number before less is added =
     rw (added, before, is) (ap (λ ns. 0 ∷ ns) (sym (ap (map f) (take_more names i d less) ∙ map-append f (take i names) (get_or names i d ∷ []))))
@@ -85,8 +87,10 @@ module _ (numbers : List ℕ) where
       (λ dump is. (slice_get-map (renumbered_action numbers) actions dump.0 ∙ ap (option_map (renumbered_action numbers)) is.0, is.1)) dumps h
 
   -- the invariant of a plan
-  pub lawful_plan : (areas : Areas) (old new : List Action) (dumps : List (ℕ × ℕ)) → new ≡ map (renumbered_action numbers) old → IsLawfulPlan areas old × All (IsDump areas.results old) dumps × RiseFrom 0 dumps → IsLawfulPlan areas new × All (IsDump areas.results new) dumps × RiseFrom 0 dumps
-  lawful_plan areas old new dumps is h = rw is (lawful_actions areas old h.0, dumps_same areas.results old dumps h.1, h.2)
+  pub lawful_plan : (areas : Areas) (old new : List Action) (dumps : List (ℕ × ℕ)) (fenced moved : List (ℕ × List (ℕ × ℕ))) → new ≡ map (renumbered_action numbers) old → moved ≡ map (renumbered_note numbers) fenced
+      → IsLawfulPlan areas old × All (IsDump areas.results old) dumps × RiseFrom 0 dumps × (fenced ≡ fenced_from 0 old) → IsLawfulPlan areas new × All (IsDump areas.results new) dumps × RiseFrom 0 dumps × (moved ≡ fenced_from 0 new)
+  lawful_plan areas old new dumps fenced moved is noted h =
+      rw is (lawful_actions areas old h.0, dumps_same areas.results old dumps h.1, h.2, moved_here numbers moved old (noted ∙ ap (map (renumbered_note numbers)) h.3))
 
   -- ---- whole scripts
 

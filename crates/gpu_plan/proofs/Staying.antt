@@ -1,4 +1,4 @@
--- A line says the same where more names are mentioned behind it.
+-- A line says the same where more names are mentioned after it.
 use Rattle.std.proofs.Common.{◌≡◌, ℕ, Bool, true, false, cond, List, [], ◌∷◌, map, Option, Some, None, Ok, refl, sym, ap, subst, ◌∙◌}
 use Rattle.gpu_cmd.specs.declared.name.Name.{Name}
 use Rattle.script_lines.proofs.Numbers.{Keeps, keeps_all, keeps_both}
@@ -77,7 +77,7 @@ module _ (version : ℕ) (names total : List Name) where
       by_remark true keeps = refl
       by_remark false keeps = ap (at_line n) (keyword_stays (keyword_of name) words d keeps)
 
-  -- what a line says before the lines behind it are known is what it says of the whole script
+  -- what a line says before the lines after it are known is what it says of the whole script
   pub line_stays : (n : ℕ) (line : List (List ℕ)) (rest : List (List (List ℕ))) (d : Draft) → mentioned_in version (mentioned_on version names line) rest ≡ total → numbered version (mentioned_on version names line) n line d ≡ numbered version total n line d
   line_stays n line rest d so_far = numbered_stays n line d (subst (Keeps (mentioned_on version names line)) so_far (keeps_in version (mentioned_on version names line) rest))
 

@@ -69,7 +69,7 @@ flushed put fences d = do
   _ ← unless (nat_le (d.flushes + 1) 100000 && nat_le (length fences) 16) Limit
   added (Flush put fences ∷ []) last (record d { flushes = d.flushes + 1 })
 
--- the draft with a Finish, behind which a word of a result memory is read
+-- the draft with a Finish, after which a word of a result memory is read
 unfoldable pub dumped : ℕ → ℕ → Draft → Result Draft Kind
 dumped memory index d = do
   last ← acting d
@@ -90,7 +90,7 @@ put_into memory place values d = do
   _ ← unless (nat_le (place + length values) span.words) Place
   added (puts (span.base + place) values) last d
 
--- memories that count from a first place on, with one more of so many words behind those before
+-- memories that count from a first place on, with one more of a given number of words after those before
 unfoldable pub spans_with : ℕ → List (Option Span) → ℕ → ℕ → Result (List (Option Span)) Kind
 spans_with first spans memory words = do
   _ ← unless (is_none (span_at spans memory)) Double
@@ -174,7 +174,7 @@ with_close words d = do
   last ← acting d
   added (Close ∷ []) last d
 
--- a dump line adds a Finish, and notes its place and the result place that is read behind it
+-- a dump line adds a Finish, and notes its place and the result place that is read after it
 unfoldable pub with_dump : List (List ℕ) → Draft → Result Draft Kind
 with_dump words d = do
   said ← two_said words

@@ -39,7 +39,7 @@ WereRefused memory place values before done =
     done ≡ false → list_all is_value (values_left values) ≡ true
     → is_ok (words_into memory place values before) ≡ false
 
--- where so many values may not be put, this is why
+-- where a given number of values may not be put, this is why
 abbrev pub TellsWhy : Option ℕ → ℕ → ℕ → Draft → Kind → Type 0
 TellsWhy memory place count d kind =
     (values : List ℕ) → length values ≡ count

@@ -74,7 +74,7 @@ BoundIsFirst = (actions : List Action) (b finished : ℕ) (tokens : List ℕ) �
 abbrev pub MayHoldBetween : Type 0
 MayHoldBetween = (actions : List Action) (least least' most most' place value : ℕ) → least' ≤ least → most ≤ most' → MayHold actions least most place value → MayHold actions least' most' place value
 
--- a value since a flush is a value since the action behind the flush, as a flush puts none
+-- a value since a flush is a value since the action after the flush, as a flush puts none
 abbrev pub MayHoldBehindFlush : Type 0
 MayHoldBehindFlush = (actions : List Action) (c put most place value : ℕ) (fences : List (ℕ × ℕ)) → slice_get actions c ≡ Some (Flush put fences) → c < most → MayHold actions c most place value → MayHold actions (c + 1) most place value
 

@@ -17,6 +17,7 @@ pub mod Drafts
 pub mod Values
 pub mod Passes
 pub mod Places
+pub mod Fencing
 pub mod MayHold
 pub mod Laws
 pub mod Putting

@@ -17,8 +17,11 @@ abbrev pub flushes : List Action → ℕ
 flushes [] = 0
 flushes (action ∷ actions) = flush_count action + flushes actions
 
--- whether an action passes that stands behind so many flushes, where so many are finished and these tokens were set: an
--- await needs all flushes before it finished, a Token await is content with a token that is as great, a Close never passes
+-- whether an action passes that stands after a given number of flushes, at this number of finished flushes and these
+-- tokens:
+-- - an await needs all flushes before it finished
+-- - a Token await is content with a token that is as great
+-- - a Close never passes
 abbrev pub passes_behind : ℕ → ℕ → List ℕ → Action → Bool
 passes_behind before finished tokens (Put place value) = true
 passes_behind before finished tokens (Flush put fences) = true
@@ -31,11 +34,11 @@ abbrev pub passes_if_there : ℕ → ℕ → List ℕ → Option Action → Bool
 passes_if_there before finished tokens None = false
 passes_if_there before finished tokens (Some action) = passes_behind before finished tokens action
 
--- whether the action at a position passes, where so many flushes are finished and these tokens were set
+-- whether the action at a position passes at this number of finished flushes and these tokens
 abbrev pub passes : List Action → ℕ → ℕ → List ℕ → Bool
 passes actions position finished tokens = passes_if_there (flushes (take position actions)) finished tokens (slice_get actions position)
 
--- how many of the actions behind so many flushes pass one after another
+-- how many of the actions after a given number of flushes pass one after another
 abbrev pub bound_behind : ℕ → ℕ → List ℕ → List Action → ℕ
 bound_behind before finished tokens [] = 0
 bound_behind before finished tokens (action ∷ actions) = if passes_behind before finished tokens action then suc (bound_behind (before + flush_count action) finished tokens actions) else 0

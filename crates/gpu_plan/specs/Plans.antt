@@ -13,7 +13,7 @@ use Rattle.gpu_plan.specs.declared.plan.Action.TheVariants.{Put, Flush, Finish, 
 use Rattle.gpu_cmd.specs.declared.priority.Priority.{Priority}
 use Rattle.gpu_cmd.specs.declared.priority.Priority.TheVariants.{Normal}
 
--- what one stream is called, has and does; a dump is the place of an action, and the result place that is read behind it
+-- what one stream is called, has and does; a dump is the place of an action, and the result place that is read after it
 pub record PlanData : Type 0 where
   pub name : Name
   pub areas : Areas
@@ -25,7 +25,7 @@ pub record PlanData : Type 0 where
 abbrev pub ring_alone : ℕ → Areas
 ring_alone ring = record { ring = ring; memories = replicate 16 None; results = replicate 16 None }
 
--- a put stays within so many places, and its value within 32 bits
+-- a put stays within this number of places, and its value within 32 bits
 abbrev pub IsWithin : ℕ → Action → Type 0
 IsWithin places (Put place value) = (place < places) × (value < 2 ^ 32)
 IsWithin places (Flush put fences) = Unit {0}
@@ -72,7 +72,7 @@ pub record IsLawfulPlan (areas : Areas) (actions : List Action) : Type 0 where
 abbrev pub IsDump : List (Option Span) → List Action → ℕ × ℕ → Type 0
 IsDump results actions dump = (slice_get actions dump.0 ≡ Some Finish) × (dump.1 < words_in results)
 
--- each dump stands behind the one before it, and the first at action k or later
+-- each dump stands after the one before it, and the first at action k or later
 abbrev pub RiseFrom : ℕ → List (ℕ × ℕ) → Type 0
 RiseFrom k [] = Unit {0}
 RiseFrom k (dump ∷ dumps) = (k ≤ dump.0) × RiseFrom (dump.0 + 1) dumps

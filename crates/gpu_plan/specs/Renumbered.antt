@@ -13,6 +13,10 @@ numbers_of plans mentioned = 0 ∷ map (number_of plans) mentioned
 abbrev pub renumbered_fence : List ℕ → ℕ × ℕ → ℕ × ℕ
 renumbered_fence numbers fence = (slice_index numbers fence.0, fence.1)
 
+-- what is noted of a flush, with its fences renumbered
+abbrev pub renumbered_note : List ℕ → ℕ × List (ℕ × ℕ) → ℕ × List (ℕ × ℕ)
+renumbered_note numbers flush = (flush.0, map (renumbered_fence numbers) flush.1)
+
 -- an action whose fences, where it has some, are renumbered
 abbrev pub renumbered_action : List ℕ → Action → Action
 renumbered_action numbers (Put place value) = Put place value

@@ -36,14 +36,14 @@ numbered version names n (name ∷ words) d = if is_remark name then Ok d else a
 abbrev pub plans_of : ℕ → Draft → PlansData
 plans_of version d = record { version = version; plans = streams d }
 
--- the lines behind the head line, the first of which has this number, are taken up one by one
+-- the lines after the head line, the first of which has this number, are taken up one by one
 unfoldable pub from_body : ℕ → List Name → ℕ → Draft → List (List (List ℕ)) → Result PlansData (ℕ × Kind)
 from_body version names n d [] = Ok (plans_of version d)
 from_body version names n d (line ∷ lines) = do
   next ← numbered version names n line d
   from_body version names (n + 1) next lines
 
--- the lines behind a line of this number, which says this version or is no head line
+-- the lines after a line of this number, which says this version or is no head line
 unfoldable pub from_version : Option ℕ → ℕ → List (List (List ℕ)) → Result PlansData (ℕ × Kind)
 from_version None n lines = Err (n, Head)
 from_version (Some version) n lines = from_body version (names_of version lines) (n + 1) no_stream lines

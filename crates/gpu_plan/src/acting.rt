@@ -1,14 +1,15 @@
-ghost use Rattle.std.specs.Prelude.{◌≡◌, ◌+◌, ◌<◌, ◌≤◌, ℕ, [], ◌∷◌, false, ◌^◌, Ok, Err, IfOk, IfSome, MatchOption};
+ghost use Rattle.std.specs.Prelude.{◌≡◌, ◌+◌, ◌<◌, ◌≤◌, ℕ, [], ◌∷◌, false, ◌^◌, Ok, Err, Some, IfOk, IfSome, MatchOption};
 ghost use Rattle.gpu_cmd.specs.Lawful.{IsLawfulAreas, places_of};
-ghost use Rattle.gpu_plan.specs.Plans.{IsWithin, HasFewFences, is_flush};
+ghost use Rattle.gpu_plan.specs.Plans.{IsWithin, is_flush};
 ghost use Rattle.script_lines.specs.Outcome.{Gives, or_error};
 ghost use Rattle.script_lines.specs.declared.fault.Kind.TheVariants.{Order};
 ghost use Rattle.gpu_plan.specs.Adding.{acting, fresh, acted, flushed, dumped, area_of};
+ghost use Rattle.gpu_plan.specs.Fencing.{fences_in};
 ghost use Rattle.gpu_plan.specs.Drafts.{shown, begun, Becomes, WerePut, WereRefused, TellsWhy};
 
 use crate::begun::Begun;
 use crate::draft::Draft;
-use crate::plan::{Action, Fences, Plan};
+use crate::plan::{Action, Plan};
 use gpu_cmd::{Areas, Span, span_at};
 use script_lines::{Kind, LineError};
 use script_words::Values;
@@ -79,7 +80,7 @@ impl Draft {
     #[tactic(auto, unfolding(crate::specs::Adding::acted, crate::specs::Adding::acting, crate::specs::Adding::added))]
     pub(crate) fn act(&mut self, action: Action) -> Result<(), LineError>
         requires within { (places : ℕ) → IsWithin places action }
-        requires fenced { HasFewFences action }
+        requires unfenced { fences_in (Some action) ≡ [] }
         requires other { is_flush action ≡ false }
         ensures { Becomes self.new result (acted (action ∷ []) (shown self.old)) }
     {
@@ -99,8 +100,8 @@ impl Draft {
 
     /// Adds a flush.
     #[tactic(auto, unfolding(crate::specs::Adding::flushed, crate::specs::Adding::acting, crate::specs::Adding::added))]
-    pub(crate) fn flush(&mut self, put: u32, fences: Fences) -> Result<(), LineError>
-        ensures { Becomes self.new result (flushed put fences (shown self.old)) }
+    pub(crate) fn flush(&mut self, put: u32, fences: Vec<(u32, u64)>) -> Result<(), LineError>
+        ensures { Becomes self.new result (flushed put fences.items (shown self.old)) }
     {
         let Some(plan) = &mut self.last else {
             return Err(LineError::Refused(Kind::Order));
@@ -108,17 +109,17 @@ impl Draft {
         if plan.is_closed() {
             return Err(LineError::Refused(Kind::Order));
         }
-        let many = fences.as_slice().len() > MOST_FENCES;
+        let many = fences.len() > MOST_FENCES;
         if many || self.flushes >= MOST_FLUSHES || self.actions >= MOST_ACTIONS {
             return Err(LineError::Refused(Kind::Limit));
         }
-        plan.add_action(Action::Flush { put, fences })?;
+        plan.add_flush(put, fences)?;
         self.actions += 1;
         self.flushes += 1;
         Ok(())
     }
 
-    /// Adds a Finish, behind which a word of a result memory is read.
+    /// Adds a Finish, after which a word of a result memory is read.
     #[tactic(auto, unfolding(crate::specs::Adding::dumped, crate::specs::Adding::acting, crate::specs::Adding::added))]
     pub(crate) fn dump(&mut self, memory: u32, index: u32) -> Result<(), LineError>
         ensures { Becomes self.new result (dumped memory index (shown self.old)) }
@@ -177,7 +178,7 @@ impl Draft {
         Ok(true)
     }
 
-    /// Why so many values are not put into the ring or a transfer memory, from a place of it on.
+    /// Why `count` values are not put into the ring or a transfer memory, from a place of it on.
     #[tactic(auto, unfolding(crate::specs::Adding::put_into, crate::specs::Adding::added))]
     pub(crate) fn put_fault(&self, memory: Option<u32>, place: u32, count: usize) -> Kind
         requires { count ≤ 2 ^ 63 }
@@ -196,7 +197,7 @@ impl Draft {
     }
 }
 
-// How many puts may be added behind so many actions, where there is room for so many.
+// How many puts may be added after `actions` actions, where there is room for `room` of them.
 fn room_left(room: u32, actions: usize) -> u32
     requires { actions ≤ 1000000 }
     ensures area { result ≤ room }

@@ -12,7 +12,7 @@ ghost use Rattle.gpu_plan.specs.Drafts.{shown, Becomes};
 use crate::acting::fresh;
 use crate::begun::Begun;
 use crate::draft::Draft;
-use crate::plan::{Action, Fences, Plan};
+use crate::plan::{Action, Plan};
 use crate::spans::spans_with;
 use gpu_cmd::Name;
 use script_lines::{
@@ -197,7 +197,7 @@ fn with_flush(
         (mentioned.new ≡ mentioned_behind version mentioned.old (words_left words.entry)) }
 {
     let (put, fences) = flush_said(alloc, version, mentioned, words)?;
-    draft.flush(put, Fences::of(alloc, fences)?)
+    draft.flush(put, fences)
 }
 
 #[tactic(auto, unfolding(crate::specs::Adding::with_finish, crate::specs::Adding::acted))]
@@ -233,7 +233,7 @@ fn with_dump(words: Words<'_>, draft: &mut Draft) -> Result<(), LineError>
 }
 
 /// Adds what a line of this name and these words says. In version 2 a fence has the number of its name among those
-/// mentioned, of which the new ones are put behind the others.
+/// mentioned, and the new ones go after the others.
 #[tactic(auto, unfolding(crate::specs::Adding::with_line))]
 pub(crate) fn with_line(
     alloc: Global,

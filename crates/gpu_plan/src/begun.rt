@@ -5,7 +5,7 @@ ghost use Rattle.gpu_plan.specs.Plans.{is_flush, actions_in, flushes_in};
 use crate::plan::Plan;
 
 /// A draft that has a stream: the streams before, the plan of the stream begun last, and how much the script has so far.
-#[derive(Debug, Drop)]
+#[derive(Drop)]
 pub(crate) struct Begun {
     pub done: Vec<Plan>,
     pub plan: Plan,

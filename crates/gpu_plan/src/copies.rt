@@ -1,46 +1,73 @@
-ghost use Rattle.std.specs.Prelude.{◌≡◌, IfOk};
+ghost use Rattle.std.specs.Prelude.{◌≡◌, slice_get, Some, IfOk};
+ghost use Rattle.gpu_plan.specs.Fencing.{fences_in};
 
+use crate::fenced::{Fenced, noted_at};
+use crate::place::Place;
 use crate::plan::{Action, Fences, Plan};
 use std::alloc::{AllocError, Global};
 
-impl Fences {
-    // The same pairs.
-    fn try_clone(&self, alloc: Global) -> Result<Fences, AllocError>
-        ensures { IfOk result (λ fences. fences ≡ self.now) }
+impl Fenced {
+    // The same note.
+    fn try_clone(&self, alloc: Global) -> Result<Fenced, AllocError>
+        ensures { IfOk result (λ noted. noted ≡ self.now) }
     {
-        Fences::of(alloc, self.as_slice().to_vec(alloc)?)
+        Ok(Fenced {
+            place: self.place,
+            pairs: self.pairs.to_vec(alloc)?,
+        })
     }
 }
 
-impl Action {
-    // The same action.
-    fn try_clone(&self, alloc: Global) -> Result<Action, AllocError>
-        ensures { IfOk result (λ action. action ≡ self.now) }
-    {
-        match self {
-            Action::Put { place, value } => Ok(Action::Put {
-                place: *place,
-                value: *value,
-            }),
-            Action::Flush { put, fences } => Ok(Action::Flush {
-                put: *put,
-                fences: fences.try_clone(alloc)?,
-            }),
-            Action::Finish => Ok(Action::Finish),
-            Action::Token { token } => Ok(Action::Token { token: *token }),
-            Action::Close => Ok(Action::Close),
-        }
+// The same notes.
+fn clone_fenced(alloc: Global, fenced: &[Fenced]) -> Result<Vec<Fenced>, AllocError>
+    ensures { IfOk result (λ copies. copies.items ≡ fenced.now) }
+{
+    let mut copies = Vec::with_capacity(alloc, fenced.len())?;
+    for noted in fenced {
+        copies.push(noted.try_clone(alloc)?)?;
     }
+    Ok(copies)
 }
 
 impl Plan {
+    // The fences of the flush at a place.
+    #[tactic(auto, using(crate::proofs::Fencing::rise_here, crate::proofs::Fencing::noted_here))]
+    fn fences(&self, alloc: Global, place: u32) -> Fences
+        ensures { result ≡ fences_in (slice_get self.now.actions place) }
+    {
+        match noted_at(&self.fenced, place) {
+            Some(noted) => Fences::of(&noted.pairs),
+            None => Fences::of(&Vec::new(alloc)),
+        }
+    }
+
+    // The action at a place.
+    fn clone_action(&self, alloc: Global, place: u32, action: &Action) -> Action
+        requires { slice_get self.now.actions place ≡ Some action.now }
+        ensures { result ≡ action.now }
+    {
+        match action {
+            Action::Put { place, value } => Action::Put {
+                place: Place::of(place.get()),
+                value: *value,
+            },
+            Action::Flush { put, fences: _ } => Action::Flush {
+                put: *put,
+                fences: self.fences(alloc, place),
+            },
+            Action::Finish => Action::Finish,
+            Action::Token { token } => Action::Token { token: *token },
+            Action::Close => Action::Close,
+        }
+    }
+
     // The same actions.
     fn clone_actions(&self, alloc: Global) -> Result<Vec<Action>, AllocError>
         ensures { IfOk result (λ actions. actions.items ≡ self.now.actions) }
     {
         let mut actions = Vec::with_capacity(alloc, self.actions.len())?;
-        for action in &self.actions {
-            actions.push(action.try_clone(alloc)?)?;
+        for (place, action) in self.actions.iter().enumerate() {
+            actions.push(self.clone_action(alloc, place as u32, action))?;
         }
         Ok(actions)
     }
@@ -54,6 +81,7 @@ impl Plan {
             areas: Box::new(alloc, *self.areas)?,
             priority: self.priority,
             actions: self.clone_actions(alloc)?,
+            fenced: clone_fenced(alloc, &self.fenced)?,
             dumps: self.dumps.to_vec(alloc)?,
         })
     }

@@ -6,7 +6,7 @@ ghost use Rattle.gpu_plan.specs.Plans.{PlanData, is_flush, actions_in, flushes_i
 use crate::plan::Plan;
 
 /// The streams before, the stream begun last, and how much the script has so far.
-#[derive(Debug, Drop)]
+#[derive(Drop)]
 pub(crate) struct Draft {
     pub done: Vec<Plan>,
     pub last: Option<Plan>,

@@ -1,26 +1,30 @@
-ghost use Rattle.std.specs.Prelude.{◌≡◌, ◌+◌, ◌<◌, ◌≤◌, ◌++◌, [], ◌∷◌, false, length, take, is_some, OnOk, OnErr, IfOk, IfSome, IfNone, OnSome};
+ghost use Rattle.std.specs.Prelude.{◌≡◌, ◌+◌, ◌<◌, ◌≤◌, ◌^◌, ◌++◌, [], ◌∷◌, false, length, take, Some, is_some, OnOk, OnErr, IfOk, IfSome, IfNone, OnSome};
 ghost use Rattle.gpu_cmd.specs.Lawful.{places_of};
 ghost use Rattle.gpu_cmd.specs.Spans.{AreTiles, words_in};
 ghost use Rattle.script_words.specs.Left.{values_left};
-ghost use Rattle.gpu_plan.specs.Plans.{IsWithin, HasFewFences, is_closed, ring_alone};
+ghost use Rattle.gpu_plan.specs.Plans.{IsWithin, is_closed, ring_alone};
 ghost use Rattle.gpu_plan.specs.Adding.{fresh_plan};
 ghost use Rattle.gpu_plan.specs.Putting.{can_put, word_puts, with_word_puts};
-ghost use Rattle.gpu_plan.specs.declared.plan.Action.TheVariants.{Finish};
+ghost use Rattle.gpu_plan.specs.declared.plan.Action.TheVariants.{Flush, Finish};
+ghost use Rattle.gpu_plan.specs.Fencing.{fences_in};
 
-use crate::plan::{Action, Plan};
+use crate::fenced::Fenced;
+use crate::place::Place;
+use crate::plan::{Action, Fences, Plan};
 use gpu_cmd::{Areas, Name, Priority, Span};
 use script_words::Values;
 use std::alloc::{AllocError, Global};
 
 // Adds puts of the words that are left of a line, from one place on, up to a word that is no value, or to another place.
-// Where all words were put, this is the place behind them.
+// Where all words were put, this is the place after them.
 fn push_puts(
     actions: &mut Vec<Action>,
     place: u32,
     end: u32,
     values: Values<'_>,
 ) -> Result<Option<u32>, AllocError>
-    requires { place ≤ end }
+    requires ordered { place ≤ end }
+    requires small { end ≤ 2 ^ 24 }
     ensures told { IfOk result (λ at. is_some at ≡ can_put place end (values_left values.entry)) }
     ensures within { IfOk result (λ at. IfSome at (λ at. at ≤ end)) }
     ensures at { IfOk result
@@ -30,6 +34,7 @@ fn push_puts(
         (actions.new.items ≡ actions.old.items ++ word_puts place (values_left values.entry))) }
     ensures behind { take (length actions.old.items) actions.new.items ≡ actions.old.items }
 {
+    actions.reserve((end - place) as usize)?;
     let mut at = place;
     for value in values {
         let Some(value) = value else {
@@ -38,7 +43,10 @@ fn push_puts(
         if at == end {
             return Ok(None);
         }
-        actions.push(Action::Put { place: at, value })?;
+        actions.push_reserved(Action::Put {
+            place: Place::of(at),
+            value,
+        });
         at += 1;
     }
     Ok(Some(at))
@@ -74,6 +82,7 @@ impl Plan {
             areas,
             priority,
             actions: Vec::new(alloc),
+            fenced: Vec::new(alloc),
             dumps: Vec::new(alloc),
         })
     }
@@ -85,17 +94,44 @@ impl Plan {
         matches!(self.actions.as_slice(), [.., Action::Close])
     }
 
-    /// Adds an action.
+    /// Adds an action that has no fences.
     pub(crate) fn add_action(&mut self, action: Action) -> Result<(), AllocError>
         requires unclosed { is_closed self.old.actions ≡ false }
         requires few { length self.old.actions < 1000000 }
         requires within { IsWithin (places_of self.old.areas) action }
-        requires fenced { HasFewFences action }
+        requires unfenced { fences_in (Some action) ≡ [] }
         ensures added { OnOk result
             (self.new ≡ record self.old { actions = self.old.actions ++ action ∷ [] }) }
         ensures same { OnErr result (self.new ≡ self.old) }
     {
         self.actions.push(action)?;
+        Ok(())
+    }
+
+    /// Adds a flush that waits for these fences.
+    pub(crate) fn add_flush(&mut self, put: u32, fences: Vec<(u32, u64)>) -> Result<(), AllocError>
+        requires unclosed { is_closed self.old.actions ≡ false }
+        requires few { length self.old.actions < 1000000 }
+        requires fenced { length fences.items ≤ 16 }
+        ensures added { OnOk result
+            (self.new
+            ≡ record self.old { actions = self.old.actions ++ Flush put fences.items ∷ [] }) }
+        ensures same { OnErr result (self.new ≡ self.old) }
+    {
+        let action = Action::Flush {
+            put,
+            fences: Fences::of(&fences),
+        };
+        if fences.is_empty() {
+            return self.add_action(action);
+        }
+        let place = self.actions.len() as u32;
+        self.fenced.reserve(1)?;
+        self.actions.push(action)?;
+        self.fenced.push_reserved(Fenced {
+            place,
+            pairs: fences,
+        });
         Ok(())
     }
 
@@ -136,7 +172,7 @@ impl Plan {
         }
     }
 
-    /// Adds a Finish, behind which this result place is read.
+    /// Adds a Finish, after which this result place is read.
     pub(crate) fn add_dump(&mut self, place: u32) -> Result<(), AllocError>
         requires unclosed { is_closed self.old.actions ≡ false }
         requires few { length self.old.actions < 1000000 }
@@ -166,6 +202,7 @@ impl Plan {
             mut areas,
             priority,
             actions,
+            fenced,
             dumps,
         } = self;
         areas.memories = memories;
@@ -174,6 +211,7 @@ impl Plan {
             areas,
             priority,
             actions,
+            fenced,
             dumps,
         }
     }
@@ -189,6 +227,7 @@ impl Plan {
             mut areas,
             priority,
             actions,
+            fenced,
             dumps,
         } = self;
         areas.results = results;
@@ -197,6 +236,7 @@ impl Plan {
             areas,
             priority,
             actions,
+            fenced,
             dumps,
         }
     }

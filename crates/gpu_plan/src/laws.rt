@@ -8,7 +8,8 @@ pub fn one_further()
     ensures bound { BoundOneFurther }
 {}
 
-/// The law that what passes goes on passing, so that the bound of a client never falls, and that of a list of tokens only the greatest counts for it.
+/// The law that what passes goes on passing, so that the bound of a client never falls, and that of a list of tokens
+/// only the greatest counts for it.
 pub fn bound_never_falls()
     ensures passes { PassesOn }
     ensures passes_greatest { PassesOnByGreatest }

@@ -1,64 +1,55 @@
-ghost use Rattle.std.specs.Prelude.{◌≡◌, ◌-◌, ◌<◌, ◌≤◌, [], ◌∷◌, length, slice_get, position, Some, IfSome, IfOk};
+ghost use Rattle.std.specs.Prelude.{◌≡◌, ◌-◌, ◌<◌, ◌≤◌, [], ◌∷◌, length, slice_get, position, Some, IfSome};
 ghost use Rattle.std.specs.List.{All};
 ghost use Rattle.gpu_cmd.specs.Lawful.{IsLawfulAreas};
 ghost use Rattle.std.specs.Option.{option_map};
 ghost use Rattle.gpu_plan.specs.Plans.{IsLawfulPlan, IsLawfulScript, IsDump, RiseFrom, is_of, number_of};
 ghost use Rattle.gpu_plan.specs.Passes.{passes_behind};
+ghost use Rattle.gpu_plan.specs.Fencing.{fences_in};
 ghost use Rattle.gpu_plan.specs.Named.{names_in, IsVersion, AreLawfulNames};
 
+use crate::fenced::{Fenced, noted_at};
+use crate::place::Place;
 use gpu_cmd::{Areas, Name, Priority};
-use std::alloc::{AllocError, Global};
 use std::marker::Model;
+use std::snapshot::Snapshot;
 
-/// What a flush waits for, seen as a list of pairs: a stream's number and a release.
+/// What a flush waits for, as contracts see it: a list of pairs, each a stream's number and a release.
 ///
-/// The number 0 stands for a stream that is not there. Where a flush waits for nothing, no memory is taken.
-#[derive(Debug, Drop)]
+/// The number 0 stands for a stream that is not there. The list takes no memory here: the plan keeps it, and `fences_at` gives it.
+#[derive(Drop)]
 pub struct Fences {
-    pub(crate) pairs: Option<Box<Vec<(u32, u64)>>>,
+    pairs: Snapshot<Vec<(u32, u64)>>,
 }
 
 impl Model for Fences {
-    ghost use Rattle.std.specs.Prelude.{ℕ, List, []};
-    ghost use Rattle.std.specs.Option.{option_map_or};
+    ghost use Rattle.std.specs.Prelude.{ℕ, List};
 
     ghost Value = { List (ℕ × ℕ) };
 
-    ghost view = { λ fences. option_map_or (λ pairs. pairs.value.items) fences.pairs [] };
+    ghost view = { λ fences. fences.pairs.value.items };
 }
 
 impl Fences {
-    pub(crate) fn of(alloc: Global, pairs: Vec<(u32, u64)>) -> Result<Fences, AllocError>
-        ensures { IfOk result (λ fences. fences ≡ pairs.items) }
+    pub(crate) fn of(pairs: &Vec<(u32, u64)>) -> Fences
+        ensures { result ≡ pairs.now.items }
     {
-        if pairs.is_empty() {
-            return Ok(Fences { pairs: None });
-        }
-        let pairs = Box::new(alloc, pairs)?;
-        Ok(Fences { pairs: Some(pairs) })
-    }
-
-    /// The pairs in the order of the flush line.
-    pub fn as_slice(&self) -> &[(u32, u64)]
-        ensures { result.now ≡ self.now }
-    {
-        match &self.pairs {
-            Some(pairs) => pairs.as_slice(),
-            None => &[],
+        Fences {
+            pairs: Snapshot::of(pairs),
         }
     }
 }
 
 /// One act of a client, in the order of its script.
 ///
-/// It takes 24 bytes: one that says which it is, with three that are left free, the number of a put, a flush or a token in
-/// four, and in sixteen a put's value, or whether a flush has fences and where they lie. A script may have a million, and most
-/// are puts.
-#[derive(Debug, Drop)]
+/// It takes eight bytes, since a script may have a million actions, and most are puts:
+/// - one byte says which it is
+/// - three have a put's place
+/// - four have a put's value, or the number of a flush or a token
+#[derive(Drop)]
 pub enum Action {
     /// Stores a value in one of the stream's words.
-    Put { place: u32, value: u32 },
-    /// Hands the ring's entries up to `put` to the service, behind these fences.
+    Put { place: Place, value: u32 },
+    /// Hands the ring's entries up to `put` to the service, after these fences.
     Flush { put: u32, fences: Fences },
     /// Waits until all flushes before are finished.
     Finish,
@@ -69,7 +60,7 @@ pub enum Action {
 }
 
 impl Action {
-    /// Whether the action passes behind so many flushes, where so many are finished and this is the greatest token.
+    /// Whether the action passes after `behind` flushes, where `finished` are finished and this is the greatest token.
     pub fn passes(&self, behind: u32, finished: u32, greatest: u32) -> bool
         ensures { result ≡ passes_behind behind finished (greatest ∷ []) self.now }
     {
@@ -85,18 +76,21 @@ impl Action {
 /// What one stream is called, has and does.
 ///
 /// The areas take some 400 bytes, so they lie apart: a plan is moved with its draft at each line that declares.
-#[derive(Debug, Drop)]
+#[derive(Drop)]
 pub struct Plan {
     pub(crate) name: Name,
     pub(crate) areas: Box<Areas>,
     pub(crate) priority: Priority,
     pub(crate) actions: Vec<Action>,
+    pub(crate) fenced: Vec<Fenced>,
     pub(crate) dumps: Vec<(u32, u32)>,
 }
 
 impl Model for Plan {
+    ghost use Rattle.std.specs.Prelude.{◌≡◌};
     ghost use Rattle.std.specs.List.{All};
     ghost use Rattle.gpu_plan.specs.Plans.{PlanData, IsLawfulPlan, IsDump, RiseFrom};
+    ghost use Rattle.gpu_plan.specs.Fencing.{fenced_from};
 
     ghost Value = { PlanData };
 
@@ -110,7 +104,8 @@ impl Model for Plan {
 
     ghost invariant = { λ p. IsLawfulPlan p.areas.value p.actions.items
         × All (IsDump p.areas.value.results p.actions.items) p.dumps.items
-        × RiseFrom 0 p.dumps.items };
+        × RiseFrom 0 p.dumps.items
+        × (p.fenced.items ≡ fenced_from 0 p.actions.items) };
 }
 
 impl Plan {
@@ -120,6 +115,17 @@ impl Plan {
         ensures lawful { IsLawfulPlan self.now.areas result.now }
     {
         &self.actions
+    }
+
+    /// The fences of the flush at a place, or none where no flush is.
+    #[tactic(auto, using(crate::proofs::Fencing::rise_here, crate::proofs::Fencing::noted_here))]
+    pub fn fences_at(&self, place: u32) -> &[(u32, u64)]
+        ensures { result.now ≡ fences_in (slice_get self.now.actions place) }
+    {
+        match noted_at(&self.fenced, place) {
+            Some(noted) => noted.pairs.as_slice(),
+            None => &[],
+        }
     }
 
     /// The ring and the memories of the stream. They are lawful.
@@ -157,7 +163,7 @@ impl Plan {
 
 /// The plans of one script, of version 1 or 2, at most 16, in the order of their stream lines. No two streams have the same
 /// name, and no namespace is greater than 255.
-#[derive(Debug, Drop)]
+#[derive(Drop)]
 pub struct Plans {
     version: u32,
     plans: Vec<Plan>,

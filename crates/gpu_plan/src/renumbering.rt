@@ -1,16 +1,18 @@
-ghost use Rattle.std.specs.Prelude.{◌≡◌, ◌≤◌, length, map, slice_index, IfOk};
+ghost use Rattle.std.specs.Prelude.{◌≡◌, ◌≤◌, length, map, slice_index, Some, IfOk};
 ghost use Rattle.gpu_plan.specs.Named.{names_in, IsVersion, AreLawfulNames};
 ghost use Rattle.gpu_plan.specs.Adding.{streams};
 ghost use Rattle.gpu_plan.specs.Drafts.{shown};
-ghost use Rattle.gpu_plan.specs.Renumbered.{numbers_of, renumbered_fence, renumbered_action, renumbered_plan, renumbered};
+ghost use Rattle.gpu_plan.specs.Renumbered.{numbers_of, renumbered_fence, renumbered_note, renumbered_action, renumbered_plan, renumbered};
+ghost use Rattle.gpu_plan.specs.Fencing.{Rise, fences_in, fenced_from, noted_at};
 
 use crate::adding::streams;
 use crate::draft::Draft;
+use crate::fenced::{Fenced, noted_at};
 use crate::plan::{Action, Fences, Plan, Plans, number_of};
 use script_lines::Names;
 use std::alloc::{AllocError, Global};
 
-// The numbers of the streams that have these names, behind 0 for no name.
+// The numbers of the streams that have these names, after 0 for no name.
 fn numbers_of(alloc: Global, plans: &[Plan], mentioned: &Names) -> Result<Vec<u32>, AllocError>
     requires { length plans.now ≤ 16 }
     ensures { IfOk result (λ numbers. numbers.items ≡ numbers_of plans.now mentioned.now) }
@@ -39,31 +41,48 @@ fn renumber_pairs(numbers: &[u32], pairs: &mut [(u32, u64)])
     }
 }
 
-impl Fences {
+impl Fenced {
     fn renumber(&mut self, numbers: &[u32])
-        ensures { self.new ≡ map (renumbered_fence numbers.now) self.old }
+        ensures { self.new ≡ renumbered_note numbers.now self.old }
     {
-        if let Some(pairs) = &mut self.pairs {
-            renumber_pairs(numbers, pairs);
-        }
+        renumber_pairs(numbers, &mut self.pairs);
+    }
+}
+
+fn renumber_fenced(numbers: &[u32], fenced: &mut [Fenced])
+    ensures { fenced.new ≡ map (renumbered_note numbers.now) fenced.old }
+{
+    for noted in fenced.iter_mut() {
+        noted.renumber(numbers);
     }
 }
 
 impl Action {
-    fn renumber(&mut self, numbers: &[u32])
-        ensures { self.new ≡ renumbered_action numbers.now self.old }
+    // Shows the fences that are noted of the action's place, which are renumbered. They take no memory in an action.
+    fn renumber(&mut self, _numbers: &[u32], fenced: &[Fenced], place: u32)
+        requires rise { Rise fenced.now }
+        requires noted { noted_at place fenced.now
+            ≡ map (renumbered_fence _numbers.now) (fences_in (Some self.old)) }
+        ensures { self.new ≡ renumbered_action _numbers.now self.old }
     {
-        if let Action::Flush { put: _, fences } = self {
-            fences.renumber(numbers);
+        let Action::Flush { put: _, fences } = self else {
+            return;
+        };
+        if let Some(noted) = noted_at(fenced, place) {
+            *fences = Fences::of(&noted.pairs);
         }
     }
 }
 
-fn renumber_actions(numbers: &[u32], actions: &mut [Action])
+fn renumber_actions(numbers: &[u32], fenced: &[Fenced], actions: &mut [Action])
+    requires few { length actions.old ≤ 1000000 }
+    requires noted { fenced.now ≡ map (renumbered_note numbers.now) (fenced_from 0 actions.old) }
     ensures { actions.new ≡ map (renumbered_action numbers.now) actions.old }
 {
+    let mut place = 0;
     for action in actions.iter_mut() {
-        action.renumber(numbers);
+        action.renumber(numbers, fenced, place);
+        place += 1;
     }
 }
 
@@ -71,7 +90,8 @@ impl Plan {
     fn renumber(&mut self, numbers: &[u32])
         ensures { self.new ≡ renumbered_plan numbers.now self.old }
     {
-        renumber_actions(numbers, &mut self.actions);
+        renumber_fenced(numbers, &mut self.fenced);
+        renumber_actions(numbers, &self.fenced, &mut self.actions);
     }
 }
 

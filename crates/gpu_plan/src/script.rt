@@ -87,7 +87,7 @@ fn numbered(
     }
 }
 
-// The plans of the lines behind the head line, the first of which has this number.
+// The plans of the lines after the head line, the first of which has this number.
 fn from_body(
     alloc: Global,
     version: u32,
@@ -114,7 +114,7 @@ fn from_body(
     }
 }
 
-// The plans of the lines behind a line of this number, which says this version or is no head line.
+// The plans of the lines after a line of this number, which says this version or is no head line.
 #[tactic(auto, unfolding(crate::specs::Script::from_version))]
 fn from_version(
     alloc: Global,

@@ -12,7 +12,7 @@ const LAST_MEMORY: u32 = 15;
 /// The most words that the transfer memories, or the result memories, of a stream have.
 const MOST_WORDS: u64 = 65_536;
 
-/// Memories that count from a first place on, with one more behind those before.
+/// Memories that count from a first place on, with one more after those before.
 #[tactic(auto, unfolding(crate::specs::Adding::spans_with))]
 pub(crate) fn spans_with(
     first: u32,

@@ -1,3 +1,4 @@
+pub mod Crossing
 pub mod Planned
 pub mod Going
 pub mod Made

@@ -1,4 +1,4 @@
--- A step of a run: what its desk finds, and what is told of it.
+-- A step of a run: what its desk finds, and the report of it.
 use Rattle.std.proofs.Common.{◌≡◌, ◌<◌, ℕ, Ok, List, length, refl, sym, ap, subst, ◌∙◌}
 use Rattle.std.specs.List.{All}
 use Rattle.gpu_cmd.specs.declared.areas.Areas.{Areas}
@@ -75,7 +75,7 @@ core_keeps p h core is s (WaitName name release) = core_kept p h core is s (numb
 core_keeps p h core is s (Pixels op) = refl
 core_keeps p h core is s (Results write) = refl
 
--- what is told of the step, by the journal
+-- the report of the step, by the journal
 pub executed : (c : Parts) (t : Taken) (old new : Scene) (state left : State) (acted : Acted) → CoreInvariant c → Place c t.stream → t.plans.now ≡ c.plans → old ≡ record { images = c.images; sync = c.sync } → state ≡ state_of c.plans c.past t.stream
     → Executes t old new state left acted → WasExecuted c.plans c.past t.stream t.words.now acted
 executed c t old new state left acted was place plans scene same does =

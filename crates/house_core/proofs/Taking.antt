@@ -42,7 +42,7 @@ seated c was = record {
 pub chooses : (c : Parts) → CoreInvariant c → seats.choice c.seats c.sync ≡ choice_at_home c.plans c.past (is_home (outs_of c.desks))
 chooses c was = scheduler_chooses c.plans c.past (is_home (outs_of c.desks)) c.seats c.sync (seated c was) record { count = was.many.streams; stands = was.sync }
 
--- what is known of the stream that is chosen: it can run, and its next flush is that of its first number
+-- the facts of the stream that is chosen: it can run, and its next flush is that of its first number
 pub record IsChosen (c : Parts) (s : ℕ) : Type 0 where
   pub place : Place c s
   pub runs : CanRun c.plans c.past s

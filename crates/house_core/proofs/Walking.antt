@@ -39,7 +39,7 @@ module _ (actions : List Action) (finished greatest : ℕ) (walk : Walk) (was : 
         ap (λ n. passes_behind n finished (greatest ∷ []) action) was.behind
         ∙ ap (λ (o : Option Action). passes_if_there (flushes (take walk.upto actions)) finished (greatest ∷ []) o) (sym at)
 
-    -- an action that passes is behind the walk
+    -- an action that passes is after the walk
     pub walked_more : (now : Walk) → passes_behind walk.behind finished (greatest ∷ []) action ≡ true → now.upto ≡ walk.upto + 1 → now.behind ≡ walk.behind + flush_count action → HasWalked actions finished greatest now
     walked_more now pass next more = record {
       below = let further = bound_one_further actions walk.upto finished (greatest ∷ []) was.below (sym here ∙ pass) in omega arith;
@@ -61,7 +61,7 @@ module _ (actions : List Action) (finished greatest : ℕ) (walk : Walk) (was : 
       λ some. is.1 (let there = stops_here stop in let both : Some action ≡ Some Close = sym there ∙ some in cc),
     )
 
-  -- behind the last action there is no Close
+  -- after the last action there is no Close
   pub never_closes : length actions ≤ walk.upto → IsTrue false ↔ (slice_get actions (bound actions finished (greatest ∷ [])) ≡ Some Close)
   never_closes far = (
     λ yes. absurd (cc),

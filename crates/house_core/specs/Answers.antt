@@ -19,11 +19,11 @@ use Rattle.house_core.specs.declared.steps.Stepped.TheVariants as stepped
 use Rattle.house_core.specs.Desks.{RunData}
 use Rattle.house_core.specs.Core.{CoreData, Stays, Grows, IsRunOf, with_out}
 
--- what is told of a step of stream s on these words, by the journal before it
+-- the report of a step of stream s on these words, by the journal before it
 abbrev pub WasExecuted : PlansData → List Event → ℕ → List (ℕ × ℕ) → Acted → Type 0
 WasExecuted p h s words = IsToldOf (plan_of p s).areas words (state_of p h s) (replay p h) (keeps p h s)
 
--- the place of the next header, behind a command of this size
+-- the place of the next header, after a command of this size
 abbrev pub further : ℕ → ℕ → ℕ → ℕ
 further ring get size = if get + size == ring then 0 else get + size
 

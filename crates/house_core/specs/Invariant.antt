@@ -34,7 +34,7 @@ pub record Parts : Type 0 where
   pub images : Pictures
   pub desks : List DeskData
 
--- of stream s: what is kept is what the journal says, and while its run is out that may go on
+-- of stream s: the record is what the journal says, and while its run is out that may go on
 pub record DeskFits (p : PlansData) (h : List Event) (s : ℕ) (desk : DeskData) : Type 0 where
   pub places : desk.places ≡ flush_places (plan_of p s).actions
   pub state : desk.state ≡ state_of p h s

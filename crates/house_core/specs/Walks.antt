@@ -8,7 +8,8 @@ use Rattle.house_core.specs.declared.walk.Walk.{Walk}
 abbrev pub start : Walk
 start = record { upto = 0; behind = 0 }
 
--- its actions up to there pass, where so many flushes are finished and this is the greatest token, and so many of them are flushes
+-- its actions up to there pass at this number of finished flushes and this greatest token, and a given number of of
+-- them are flushes
 pub record HasWalked (actions : List Action) (finished greatest : ℕ) (walk : Walk) : Type 0 where
   pub below : walk.upto ≤ bound actions finished (greatest ∷ [])
   pub behind : walk.behind ≡ flushes (take walk.upto actions)

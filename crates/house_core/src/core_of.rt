@@ -229,7 +229,7 @@ impl Core {
     }
 }
 
-// Takes room for so many more events beside the ends that are owed.
+// Takes room for a given number of further events beside the ends that are owed.
 pub(crate) fn take_room(journal: &mut Journal, owed: usize, more: usize) -> Result<(), Memory>
     ensures past { journal.new.events ≡ journal.old.events }
     ensures grows { journal.old.spare ≤ journal.new.spare }

@@ -67,7 +67,7 @@ impl Core {
         journal.push(Event::Close { stream });
     }
 
-    /// Loses a stream for want of memory, where it is neither lost nor closed. It takes no memory.
+    /// Loses a stream as out of memory, where it is neither lost nor closed. It takes no memory.
     pub fn lose_client(&mut self, stream: u32)
         requires known { IsKnown (length self.old.plans.plans) stream }
         ensures event { is_open (standing_of self.old.plans self.old.past stream) ≡ true

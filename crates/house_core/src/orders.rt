@@ -9,7 +9,7 @@ ghost use Rattle.gpu_journal.specs.Serial.{order_event};
 ghost use Rattle.house_core.specs.Core.{Stays, Grows};
 
 use crate::core_of::{Core, take_room};
-use gpu_journal::{Event, fences_at};
+use gpu_journal::Event;
 use sync_core::OrderFault;
 
 impl Core {
@@ -52,7 +52,7 @@ impl Core {
         let Ok(()) = take_room(journal, *owed, 2) else {
             return Err(OrderFault::Memory);
         };
-        let fences = fences_at(plans.plan(stream).actions(), place);
+        let fences = plans.plan(stream).fences_at(place);
         let order = scene.sync.order(stream, fences)?;
         scene.sync.has_room();
         let desk = &mut desks[stream as usize - 1];

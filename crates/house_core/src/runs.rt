@@ -156,7 +156,7 @@ impl Core {
         }
     }
 
-    /// Loses the stream of a run for want of memory, where it is neither lost nor closed, and takes the run back. It takes no
+    /// Loses the stream of a run as out of memory, where it is neither lost nor closed, and takes the run back. It takes no
     /// memory.
     pub fn lose(&mut self, mut run: Carried)
         requires plan { IsOfPlans self.old.plans run }

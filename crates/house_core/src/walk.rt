@@ -6,7 +6,7 @@ ghost use Rattle.house_core.specs.Walks.{start, HasWalked};
 
 use gpu_plan::Action;
 
-/// So many of a client's actions pass one after another, and so many flushes stand among them.
+/// How many of a client's actions pass one after another, and how many flushes stand among them.
 #[derive(Drop)]
 pub struct Walk {
     upto: u32,
@@ -41,7 +41,7 @@ impl Walk {
         Walk { upto: 0, behind: 0 }
     }
 
-    /// Whether the client comes to a Close, where so many flushes are finished and this is the greatest token.
+    /// Whether the client comes to a Close at this number of finished flushes and this greatest token.
     pub(crate) fn comes_to_close(
         &mut self,
         actions: &[Action],

@@ -258,7 +258,7 @@ finish_judged p h j s n lawful legal f = by (is_number (first_order (core.left_o
                 let t : eqb (kept_facts p j s).get (kept_facts p j s).put ≡ true = grind (arith, nat_tests) in
                 absurd (cc)
 
--- ---- losses for want of memory, and closes
+-- ---- losses as out of memory, and closes
 
 memory_judged : (p : PlansData) (h : List Event) (j : JudgeData) (s : ℕ) (words : List (ℕ × ℕ)) → Follows p h j → IsJudged p h (Lost s Memory words) (memory_fault j s words)
 memory_judged p h j s words f = by (is_open_in j s) (eqb (length words) 0) refl refl

@@ -102,7 +102,7 @@ begins words facts put = by (headed (value_in words facts.get) facts) refl
         some zero pos more e = absurd (omega arith)
         some (suc n) pos more e = (range_with_len (facts.get + 1) n ++ more, e)
 
--- what is behind the ring words
+-- what is after the ring words
 transfer_is : (words : List (ℕ × ℕ)) (facts : StreamFacts) (shape : Shape) → facts.put < facts.areas.ring → headed (value_in words facts.get) facts ≡ Ok shape → shape.ring_words ≤ length words → is_row facts.get (take shape.ring_words words) ≡ true
     → (decoding : Result Decoded CmdError) → decoded (values_of (take shape.ring_words words)) facts ≡ decoding → IsRead words facts (transfer_read (drop shape.ring_words words) decoding)
 unfolding copied fetched_places

@@ -1,4 +1,4 @@
--- What is kept before any event, and when a history is complete.
+-- The record before any event, and when a history is complete.
 use Rattle.std.proofs.Common.{◌≡◌, ℕ, zero, suc, Bool, true, false, not, eqb, ◌&&◌, Option, Some, List, [], length, replicate, refl, sym, ap, subst, ◌∙◌, arith}
 use Rattle.std.specs.Prelude.{◌||◌, slice_get}
 use Rattle.std.specs.Option.{option_map_or}

@@ -1,4 +1,4 @@
--- What is kept after an event that obeys its rules is what the longer history says.
+-- The record after an event that obeys its rules is what the longer history says.
 use Rattle.std.proofs.Common.{◌≡◌, ◌≢◌, ℕ, zero, suc, ◌+◌, ◌-◌, ◌≤◌, max, inl, inr, false, not, eqb, Option, Some, List, [], ◌∷◌, set, refl, sym, ap, subst, ◌∙◌, arith}
 use Rattle.std.proofs.lemmas.Bool.{and_right}
 use Rattle.std.specs.Prelude.{slice_get}
@@ -29,7 +29,7 @@ use Rattle.journal_verify.proofs.Following.{told}
 
 -- ---- the watch of the event's stream
 
--- what the event makes of what is known of its stream
+-- what the event makes of the facts of its stream
 record TellsAfter (p : PlansData) (h : List Event) (e : Event) (watch : WatchData) : Type 0 where
   ordered : watch.ordered ≡ (known_after p e (world p h) (known p h (stream_in e))).ordered
   finished : watch.finished ≡ (known_after p e (world p h) (known p h (stream_in e))).finished

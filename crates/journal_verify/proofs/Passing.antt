@@ -41,7 +41,7 @@ pub number_left : (xs : List Number) (n : ℕ) → is_number (first_order xs) n 
 number_left [] n e = absurd (cc)
 number_left (x ∷ xs) n e = omega arith
 
--- ---- orders, losses for want of memory, and closes
+-- ---- orders, losses as out of memory, and closes
 
 pub watch_there : (test : WatchData → Bool) (o : Option WatchData) → option_map_or test o false ≡ true → (w : WatchData) × (o ≡ Some w) × (test w ≡ true)
 watch_there test None e = absurd (cc)

@@ -18,7 +18,7 @@ use Rattle.journal_verify.proofs.Breaking.{judged}
 use Rattle.journal_verify.proofs.Ensuing.{follows_entered, counted_entered}
 use Rattle.journal_verify.proofs.Ending.{settled_complete, complete_settled}
 
--- the events up to a place are legal, and what is kept is what they say
+-- the events up to a place are legal, and the record is what they say
 pub record IsTaken (p : PlansData) (events : List Event) (index : ℕ) (judge : JudgeData) : Type 0 where
   pub legal : IsLegal p (reverse (take index events))
   pub follows : Follows p (reverse (take index events)) judge

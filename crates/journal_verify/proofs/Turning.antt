@@ -1,4 +1,4 @@
--- What is kept fits the plans after each event.
+-- The record fits the plans after each event.
 use Rattle.std.proofs.Common.{◌≡◌, ◌≢◌, ◌++◌, Bool, false, ℕ, zero, suc, ◌-◌, ◌≤◌, ◌<◌, ◌⊎◌, inl, inr, Some, List, [], ◌∷◌, length, get_or, set, refl, sym, ap, subst, ◌∙◌, arith}
 use Rattle.std.specs.Prelude.{slice_get}
 use Rattle.std.specs.List.{All}
@@ -86,7 +86,7 @@ fits_turned p old new s now fits known drawn count states within put is = record
   within = within;
 }
 
--- ---- what is told of a judge before a call, from what it shows
+-- ---- the report of a judge before a call, from what it shows
 
 pub is_watch_seen : (p : PlansData) (old shown : JudgeData) (s : ℕ) (w : WatchData) → old ≡ shown → FitsPlans p shown → IsKnown (length p.plans) s → w ≡ get_or old.watches (s - 1) w → IsWatch (plan_of p s) w
 is_watch_seen p old shown s w view fits known at = is_watch_here p old s w (subst (FitsPlans p) (sym view) fits) known at
@@ -114,7 +114,7 @@ pub within_kept : (p : PlansData) (j : JudgeData) (s : ℕ) → FitsPlans p j �
 within_kept p j zero fits known = absurd (omega (arith, known.0))
 within_kept p j (suc k) fits known = All-get_or IsWithin j.states k first_state (omega (arith, known.1, fits.states)) fits.within
 
--- what is pushed stands behind the others
+-- what is pushed stands after the others
 pub get_push : {X : Type 0} (xs : List X) (k : ℕ) (x y : X) → slice_get (xs ++ y ∷ []) k ≡ Some x → ((k ≡ length xs) × (x ≡ y)) ⊎ (slice_get xs k ≡ Some x)
 get_push [] zero x y e = let same : y ≡ x = cc in inl (refl, sym same)
 get_push [] (suc k) x y e = absurd (cc)

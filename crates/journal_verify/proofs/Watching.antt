@@ -1,4 +1,4 @@
--- What is kept of a stream fits its plan after each event.
+-- The record of a stream fits its plan after each event.
 use Rattle.std.proofs.Common.{◌≡◌, ℕ, ◌+◌, ◌≤◌, inl, inr, Some, List, [], ◌∷◌, length, sym, ap, ◌∙◌, arith}
 use Rattle.std.specs.Prelude.{slice_get}
 use Rattle.std.proofs.lemmas.Bool.{cases_lt}
@@ -26,7 +26,7 @@ finish_further plan watch is =
 pub flush_within : (actions : List Action) (j place : ℕ) → slice_get (flush_places actions) j ≡ Some place → place ≤ length actions
 flush_within actions j place at = let end = (flushes_before actions j place at).1 in omega arith
 
--- the next flush stands behind it
+-- the next flush stands after it
 pub flush_rises : (actions : List Action) (j c d : ℕ) → slice_get (flush_places actions) j ≡ Some c → slice_get (flush_places actions) (j + 1) ≡ Some d → c ≤ d
 flush_rises actions j c d first next =
     elim (cases_lt d c) [

@@ -1,4 +1,4 @@
--- What is answered of a list of events, which has the oldest first.
+-- The answer for a list of events, which has the oldest first.
 use Rattle.std.specs.Prelude.{◌≡◌, ℕ, ◌-◌, ◌≤◌, List, take, reverse, Some, None, Option, slice_get}
 use Rattle.gpu_plan.specs.Plans.{PlansData}
 use Rattle.gpu_journal.specs.declared.event.Event.{Event}

@@ -15,12 +15,12 @@ abbrev pub is_row : ℕ → List (ℕ × ℕ) → Bool
 is_row from [] = true
 is_row from (word ∷ words) = word.0 == from && is_row (from + 1) words
 
--- behind the ring words: the transfer words of a command, or none
+-- after the ring words: the transfer words of a command, or none
 abbrev pub transfer_read : List (ℕ × ℕ) → Result Decoded CmdError → Option (Result Command CmdError)
 transfer_read more (Err error) = when (length more == 0) (Err error)
 transfer_read more (Ok found) = when (length more == found.count && is_row found.from more) (Ok found.command)
 
--- the ring words of a header that passed, and what is behind them; or the header alone
+-- the ring words of a header that passed, and what is after them; or the header alone
 abbrev pub entries_read : List (ℕ × ℕ) → StreamFacts → Result Shape CmdError → Option (Result Command CmdError)
 entries_read words facts (Err error) = when (length words == 1) (Err error)
 entries_read words facts (Ok shape) =

@@ -1,4 +1,4 @@
--- What an event that obeys all rules changes of what is kept.
+-- What an event that obeys all rules changes of the record.
 use Rattle.std.specs.Prelude.{◌≡◌, ℕ, ◌+◌, ◌-◌, ◌≤◌, Bool, false, Option, Some, List, length, slice_get, slice_set}
 use Rattle.std.specs.List.{All}
 use Rattle.gpu_store.specs.Images.{Pictures, Applied}
@@ -16,7 +16,7 @@ use Rattle.gpu_journal.specs.Replaying.{IsWithin}
 use Rattle.journal_verify.specs.Kept.{WatchData, JudgeData, watch_of, AreWatched}
 use Rattle.journal_verify.specs.Faults.{kept_state}
 
--- what is kept has a part for each stream of the plans, which fits its plan
+-- the record has a part for each stream of the plans, which fits its plan
 pub record FitsPlans (p : PlansData) (judge : JudgeData) : Type 0 where
   pub drawn : judge.core.drawn ≡ judge.drawn
   pub core : length judge.core.streams ≡ length p.plans

@@ -1,4 +1,4 @@
--- The rules as they are looked at, by what is kept.
+-- The rules as they are looked at, by the record.
 use Rattle.std.specs.Prelude.{◌≡◌, ℕ, suc, ◌+◌, ◌==◌, ◌&&◌, ◌||◌, Bool, true, false, not, is_some, Option, Some, None, Result, Ok, Err, List, length, slice_get, slice_index}
 use Rattle.std.specs.Option.{option_map_or}
 use Rattle.std.specs.List.{list_all}
@@ -112,7 +112,7 @@ finish_fault p judge s n =
     (or_fault (not (blocked judge.core s)) 5
     (or_fault ((kept_facts p judge s).get == (kept_facts p judge s).put) 10 None))
 
--- rule 11, of a loss for want of memory
+-- rule 11, of a loss as out of memory
 abbrev pub memory_fault : JudgeData → ℕ → List (ℕ × ℕ) → Option ℕ
 memory_fault judge s words = or_fault (is_open_in judge s && length words == 0) 11 None
 

@@ -1,4 +1,4 @@
--- What is kept is what a history says.
+-- The record is what a history says.
 use Rattle.std.specs.Prelude.{◌≡◌, ℕ, suc, true, List, [], ◌∷◌, Some, slice_get}
 use Rattle.gpu_plan.specs.Plans.{PlanData, PlansData, plan_of}
 use Rattle.gpu_plan.specs.Passes.{greatest}
@@ -25,7 +25,7 @@ pub record IsFirst (plan : PlanData) (watch : WatchData) : Type 0 where
 abbrev pub AreFirst : PlansData → List WatchData → Type 0
 AreFirst p watches = (k : ℕ) (watch : WatchData) → slice_get watches k ≡ Some watch → IsFirst (plan_of p (suc k)) watch
 
--- what is kept of stream s is what the history says of it
+-- the record of stream s is what the history says of it
 pub record Tells (p : PlansData) (h : List Event) (s : ℕ) (watch : WatchData) : Type 0 where
   pub ordered : watch.ordered ≡ (known p h s).ordered
   pub finished : watch.finished ≡ (known p h s).finished

@@ -1,4 +1,4 @@
--- What is kept while events are judged one after the other.
+-- The record while events are judged one after the other.
 use Rattle.std.specs.Prelude.{◌≡◌, ℕ, zero, suc, Bool, List, [], ◌∷◌, Option, Some, None, slice_get}
 use Rattle.gpu_cmd.specs.Lawful.{IsLawfulAreas}
 use Rattle.gpu_store.specs.Images.{Pictures}
@@ -27,12 +27,12 @@ pub record JudgeData : Type 0 where
   pub states : List State
   pub watches : List WatchData
 
--- what is kept of stream s
+-- the record of stream s
 abbrev pub watch_of : JudgeData → ℕ → Option WatchData
 watch_of judge zero = None
 watch_of judge (suc k) = slice_get judge.watches k
 
--- what is kept of a stream fits its plan: its client can have done as much as its numbers let it, and has done all before
+-- the record of a stream fits its plan: its client can have done as much as its numbers let it, and has done all before
 -- the first flush that is not finished
 pub record IsWatch (plan : PlanData) (watch : WatchData) : Type 0 where
   pub laid_out : IsLawfulAreas plan.areas

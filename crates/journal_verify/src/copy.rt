@@ -20,7 +20,7 @@ fn follow(words: &[(u32, u32)], from: u32) -> bool
     true
 }
 
-// What is behind the ring words of a command, by what they say.
+// What is after the ring words of a command, by what they say.
 fn transfer(
     more: &[(u32, u32)],
     decoding: Result<Decoded, CmdError>,

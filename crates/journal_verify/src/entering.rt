@@ -8,7 +8,6 @@ ghost use Rattle.gpu_journal.specs.Waits.{fences_in};
 ghost use Rattle.journal_verify.specs.Entered.{FitsPlans, HasCounted, HasTurned};
 
 use crate::judge::Judge;
-use gpu_journal::fences_at;
 use gpu_plan::Plans;
 use gpu_word::Memory;
 use sync_core::SyncCore;
@@ -41,7 +40,7 @@ impl Judge {
             (self.old.drawn + 1) self.old.images self.old.states self.old self.new) }
         ensures fits { OnOk result (FitsPlans plans.now self.new) }
     {
-        let fences = fences_at(plans.plan(s).actions(), place);
+        let fences = plans.plan(s).fences_at(place);
         draw(&mut self.scene.sync, s, fences)?;
         self.drawn += 1;
         self.watches[s as usize - 1].order();

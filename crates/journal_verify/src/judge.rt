@@ -16,7 +16,7 @@ use std::marker::Model;
 use step_parts::Scene;
 use stream_state::StreamState;
 
-/// What is kept while events are judged one after the other.
+/// The record while events are judged one after the other.
 #[derive(Drop)]
 pub(crate) struct Judge {
     pub(crate) drawn: u32,
@@ -40,7 +40,7 @@ impl Model for Judge {
 }
 
 impl Judge {
-    // What is kept of a stream.
+    // The record of a stream.
     pub(crate) fn watch(&self, s: u32) -> Option<&Watch>
         ensures { option_copied result ≡ watch_of self.now s }
     {

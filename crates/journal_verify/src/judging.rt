@@ -129,7 +129,7 @@ impl Judge {
         Ok(None)
     }
 
-    // A loss for want of memory: rule 11.
+    // A loss as out of memory: rule 11.
     fn lose_for_memory(&mut self, plans: &Plans, s: u32, words: &[(u32, u32)]) -> Option<u32>
         requires fits { FitsPlans plans.now self.old }
         ensures fault { result ≡ memory_fault self.old s words.now }

@@ -1,4 +1,4 @@
-//! What is kept before any event.
+//! The record before any event.
 ghost use Rattle.std.specs.Prelude.{◌≡◌, false, [], length, IsTrue, IfOk};
 ghost use Rattle.journal_verify.specs.Faults.{AreSettled};
 ghost use Rattle.journal_verify.specs.Entered.{FitsPlans, HasCounted};
@@ -14,7 +14,7 @@ use step_parts::Scene;
 use stream_state::first_states;
 use sync_core::SyncCore;
 
-// What is kept of each stream before any event.
+// The record of each stream before any event.
 fn first_watches(alloc: Global, plans: &Plans) -> Result<Vec<Watch>, Memory>
     ensures count { IfOk result (λ watches. length watches.items ≡ length plans.now.plans) }
     ensures first { IfOk result (λ watches. AreFirst plans.now watches.items) }

@@ -1,6 +1,6 @@
 use gpu_cmd::{CmdError, Command};
 
-/// What is found of words that were fetched.
+/// The verdict on words that were fetched.
 #[derive(Clone, Copy, Debug, PartialEq, Eq)]
 pub(crate) enum Outcome {
     /// They break this rule first.

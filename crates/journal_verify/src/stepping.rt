@@ -1,4 +1,4 @@
-//! What a step does to what is kept.
+//! What a step does to the record.
 ghost use Rattle.std.specs.Prelude.{◌≡◌, ◌<◌, length, OnOk};
 ghost use Rattle.gpu_plan.specs.Plans.{plan_of};
 ghost use Rattle.stream_state.specs.Steps.{command_in};

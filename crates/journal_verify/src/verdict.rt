@@ -1,6 +1,6 @@
 use gpu_store::Images;
 
-/// What is found of a list of events.
+/// The verdict on a list of events.
 #[derive(Drop)]
 pub enum Verdict {
     /// They are a legal and complete history, which leaves these images.

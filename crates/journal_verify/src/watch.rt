@@ -13,7 +13,7 @@ use gpu_word::Memory;
 use std::alloc::Global;
 use std::marker::Model;
 
-/// What is kept of a stream: its counts of ordered and finished flushes, its greatest token, whether it is neither lost
+/// The record of a stream: its counts of ordered and finished flushes, its greatest token, whether it is neither lost
 /// nor closed, what its client can have done, and the places of its flushes.
 #[derive(Drop)]
 pub(crate) struct Watch {
@@ -47,7 +47,7 @@ fn place_at(flushes: &[u32], count: u32) -> Option<u32>
     flushes.get(count as usize).copied()
 }
 
-// A client goes on where so many flushes are finished and this is the greatest token: it has done all before the first
+// A client goes on at this number of finished flushes and this greatest token: it has done all before the first
 // flush that is not finished.
 fn go_on(
     client: &mut Client,

@@ -9,7 +9,7 @@ use Rattle.shm_words.specs.declared.client.Acted.TheVariants.{Stored, Passed, No
 use Rattle.shm_words.specs.Seen.{ClientData, next_action, flushes_before}
 use Rattle.shm_words.specs.Acts.{Acts, answer_for, loads_for, counts, with_load}
 
--- a client with so many actions more done and these words loaded
+-- a client with a given number of further actions done and these words loaded
 abbrev with_acts : ClientData → ℕ → List (ℕ × ℕ) → ClientData
 with_acts c n words = record c { done = c.done + n; loads = c.loads ++ words }
 

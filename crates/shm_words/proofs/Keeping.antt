@@ -64,7 +64,7 @@ flush_there actions done h = flush_is (slice_get actions done) h
 pub stands_at_flush : (actions : List Action) (done put : ℕ) (fences : List (ℕ × ℕ)) → slice_get actions done ≡ Some (Flush put fences) → IsSomeAnd (slice_get actions done) (λ action. IsTrue (is_flush action))
 stands_at_flush actions done put fences at = subst (λ (o : Option Action). IsSomeAnd o (λ action. IsTrue (is_flush action))) (sym at) refl
 
--- behind the last action none is next
+-- after the last action none is next
 pub none_left : (actions : List Action) (done : ℕ) → nat_lt done (length actions) ≡ false → slice_get actions done ≡ None
 none_left actions done h = slice_get_past actions done (grind (arith, nat_tests))
 

@@ -1,3 +1,4 @@
+pub mod Crossing
 mod Seats
 mod ClientSteps
 mod ServiceSteps

@@ -42,7 +42,7 @@ viewed p s run views client_there service_there others = record {
   bounded = run.bounded;
 }
 
--- a new view behind the others, which is a note of the client's latest flush
+-- a new view after the others, which is a note of the client's latest flush
 noted : (p : PlanData) (s : Words) (run : InUse p s) (m : ℕ) → m ≤ get_or s.words 0 0 → InUse p (record { words = s.words; homes = s.homes; views = s.views ++ Note m ∷ [] })
 noted p s run m low =
     viewed p s run (s.views ++ Note m ∷ []) (at_longer s.views (Note m ∷ []) run.client_seat (Client run.client) run.client_there) (at_longer s.views (Note m ∷ []) run.service_seat (Service run.service) run.service_there)

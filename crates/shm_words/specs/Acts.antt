@@ -57,6 +57,11 @@ is_await Finish = true
 is_await (Token token) = true
 is_await Close = false
 
+-- whether the next action awaits a token
+abbrev pub awaits_token : Option Action → Bool
+awaits_token (Some (Token token)) = true
+awaits_token _ = false
+
 -- the client stands at a flush
 abbrev pub IsAtFlush : ClientData → Type 0
 IsAtFlush client = IsSomeAnd (next_action client) (λ action. IsTrue (is_flush action))

@@ -29,9 +29,10 @@ pub record Fresh (plan : PlanData) (s : Words) : Type 0 where
   pub zeros : s.words ≡ replicate (3 + places_of plan.areas) 0
   pub alone : s.views ≡ Whole plan ∷ []
 
--- the words in use: one client, one service, and notes; each place has its value after the actions that the client has
--- done, marks are stored before they are told, the other two words are the service's numbers, and the client has not gone
--- past its bound at these numbers
+-- the words in use, of one client, one service, and notes:
+-- - each place has its value after the actions that the client has done
+-- - marks are stored before they are reported, and the other two words are the service's numbers
+-- - the client has not gone past its bound at these numbers
 pub record InUse (plan : PlanData) (s : Words) : Type 0 where
   pub client_seat : ℕ
   pub service_seat : ℕ

@@ -2,7 +2,7 @@ ghost use Rattle.std.specs.Prelude.{◌≡◌, ℕ, ◌+◌, nat_le, Some, if◌
 ghost use Rattle.gpu_plan.specs.declared.plan.Action.TheVariants.{Put, Token};
 ghost use Rattle.shm_words.specs.declared.client.Acted.TheVariants.{AtFlush, Passed, NotYet};
 ghost use Rattle.shm_words.specs.Seen.{ClientKeeps, client_at, next_action, flushes_before};
-ghost use Rattle.shm_words.specs.Acts.{Acts, IsAtAwait, IsAtFlush, with_load};
+ghost use Rattle.shm_words.specs.Acts.{Acts, IsAtAwait, IsAtFlush, awaits_token, with_load};
 ghost use Rattle.shm_words.specs.Views.{client_of, fresh_client};
 
 use crate::note::Note;
@@ -146,6 +146,16 @@ impl ClientPass {
         Acted::awaited(self.load_finish(words))
     }
 
+    /// Whether the next action awaits a token, and not a finish alone.
+    pub fn awaits_token(&self) -> bool
+        ensures { result ≡ awaits_token (next_action self.now) }
+    {
+        matches!(
+            self.plan.actions().get(self.done),
+            Some(Action::Token { .. })
+        )
+    }
+
     /// Does the next action where it is a put or an await that passes, by one store or by its loads.
     pub fn act(&mut self, words: &SharedWords) -> Acted
         requires table { words.now ≡ self.old.table }
@@ -158,7 +168,7 @@ impl ClientPass {
         match self.plan.actions().get(self.done) {
             None => Acted::End,
             Some(Action::Put { place, value }) => {
-                let (place, value) = (*place, *value);
+                let (place, value) = (place.get(), *value);
                 self.put(words, place, value);
                 Acted::Stored
             }

@@ -35,7 +35,7 @@ fn areas_lie_end_to_end(rt: HostRuntime) {
 
 #[test]
 fn words_say_their_command(rt: HostRuntime) {
-    // Words behind the ring words are not looked at, nor are checks made: no image has a side of 0.
+    // Words after the ring words are not looked at, nor are checks made: no image has a side of 0.
     let words = [0x2040_0004, 7, 0, 9, 5];
     let create = Command::CreateImage {
         image: 7,

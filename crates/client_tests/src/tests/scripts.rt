@@ -66,8 +66,9 @@ fn is_flush(plans: &Plans, wanted: &[(u32, u64)]) -> bool {
     if plans.count() == 0 {
         return false;
     }
-    match plans.plan(1).actions() {
-        [Action::Flush { put: 0, fences }] => fences.as_slice() == wanted,
+    let plan = plans.plan(1);
+    match plan.actions() {
+        [Action::Flush { put: 0, .. }] => plan.fences_at(0) == wanted,
         _ => false,
     }
 }
@@ -110,7 +111,7 @@ fn streams_have_their_names(rt: HostRuntime) -> Result<(), Fail> {
 // Whether the action at a place of the list puts this value at this place.
 fn puts(actions: &[Action], at: usize, place: u32, value: u32) -> bool {
     match actions.get(at) {
-        Some(Action::Put { place: p, value: v }) => *p == place && *v == value,
+        Some(Action::Put { place: p, value: v }) => p.get() == place && *v == value,
         _ => false,
     }
 }

@@ -49,7 +49,7 @@ fn made(
     Ok(make(alloc, plan).ok().ok_or("memory is ample")?)
 }
 
-// Whether the next actions, so many, are answered so.
+// Whether a given number of the next actions is answered so.
 fn all_are(client: &mut ClientPass, words: &SharedWords, count: u32, answer: Acted) -> bool
     requires { words.now ≡ client.old.table }
     ensures { words.now ≡ client.new.table }
@@ -111,7 +111,7 @@ fn a_token_that_was_told_does_not_fall(rt: HostRuntime) -> Result<(), Fail> {
     Ok(())
 }
 
-// A script that puts the numbers from 1 on, each where the token before it was told.
+// A script that puts the numbers from 1 on, each once the token before it was published.
 fn relay(alloc: Global) -> Result<String, Fail> {
     let mut text = String::new(alloc);
     text.push_str("gpu-script 1\nstream 1 normal 16\nput 0 1\nflush 1\n")?;

@@ -14,7 +14,7 @@ use std::test::Fail;
 use std::thread;
 use std::thread::Threads;
 
-/// A queue holds at most so many notes.
+/// A queue holds at most this number of notes.
 const ROOM: u32 = 16;
 
 /// How many flushes go from one thread to the other: as many as a script may have.
@@ -73,7 +73,7 @@ fn next_note(words: &SharedWords, client: &mut ClientPass, poster: &Poster) -> O
     }
 }
 
-// Posts a note where fewer than 16 were posted: a queue is full behind 16 posts at the earliest.
+// Posts a note where fewer than 16 were posted: a queue is full after 16 posts at the earliest.
 fn post_early<R: Wait>(rt: &R, queue: &FlushQueue, poster: &mut Poster, note: Note)
     requires queue { queue.now ≡ poster.old.queue }
     requires note { note ≡ note_of poster.old }
@@ -87,7 +87,7 @@ fn post_early<R: Wait>(rt: &R, queue: &FlushQueue, poster: &mut Poster, note: No
     }
 }
 
-// Posts the client's next flushes, so many, all among the first 16.
+// Posts a given number of the client's next flushes, all among the first 16.
 fn post_each<R: Wait>(
     rt: &R,
     words: &SharedWords,
@@ -113,7 +113,7 @@ fn post_each<R: Wait>(
     true
 }
 
-// Whether so many flushes can be taken.
+// Whether a given number of flushes can be taken.
 fn take_each<R: Wait>(rt: &R, queue: &FlushQueue, taker: &mut Taker, count: u32) -> bool
     requires queue { queue.now ≡ taker.old.queue }
     ensures queue { queue.now ≡ taker.new.queue }
@@ -146,7 +146,7 @@ fn a_full_queue_gives_the_note_back(rt: HostRuntime) -> Result<(), Fail> {
     Ok(())
 }
 
-// Whether the note was posted within so many turns.
+// Whether the note was posted within a given number of turns.
 fn post_within<R: Wait>(rt: &R, queue: &FlushQueue, poster: &mut Poster, note: Note) -> bool
     requires queue { queue.now ≡ poster.old.queue }
     requires note { note ≡ note_of poster.old }
@@ -164,7 +164,7 @@ fn post_within<R: Wait>(rt: &R, queue: &FlushQueue, poster: &mut Poster, note: N
     false
 }
 
-// The next flush, where it came within so many turns.
+// The next flush, where it came within a given number of turns.
 fn take_within<R: Wait>(rt: &R, queue: &FlushQueue, taker: &mut Taker) -> Option<Note>
     requires queue { queue.now ≡ taker.old.queue }
     ensures note { IfSome result (λ note. note ≡ note_of taker.old) }
@@ -208,7 +208,7 @@ fn post_all<R: Wait>(
     FLUSHES
 }
 
-// How many flushes came, one after the other, each behind the number that was put before it.
+// How many flushes came, one after the other, each after the number that was put before it.
 fn take_all<R: Wait>(
     rt: &R,
     words: &SharedWords,

@@ -87,7 +87,7 @@ impl ServiceSide for PlainPass {
 
     ghost reads = { λ r. [] };
 
-    /// Fetches the word at a place: the answer is its value, and never want of memory. The list of fetches grows by the
+    /// Fetches the word at a place: the answer is its value, and never out of memory. The list of fetches grows by the
     /// place and the answer.
     fn fetch(&mut self, words: &PlainWords, place: u32) -> Result<u32, Memory>
         requires belongs { IsBeside self.old words.now }

@@ -80,7 +80,7 @@ fn store(values: &mut Vec<u32>, action: &Action)
         ≡ after i (slice_index values.old.items i) action.now }
 {
     if let Action::Put { place, value } = action {
-        values[*place as usize] = *value;
+        values[place.get() as usize] = *value;
     }
 }
 
@@ -146,7 +146,7 @@ impl PlainWords {
         self.done
     }
 
-    /// Passes the next action, an await that passes where so many flushes are finished and this is the greatest token.
+    /// Passes the next action, an await that passes at this number of finished flushes and this greatest token.
     pub fn pass(&mut self, plan: &Plan, finishes: u32, token: u32)
         requires plan { plan.now ≡ self.old.plan }
         requires next { IsNext IsAwait plan.now.actions self.old.done }

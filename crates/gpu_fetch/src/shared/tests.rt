@@ -11,7 +11,7 @@ use shm_words::{Acted, ClientPass, Note, ServicePass, SharedWords, make};
 use std::alloc::Global;
 use std::test::Fail;
 
-/// A client that makes an image, and overwrites the header of the command behind its flush.
+/// A client that makes an image, and overwrites the header of the command after its flush.
 const OVERWRITES: &[u8] =
     b"gpu-script 1\nstream 1 normal 16\nput 0 20400004 1 1 1\nflush 4\nput 0 0\n";
 
@@ -31,7 +31,7 @@ fn flushed(client: &mut ClientPass, words: &SharedWords) -> Option<Note>
     }
 }
 
-// A fetch of a command from words that a client may overwrite: where memory was wanted, whole rows were fetched.
+// A fetch of a command from words that a client may overwrite: where memory ran out, whole rows were fetched.
 fn fetch_racing(
     alloc: Global,
     side: &mut ServicePass,

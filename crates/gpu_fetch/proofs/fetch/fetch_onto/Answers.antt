@@ -74,7 +74,7 @@ module _ (g : Over) (c : goal.In_ok-fetch_row g) where
   ring : RingFetched old ringed facts c.in_ok-entry.entry c.in-Ok.shape own
   ring = ring_onto old begun ringed facts c.in_ok-entry.entry c.in-Ok.shape were c.reserve.new.self.items c.push.new.self.items c.fetch_row.new.list.items c.in_ok-entry.ensures.grows c.in_ok-entry.ensures.may c.reserve.ensures.items c.in_ok-push.ensures.items c.in-Ok.ensures.some c.in_ok-fetch_row.ensures.row
 
-  -- the list has them behind all that it had, and each may be shown
+  -- the list has them after all that it had, and each may be shown
   behind : c.fetch_row.new.list.items ≡ were ++ own
   behind = row_appends begun ringed (facts.get + 1) (c.in-Ok.shape.ring_words - 1) were ((facts.get, c.in_ok-entry.entry) ∷ []) c.push.new.self.items c.fetch_row.new.list.items (pushed g (goal.at.In_ok-fetch_row g c).In_ok-push) c.in_ok-fetch_row.ensures.row
 

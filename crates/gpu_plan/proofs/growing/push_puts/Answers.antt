@@ -1,4 +1,4 @@
-use Rattle.std.proofs.Common.{arith}
+use Rattle.std.proofs.Common.{◌++◌, [], ◌∷◌, ap, ◌∙◌, arith}
 use Rattle.std.proofs.lemmas.List.{length_push}
 use Rattle.script_words.specs.Text.{words_of}
 use Rattle.script_lines.proofs.Puts.{value_counts, values_go}
@@ -25,11 +25,13 @@ loop-value-preserved c =
     let items = c.loop-value.actions.items in
     let at = c.loop-value.at in
     let counts = value_counts all rest said steps in
+    let pushed = c.push_reserved.ensures.items ∙ ap (λ place. items ++ Put place value ∷ []) c.of.ensures in
     record {
       counted = omega arith;
       values = values_go all rest words said steps so_far.values value is;
       below = omega arith;
-      added = rw c.in_ok-push.ensures.items (put_goes all rest said value steps is items _ at so_far.added);
-      longer = rw c.in_ok-push.ensures.items (omega (arith, length_push items (Put at value)));
-      behind = rw c.in_ok-push.ensures.items (behind_stays old items (Put at value) so_far.longer so_far.behind);
+      room = omega arith;
+      added = rw pushed (put_goes all rest said value steps is items _ at so_far.added);
+      longer = rw pushed (omega (arith, length_push items (Put at value)));
+      behind = rw pushed (behind_stays old items (Put at value) so_far.longer so_far.behind);
     }

@@ -10,7 +10,7 @@ and_true : (b c : Bool) → c ≡ true → b ≡ (b && c)
 and_true true c e = sym e
 and_true false c e = refl
 
--- what is kept of a pair once the last put at a place is kept beside it
+-- the record of a pair once the last put at a place is kept beside it
 with_last : (done p place value last end : ℕ) (o : Option ℕ) (old : Reached) → last ≡ get_or old.values p 0 → end ≡ get_or old.ends p 0 → done < end → o ≡ last_of old.older place value
     → cond (eqb p place && eqb last value) (Some (end - 1)) o ≡ older_with done p old place value
 with_last done p place value last end o old el ee less eo =

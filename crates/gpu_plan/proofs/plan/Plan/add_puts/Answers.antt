@@ -4,9 +4,16 @@ use Rattle.script_words.specs.Text.{words_of}
 use Rattle.script_words.specs.Numbers.{value_of}
 use Rattle.gpu_plan.specs.Adding.{puts}
 use Rattle.gpu_plan.specs.Plans.{PlanData, is_closed}
-use Rattle.gpu_plan.proofs.Lawful.{lawful_puts}
+use Rattle.gpu_plan.proofs.Lawful.{few_places, lawful_puts}
 use Rattle.gpu_plan.proofs.Dumps.{dumps_stay}
+use Rattle.gpu_plan.proofs.Fencing.{notes_stay, puts_unfenced}
 use Rattle.gpu_plan.proofs.plan.Plan.add_puts.Goals as goal
+
+pub push_puts-requires-clause-small : goal.push_puts-requires-clause-small
+push_puts-requires-clause-small c =
+    let places = ap (λ (plan : PlanData). places_of plan.areas) c.self.view_is in
+    let few = few_places c.self.inside.areas.value c.self.inside.actions.items c.self.invariant.0 in
+    omega arith
 
 pub invariant_of-self : goal.invariant_of-self
 invariant_of-self c =
@@ -22,4 +29,4 @@ invariant_of-self c =
     let within = rw c.in-Ok-Some.field-0-is at c.in-Ok-Some.ensures.within in
     let at = rw c.in-Ok-Some.field-0-is at c.in-Ok-Some.ensures.at in
     let added = rw c.in-Ok-Some.field-0-is at c.in-Ok-Some.ensures.put in
-    (lawful_puts areas c.args.place words old new c.self.invariant.0 unclosed (omega arith) (omega arith) added, dumps_stay areas.results old more new c.self.inside.dumps.items c.self.invariant.1 added, c.self.invariant.2)
+    (lawful_puts areas c.args.place words old new c.self.invariant.0 unclosed (omega arith) (omega arith) added, dumps_stay areas.results old more new c.self.inside.dumps.items c.self.invariant.1 added, c.self.invariant.2, notes_stay c.self.inside.fenced.items old more new c.self.invariant.3 (puts_unfenced (length old) c.args.place (map value_of words)) added)

@@ -50,7 +50,7 @@ module _ (c : goal.After-push) where
 
   fences : c.fences_at-fences.result.now ≡ fences_in (slice_get (plan_of now.plans s).actions c.in-Some.place)
   fences =
-      let actions = c.actions.ensures.value ∙ ap (λ (plan : PlanData). plan.actions) (sym (plan_here now.plans s c.plan.result.now c.requires.known.0 c.plan.ensures)) in
+      let actions = ap (λ (plan : PlanData). plan.actions) (sym (plan_here now.plans s c.plan.result.now c.requires.known.0 c.plan.ensures)) in
       c.fences_at-fences.ensures ∙ ap (λ (actions : List Action). fences_in (slice_get actions c.in-Some.place)) actions
 
   came : c.order-2.new.self ≡ record (desk_at now.desks s) { ordered = (desk_at now.desks s).ordered + 1 }
