@@ -1,11 +1,11 @@
 -- A rectangle is drawn one row after another, downwards or upwards.
-use Rattle.std.proofs.Common.{◌≡◌, ◌≢◌, ℕ, ◌+◌, ◌-◌, ◌*◌, ◌<◌, ◌≤◌, ◌⊎◌, ◌&&◌, cond, List, length, get_or, sym, ap, subst, refl, ◌∙◌, arith, inl, inr}
+use Rattle.std.proofs.Common.{◌≡◌, ◌≢◌, ℕ, ◌+◌, ◌-◌, ◌*◌, ◌<◌, ◌≤◌, ◌⊎◌, ◌&&◌, cond, List, ◌++◌, length, get_or, sym, ap, subst, refl, ◌∙◌, arith, inl, inr}
 use Rattle.std.specs.Prelude.{nat_le, nat_lt}
 use Rattle.std.proofs.Math.Nat.{mul-le-mul_right}
 use Rattle.std.proofs.lemmas.Bool.{cases_lt, cases_eq}
 use Rattle.std.proofs.lemmas.Bool.Decides.{nat_tests}
 use Rattle.std.proofs.lemmas.Grind.{common_steps}
-use Rattle.std.proofs.lemmas.List.{places}
+use Rattle.std.proofs.lemmas.List.{places, length-append}
 use borrow.Rule.Slice.PartMut.{put_mid}
 use Rattle.gpu_store.specs.declared.rect.Rect.{Rect}
 use Rattle.gpu_store.specs.Rows.{IsWritten, IsDrawn}
@@ -24,6 +24,21 @@ written_mid old ys from count k v same len fits is = record {
     in_parts j lt (inl below) _ = grind (arith, places, nat_tests)
     in_parts j lt (inr above) (inl inside) = let e = is (j - from) (omega arith) in grind (arith, places, nat_tests)
     in_parts j lt (inr above) (inr past) = grind (arith, places, nat_tests)
+
+-- a write to what stands after a front, from which it is copied
+pub written_back : (old front back new : List ℕ) (from count to : ℕ) → old ≡ front ++ back → length front ≡ to → from + count ≤ to
+    → IsWritten 0 count (λ i. get_or front (from + i) 0) back new
+    → IsWritten to count (λ i. get_or old (from + i) 0) old (front ++ new)
+written_back old front back new from count to is len apart written = record {
+  sized = omega (arith, length-append front new, length-append front back, written.sized, ap length is);
+  shown = λ k lt. in_parts k lt (cases_lt k to) (cases_lt k (to + count));
+}
+  where
+    in_parts : (k : ℕ) → k < length old → (k < to) ⊎ (to ≤ k) → (k < to + count) ⊎ (to + count ≤ k)
+        → get_or (front ++ new) k 0 ≡ cond (nat_le to k && nat_lt k (to + count)) (get_or old (from + (k - to)) 0) (get_or old k 0)
+    in_parts k lt (inl below) _ = grind (arith, places, nat_tests)
+    in_parts k lt (inr above) (inl inside) = let e = written.shown (k - to) (omega (arith, length-append front back, ap length is)) in grind (arith, places, nat_tests)
+    in_parts k lt (inr above) (inr past) = let e = written.shown (k - to) (omega (arith, length-append front back, ap length is)) in grind (arith, places, nat_tests)
 
 -- a row of the rectangle ends inside the texels
 pub row_end : (row width left count last n : ℕ) → row < last → left + count ≤ width → last * width ≤ n → row * width + left + count ≤ n

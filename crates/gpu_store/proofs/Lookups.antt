@@ -1,4 +1,4 @@
--- What is found among the images after a change, and at a place in their order.
+-- What a search among the images finds after a change, and at a place in their order.
 use Rattle.std.proofs.Common.{◌≡◌, ◌≢◌, ℕ, ◌<◌, Bool, true, false, cond, Option, Some, None, List, [], ◌∷◌, length, get_or, inl, inr, refl, sym, ap, subst, ◌∙◌, arith}
 use Rattle.std.specs.Prelude.{option_map, slice_get}
 use Rattle.std.specs.Iterator.{Yields, YieldsFirstBy}

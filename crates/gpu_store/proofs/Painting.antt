@@ -13,7 +13,7 @@ use Rattle.gpu_store.specs.Rows.{IsDrawn, canvas_texels}
 abbrev pub picture : ℕ → ℕ → List ℕ → Picture
 picture width height texels = record { width = width; height = height; texels = texels }
 
--- so many whole rows lie inside the texels of an image
+-- a given number of whole rows lies inside the texels of an image
 pub rows_fit : (rows width height n : ℕ) → rows ≤ height → n ≡ width * height → rows * width ≤ n
 rows_fit rows width height n le is = let far : rows * width ≤ height * width = mul-le-mul_right width le in omega (arith, mul_comm width height)
 

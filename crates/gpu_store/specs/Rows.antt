@@ -14,7 +14,7 @@ pub record IsDrawn (width : ℕ) (rect : Rect) (texel : ℕ → ℕ → ℕ) (fi
   pub shown : (x y : ℕ) → x < width → y * width + x < length old
       → slice_index new (y * width + x) ≡ (if nat_le rect.x x && nat_lt x (rect.x + rect.w) && nat_le first y && nat_lt y last then texel (x - rect.x) (y - rect.y) else slice_index old (y * width + x))
 
--- the texels of which only these are written: those behind them are 0
+-- the texels of which only these are written: those after them are 0
 abbrev pub canvas_texels : ℕ → List ℕ → List ℕ
 canvas_texels count items = items ++ replicate (count - length items) 0
 

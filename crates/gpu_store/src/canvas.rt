@@ -11,7 +11,7 @@ use std::marker::Model;
 /// How many texels the longest row of an image may have.
 const MOST_WIDTH: usize = 4096;
 
-// Writes zeros behind these texels, up to `count` of them. There is room for them.
+// Writes zeros after these texels, up to `count` of them. There is room for them.
 fn settle(texels: &mut Vec<u32>, count: usize)
     requires within { vec_len texels.old ≤ count }
     requires room { count ≤ vec_capacity texels.old }
@@ -49,7 +49,7 @@ impl Model for Canvas {
 }
 
 impl Canvas {
-    /// So many texels of 0.
+    /// A given number of texels of 0.
     pub(crate) fn zeros(alloc: Global, count: usize) -> Result<Canvas, Memory>
         ensures { IfOk result (λ canvas. canvas ≡ replicate count 0) }
     {

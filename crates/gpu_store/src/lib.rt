@@ -1,4 +1,18 @@
 //! The images that all streams share: their texels, and the operations on them.
+//!
+//! What the contracts say:
+//! - `apply`, `clear` and `copy` give exactly the answer and the images of the definition, by x and y. Every texel of a
+//!   copy comes from the images before.
+//! - An answer other than Done changes nothing.
+//! - `unpack` is exactly the conversion of texels.
+//!
+//! Notes:
+//! - What an operation draws is a function of column and row. An operation is steps in the order of their answers: the
+//!   first one that is refused is the answer, and the images then stay.
+//! - An image takes all its memory when it is created, so drawing needs none. Until something is drawn, each row shows the
+//!   zeros of one longest row.
+//! - A row that overlaps its source is copied by the slice's own overlapping copy. Every other row is copied between two
+//!   parts of the slice.
 #![tactic(auto)]
 
 mod canvas;

@@ -21,12 +21,38 @@ fn put_row(texels: &mut [u32], source: &[u32], from: usize, count: usize, to: us
     texels[to..to + count].copy_from_slice(&source[from..from + count]);
 }
 
+// Copies `count` texels from the places from `from` on to those from `to` on, which begin after the others.
+fn move_down(texels: &mut [u32], from: usize, count: usize, to: usize)
+    requires apart { from + count ≤ to }
+    requires target { to + count ≤ length texels.old }
+    ensures { IsWritten to count (λ i. slice_index texels.old (from + i)) texels.old texels.new }
+{
+    let (front, back) = texels.split_at_mut(to);
+    put_row(back, front, from, count, 0);
+}
+
+// Copies `count` texels from the places from `from` on to those from `to` on, which end before the others.
+fn move_up(texels: &mut [u32], from: usize, count: usize, to: usize)
+    requires apart { to + count ≤ from }
+    requires source { from + count ≤ length texels.old }
+    ensures { IsWritten to count (λ i. slice_index texels.old (from + i)) texels.old texels.new }
+{
+    let (front, back) = texels.split_at_mut(from);
+    put_row(front, back, 0, count, to);
+}
+
 // Copies `count` texels from the places from `from` on to those from `to` on, as they were before.
 fn move_row(texels: &mut [u32], from: usize, count: usize, to: usize)
     requires source { from + count ≤ length texels.old }
     requires target { to + count ≤ length texels.old }
     ensures { IsWritten to count (λ i. slice_index texels.old (from + i)) texels.old texels.new }
 {
+    if from + count <= to {
+        return move_down(texels, from, count, to);
+    }
+    if to + count <= from {
+        return move_up(texels, from, count, to);
+    }
     texels.copy_within(from..from + count, to);
 }
 
