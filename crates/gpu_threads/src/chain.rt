@@ -14,7 +14,7 @@ use gpu_io::{Gate, Place};
 use std::sync::{Mutex, MutexGuard, Wait};
 use wait_hooks::Hook;
 
-// Orders the flushes that were posted, of each stream whose earlier flushes are finished: those behind could not run before.
+// Orders the flushes that were posted, of each stream whose earlier flushes are finished: later ones could not run yet.
 fn collect<N: Naming, P: NamedSide, H: Hook, R: Wait>(
     rt: &R,
     hall: &mut Hall<N, P, H>,
@@ -50,6 +50,7 @@ fn next<N: Naming, P: NamedSide, H: Hook, R: Wait>(
         return None;
     }
     collect(rt, hall, queues, shift);
+    shift.note_run();
     let run = hall.take();
     if run.is_none() {
         shift.stop(if all_over(hall) {
@@ -81,8 +82,9 @@ fn on_or_next<N: Naming, P: NamedSide, H: Hook, R: Wait>(
     }
 }
 
-// Whether the journal has more finishes of a stream than before. Where it has, or where the stream is lost, viewers are shown so. Where
-// memory is wanted for that, nothing is lost: a later version shows more. Its client is told of a finish, a token and a loss.
+// Whether the journal has more finishes of a stream than before. Where it has, or where the stream is lost:
+// - viewers are shown so; where that is out of memory nothing is lost, since a later version shows more
+// - its client is told of a finish, a token and a loss
 fn show_end<N: Naming, P: NamedSide, H: Hook, R: Wait>(
     rt: &R,
     hall: &mut Hall<N, P, H>,
@@ -184,11 +186,14 @@ fn run_on<N: Naming, P: NamedSide, H: Hook, R: Wait, G: Gate>(
             None => return,
         }
     }
+    unreachable!()
 }
 
-/// Serves turns, one after the other, until the thread has enough or nothing is runnable. Commands are fetched in batches with no lock,
-/// and each batch is committed under one, by which the next run is taken where the one that is out comes home. After a finish or a loss
-/// viewers are shown the whole journal. Then, with no lock, bells are rung and the gate is told of the finish.
+/// Serves turns, one after the other, until the thread has enough or nothing is runnable:
+/// - commands are fetched in batches with no lock
+/// - each batch is committed under the lock; where its run comes home, the next one is taken under the same lock
+/// - after a finish or a loss viewers are shown the whole journal
+/// - then, with no lock, bells are rung and the gate is told of the finish
 pub(crate) fn serve_on<N: Naming, P: NamedSide, H: Hook, R: Wait, G: Gate>(
     rt: &R,
     hall: &Mutex<Hall<N, P, H>>,

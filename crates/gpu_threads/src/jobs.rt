@@ -11,7 +11,7 @@ use crate::full_pass::FullPass;
 use crate::pace::Pace;
 use crate::rows::words_of;
 use crate::shift::Leave;
-use crate::signals::{ROOM, Signals};
+use crate::signals::{OR_TOKEN, ROOM, Signals};
 use crate::turns::{is_ended, turn};
 use flush_queue::FlushQueue;
 use gpu_hall::Hall;
@@ -47,7 +47,7 @@ fn wait<N: Naming, H: Hook, R: Wait, G: Gate>(
     leave
 }
 
-// A client that could not go on says what it needs, and is to try again. Where it still can't go on then, it waits, unless its stream is
+// A client that could not go on says what it needs, and must try again. Where it still can't go on then, it waits, unless its stream is
 // lost or closed: the answer says so.
 fn pause<N: Naming, H: Hook, R: Wait, G: Gate>(
     rt: &R,
@@ -70,6 +70,16 @@ fn pause<N: Naming, H: Hook, R: Wait, G: Gate>(
     }
     wait(rt, hall, words, queues, gate, pace);
     false
+}
+
+// What a client needs that could not go on: room in its queue, its flushes finished, or these or a token.
+fn needs_of(client: &Client, act: Act) -> u64 {
+    let finishes = u64::from(client.flushed());
+    match act {
+        Act::Full => ROOM,
+        Act::NotYet if client.awaits_token() => finishes | OR_TOKEN,
+        Act::Went | Act::NotYet | Act::Unread | Act::AtClose | Act::End => finishes,
+    }
 }
 
 // A client has turns until it has come to its end. While it waits it serves, so that it comes to its end alone.
@@ -101,11 +111,7 @@ fn play_on<N: Naming, H: Hook, R: Wait, G: Gate>(
                 return;
             }
             act => {
-                let needs = if act == Act::Full {
-                    ROOM
-                } else {
-                    u64::from(client.flushed())
-                };
+                let needs = needs_of(client, act);
                 if pause(rt, hall, words, queues, gate, stream, needs, &mut pace) {
                     return;
                 }
@@ -185,7 +191,7 @@ pub(crate) fn play_all<
     );
 }
 
-/// So many workers serve, each on a thread of its own where there is one.
+/// A given number of workers serves, each on a thread of its own where there is one.
 ///
 /// # Errors
 ///

@@ -5,7 +5,8 @@ use std::hint::spin_loop;
 use std::sync::Wait;
 use std::thread;
 
-// After so many naps for nothing a client looks whether its stream has ended, and a thread serves whoever else does.
+// After this number of naps for nothing a client looks whether its stream has ended, and a thread serves whoever else
+// does.
 const MANY: u32 = 3;
 
 // How often a client looks before it sleeps, and how often of that it does not yield.
@@ -22,7 +23,7 @@ pub(crate) struct Pace<'a> {
     bell: usize,
     // How often the bell was rung before the last look at what the thread waits for.
     heard: u64,
-    // Whether the client posted a flush of which nobody was told.
+    // Whether the client posted a flush of which nobody heard.
     untold: bool,
     // Whether the client has said what it needs.
     asked: bool,
@@ -62,7 +63,7 @@ impl<'a> Pace<'a> {
         self.heard = self.signals.heard(self.bell);
     }
 
-    /// The client did an action, by which it may have posted a flush. Of one posted before a worker is told, since the client goes on and
+    /// The client did an action, by which it may have posted a flush. Of one posted before a worker hears, since the client goes on and
     /// does not serve itself.
     pub(crate) fn go(&mut self, has_posted: bool) {
         if self.untold {
@@ -79,13 +80,13 @@ impl<'a> Pace<'a> {
         self.naps = 0;
     }
 
-    /// The client has come to its end. Of what it posted a worker is told.
+    /// The client has come to its end. A worker hears of what it posted.
     pub(crate) fn end(&self) {
         self.signals.call();
     }
 
-    /// The client cannot go on before its stream has so many finishes, or its queue room. It says whether the client is to try again: it
-    /// has only now told what it needs, and a finish before that rang no bell.
+    /// The client cannot go on before its stream has this number of finishes, or its queue room. It says whether the
+    /// client must try again: it has only now told what it needs, and a finish before that rang no bell.
     pub(crate) fn asks(&mut self, needs: u64) -> bool {
         if self.asked {
             return false;
@@ -106,14 +107,14 @@ impl<'a> Pace<'a> {
         self.has_waited_long() || self.signals.is_lost(self.stream)
     }
 
-    /// Whether the thread is to serve.
+    /// Whether the thread must serve.
     pub(crate) fn may_serve(&self) -> bool {
         self.has_waited_long() || self.signals.is_short()
     }
 
     /// What the thread keeps in mind when it serves.
     pub(crate) fn shift(&self) -> Shift<'a> {
-        Shift::new(self.signals, self.stream, self.heard)
+        Shift::new(self.signals, self.stream == 0)
     }
 
     /// The thread sleeps until its bell is rung, but not where a thread that serves is wanted. A client first looks for a while.
@@ -142,6 +143,9 @@ impl<'a> Pace<'a> {
         }
         bell.get_up();
         let woken = bell.rings() != self.heard;
+        if woken && self.stream == 0 && !self.may_serve() {
+            self.signals.dismiss();
+        }
         self.naps = if woken {
             0
         } else {

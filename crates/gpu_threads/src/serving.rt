@@ -20,9 +20,10 @@ pub enum Turn {
     NothingRunnable,
 }
 
-/// Orders the flushes of all queues and lets the scheduler's choice run until its kept wait, its finish or its loss. Commands are fetched
-/// in batches with no lock, and each batch is committed under one. Where memory is wanted, the stream is lost. After a finish or a loss
-/// viewers are shown the whole journal, before the gate is told of the finish.
+/// Orders the flushes of all queues and lets the scheduler's choice run until its kept wait, its finish or its loss:
+/// - commands are fetched in batches with no lock, and each batch is committed under one
+/// - where memory runs out, the stream is lost
+/// - after a finish or a loss viewers are shown the whole journal, before the gate hears of the finish
 pub fn serve_turn<N: Naming, P: NamedSide, H: Hook, R: Wait, G: Gate>(
     rt: &R,
     hall: &Mutex<Hall<N, P, H>>,

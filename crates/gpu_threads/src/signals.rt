@@ -12,17 +12,21 @@ use std::sync::atomic::{AtomicU64, Ordering};
 // more than fetching beside each other brings.
 const MOST_SERVERS: u64 = 1;
 
-/// What a client needs that waits for room in its queue.
-pub(crate) const ROOM: u64 = u64::MAX;
+/// What a client needs that waits for room in its queue: more finishes than there can be.
+pub(crate) const ROOM: u64 = 1 << 32;
 
-/// What is told of one stream.
+/// What is added to the finishes that a client needs, where a token serves it as well.
+pub(crate) const OR_TOKEN: u64 = 1 << 33;
+
+/// The signals of one stream.
 #[derive(Drop)]
 struct StreamSignals {
     // 1 where the queue may hold something.
     posted: AtomicU64,
     // How many flushes were taken from the queue.
     taken: AtomicU64,
-    // How many finishes the client waits for: 0 where it does not wait, and `ROOM` where it waits for room in its queue.
+    // How many finishes the client waits for. 0: it does not wait. `ROOM`: it waits for room in its queue. With `OR_TOKEN` a token
+    // serves it too.
     needs: AtomicU64,
     // 1 where the stream is lost.
     lost: AtomicU64,
@@ -56,10 +60,12 @@ pub(crate) struct Signals {
     posted: AtomicU64,
     // How many threads serve.
     servers: AtomicU64,
+    // 1 where a worker was called that neither serves nor has gone back to sleep yet.
+    called: AtomicU64,
 }
 
 impl Signals {
-    /// Those of so many streams, with so many workers.
+    /// Those of a given number of streams, with a given number of workers.
     ///
     /// # Errors
     ///
@@ -79,6 +85,7 @@ impl Signals {
             bells,
             posted: AtomicU64::new(0),
             servers: AtomicU64::new(0),
+            called: AtomicU64::new(0),
         })
     }
 
@@ -136,7 +143,7 @@ impl Signals {
         }
     }
 
-    /// So many flushes were taken from the queue of a stream. It says whether the client waits for the room.
+    /// A given number of flushes was taken from the queue of a stream. It says whether the client waits for the room.
     pub(crate) fn note_taken(&self, stream: u32, count: u32) -> bool {
         match self.of(stream) {
             Some(own) => {
@@ -147,7 +154,7 @@ impl Signals {
         }
     }
 
-    /// A stream has so many finishes, and a new token or none. It says whether its client waits for that.
+    /// A stream has this number of finishes, and a new token or none. It says whether its client waits for that.
     pub(crate) fn note_finish(&self, stream: u32, finishes: u32, has_token: bool) -> bool {
         match self.of(stream) {
             Some(own) => {
@@ -155,7 +162,7 @@ impl Signals {
                     self.posted.store(1, Ordering::SeqCst);
                 }
                 let needs = own.needs.load(Ordering::SeqCst);
-                needs <= u64::from(finishes) || (has_token && needs != ROOM)
+                needs & !OR_TOKEN <= u64::from(finishes) || (has_token && needs & OR_TOKEN != 0)
             }
             None => false,
         }
@@ -176,16 +183,18 @@ impl Signals {
         }
     }
 
-    /// The client of a stream waits for so many finishes, or for room.
+    /// The client of a stream waits for a number of finishes, or for room.
     pub(crate) fn need(&self, stream: u32, finishes: u64) {
         if let Some(own) = self.of(stream) {
             own.needs.store(finishes, Ordering::SeqCst);
         }
     }
 
-    /// A thread begins to serve.
-    pub(crate) fn begin(&self) {
-        self.servers.fetch_add(1, Ordering::SeqCst);
+    /// A thread begins to serve. It says whether as many do already as are wanted.
+    pub(crate) fn begin(&self) -> bool {
+        let before = self.servers.fetch_add(1, Ordering::SeqCst);
+        self.called.store(0, Ordering::SeqCst);
+        before >= MOST_SERVERS
     }
 
     /// A thread serves no longer.
@@ -203,9 +212,9 @@ impl Signals {
         self.posted.load(Ordering::SeqCst) != 0 && self.is_short()
     }
 
-    /// Calls a worker that sleeps, where no thread serves.
+    /// Calls a worker that sleeps, where no thread serves and no worker is on its way.
     pub(crate) fn call(&self) {
-        if self.servers.load(Ordering::SeqCst) != 0 {
+        if self.servers.load(Ordering::SeqCst) != 0 || self.called.swap(1, Ordering::SeqCst) != 0 {
             return;
         }
         for bell in self.bells.iter().skip(self.streams.len()) {
@@ -214,6 +223,12 @@ impl Signals {
                 return;
             }
         }
+        self.called.store(0, Ordering::SeqCst);
+    }
+
+    /// A worker that was called is not needed any more: another one may be called.
+    pub(crate) fn dismiss(&self) {
+        self.called.store(0, Ordering::SeqCst);
     }
 
     /// The same, where a queue that may be collected may hold something: a client that posted relies on those that serve.
