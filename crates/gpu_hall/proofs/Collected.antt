@@ -23,7 +23,7 @@ module _ (p : PlansData) (old : List Event) where
   pub next_collected : (s : ℕ) (h g : List Event) → IsKnown (length p.plans) s → (g ≡ h) ⊎ OrderedOrLost p s h g → HasCollected p old h → HasCollected p old g
   next_collected s h g known came had = ⊎_elim (λ is. subst (HasCollected p old) (sym is) had) (λ one. one_more s h g known one had) came
 
-  -- and by what came behind
+  -- and by what came after
   pub all_collected : (h g : List Event) → HasCollected p old h → HasCollected p h g → HasCollected p old g
   all_collected h [] had came = subst (HasCollected p old) came had
   all_collected h (e ∷ g) had came = ⊎_elim (λ is. subst (HasCollected p old) is had) (λ more. inr (more.0, all_collected h g had more.1)) came

@@ -1,4 +1,4 @@
--- What the steps of a batch, and what is done behind them, make of a hall.
+-- What the steps of a batch, and what is done after them, make of a hall.
 use Rattle.std.proofs.Common.{◌≡◌, ◌≢◌, ℕ, Bool, true, false, not, ◌&&◌, List, [], ◌∷◌, ◌++◌, length, refl, sym, ap, subst, ◌∙◌}
 use Rattle.std.specs.Prelude.{Err}
 use Rattle.gpu_cmd.specs.declared.error.CmdError.{CmdError}
@@ -39,7 +39,7 @@ open_steps : (p : PlansData) (s : ℕ) (ws : List (List (ℕ × ℕ))) (h : List
 open_steps p s [] h = refl
 open_steps p s (words ∷ ws) h = open_steps p s ws (event.Step s words ∷ h) ∙ step_open p h s words
 
--- no step was made, for want of memory
+-- no step was made, as out of memory
 pub lost_first : (p : PlansData) (h g : List Event) (s n : ℕ) (members : List (List (ℕ × ℕ))) (o : Bool) → is_open (standing_of p h s) ≡ o → (o ≡ true → g ≡ event.Lost s Memory [] ∷ h) → (o ≡ false → g ≡ h)
     → (how : Return) × CameHome p h g s n members how
 lost_first p h g s n members true is lost over = (Wanted, record { first = []; rest = members; those = refl; before = record { still_open = is; valid = tt; waits = refl; steps = refl }; loss = lost refl })
@@ -74,7 +74,7 @@ module _ {Side Note Results : Type 0} (side : Side → SideData) (mark : Note �
   stream_gone mid [] still = ap (λ (o : OutData Side Note). o.run.stream) still.out
   stream_gone mid (w ∷ ws) done = done.moved.stream
 
-  -- what is known of the stream by the journal behind them
+  -- the facts of the stream by the journal after them
   at_gone : (F : List Event → ℕ → Type 0) (mid : Stage Side Note Results) (ws : List (List (ℕ × ℕ))) → Gone mid ws → F mid.house.core.past mid.out.run.stream → F (stepped s ws h) s
   at_gone F mid ws gone f = subst (λ (g : List Event). F g s) (past_gone mid ws gone) (subst (F mid.house.core.past) (stream_gone mid ws gone) f)
 
@@ -174,7 +174,7 @@ module _ {Side Note Results : Type 0} (side : Side → SideData) (mark : Note �
           },
         )
 
-    -- memory was wanted behind the steps of the first members
+    -- memory ran out after the steps of the first members
     pub was_wanted : (g : List Event) → GoneInPart side mark p old new members → (OpenStill → g ≡ event.Lost new.out.run.stream Memory [] ∷ new.house.core.past)
         → (is_open (standing_of p new.house.core.past new.out.run.stream) ≡ false → g ≡ new.house.core.past) → Home g
     was_wanted g part lost over = by part.first part.gone part.those (is_open (standing_of p (stepped s part.first h) s)) refl

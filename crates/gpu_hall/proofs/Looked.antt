@@ -1,4 +1,4 @@
--- What viewers saw of the journal, once the versions that they looked at were told.
+-- What viewers saw of the journal, once the versions that they looked at were reported.
 use Rattle.std.proofs.Common.{◌≡◌, ◌-◌, ◌+◌, ◌<◌, ◌≤◌, Option, Some, None, List, length, refl, sym, ap, subst, ◌∙◌, arith}
 use Rattle.std.specs.Prelude.{slice_get, option_map}
 use Rattle.std.specs.List.{All}

@@ -1,6 +1,6 @@
 -- The view of a hall fits its journal again after each call.
 use Rattle.std.proofs.Common.{◌≡◌, ◌⊎◌, ⊎_elim, ℕ, suc, ◌-◌, ◌≤◌, Bool, true, false, Option, Some, None, List, [], ◌∷◌, ◌++◌, length, drop, refl, sym, ap, subst, ◌∙◌, arith, append_assoc}
-use Rattle.std.specs.Prelude.{IfSome, Result, Ok, Err, OnOk, OnErr}
+use Rattle.std.specs.Prelude.{IfSome, Result, Ok, Err, OnOk, OnErr, option_map}
 use Rattle.std.proofs.lemmas.List.{append-nil}
 use Rattle.std.specs.List.{All}
 use Rattle.std.proofs.lemmas.List.Elements.{All-nil, All-cons, All-weaker, All-push}
@@ -18,7 +18,7 @@ use Rattle.gpu_journal.specs.declared.event.Event.TheVariants.{Order, Step, Fini
 use Rattle.gpu_journal.specs.World.{World, replay}
 use Rattle.gpu_journal.proofs.Worlds.{world_none, images_then}
 use Rattle.gpu_house.specs.Committing.{drawn_over, TellsDrawn}
-use Rattle.gpu_hall.specs.Views.{first_events, IsVersionOf, whole_version, ShowAll, ViewFits, IsFreshView, IsSameView, HasRoom, HasNoted}
+use Rattle.gpu_hall.specs.Views.{first_events, IsVersionOf, whole_version, ShowAll, ViewFits, IsFreshView, IsSameView, HasRoom, HasNoted, front_of}
 
 -- ---- versions, once more events have come
 
@@ -166,3 +166,23 @@ module _ (p : PlansData) (view : Book) (h : List Event) (n : ℕ) (old new : Wri
     last = subst (λ (l : List Version). IsLast (whole_version p h) l) (sym listed) (subst (λ (v : Version). IsLast v ((old.versions ++ old.tried) ++ next ∷ [])) next_is (last_push (old.versions ++ old.tried) next));
   }
   all_shown (Err e) listed = tt
+
+-- ---- what contracts see of the view
+
+-- it is seen as before where it is the same but for its room, or where operations were noted
+pub seen_same : (old new : Option WriterData) → IsSameView old new → option_map front_of new ≡ option_map front_of old
+seen_same None None same = refl
+seen_same (Some old) (Some new) same = ap (λ (w : WriterData). Some (front_of w)) same
+seen_same None (Some new) same = absurd same
+seen_same (Some old) None same = absurd same
+
+pub seen_noted : (ops : List Op) (old new : Option WriterData) → HasNoted ops old new → option_map front_of new ≡ option_map front_of old
+seen_noted ops None None noted = refl
+seen_noted ops (Some old) (Some new) noted = ap (λ (w : WriterData). Some (front_of w)) noted
+seen_noted ops None (Some new) noted = absurd noted
+seen_noted ops (Some old) None noted = absurd noted
+
+-- of three facts after a refusal, the first
+pub err_first : {T E : Type 0} (A B C : Type 0) (r : Result T E) → OnErr r (A × B × C) → OnErr r A
+err_first A B C (Ok t) all = tt
+err_first A B C (Err e) all = all.0

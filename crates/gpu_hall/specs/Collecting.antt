@@ -7,7 +7,7 @@ use Rattle.gpu_journal.specs.declared.event.Event.TheVariants.{Lost}
 use Rattle.gpu_journal.specs.declared.event.Why.TheVariants.{Memory}
 use Rattle.gpu_journal.specs.Serial.{order_event}
 
--- the next flush of stream s was ordered, or for want of memory the stream was lost
+-- the next flush of stream s was ordered, or as out of memory the stream was lost
 abbrev pub OrderedOrLost : PlansData → ℕ → List Event → List Event → Type 0
 OrderedOrLost p s old new = (new ≡ order_event p old s ∷ old) ⊎ (new ≡ Lost s Memory [] ∷ old)
 

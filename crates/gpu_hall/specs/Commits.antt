@@ -11,7 +11,7 @@ use Rattle.gpu_journal.specs.Facts.{verdict_at}
 use Rattle.gpu_house.specs.Committing.{stepped, AreValid, keeps_one}
 
 -- how a run came home: its stream was over before, a wait of its steps was kept, its flush is at its end, a command is invalid, or
--- memory was wanted
+-- memory ran out
 pub data Return : Type 0 where
   WasOver : Return
   Waits : Return
@@ -36,7 +36,7 @@ pub record HasFinish (p : PlansData) (old new : List Event) (s n : ℕ) (members
   pub all : HasSteps p old (stepped s members old) s members false
   pub finish : new ≡ event.Finish s n ∷ stepped s members old
 
--- the journal has the steps of the first members; the next one is no valid command behind them, so the stream is lost by this error
+-- the journal has the steps of the first members; the next one is no valid command after them, so the stream is lost by this error
 pub record IsLostBy (p : PlansData) (old new : List Event) (s : ℕ) (members : List (List (ℕ × ℕ))) (error : CmdError) : Type 0 where
   pub first : List (List (ℕ × ℕ))
   pub words : List (ℕ × ℕ)
@@ -46,7 +46,7 @@ pub record IsLostBy (p : PlansData) (old new : List Event) (s : ℕ) (members : 
   pub verdict : verdict_at p (stepped s first old) s words ≡ Err error
   pub loss : new ≡ event.Lost s (Error error) words ∷ stepped s first old
 
--- the journal has the steps of the first members; behind them memory was wanted, so the stream is lost for that
+-- the journal has the steps of the first members; after them memory ran out, so the stream is lost for that
 pub record IsLostForMemory (p : PlansData) (old new : List Event) (s : ℕ) (members : List (List (ℕ × ℕ))) : Type 0 where
   pub first : List (List (ℕ × ℕ))
   pub rest : List (List (ℕ × ℕ))

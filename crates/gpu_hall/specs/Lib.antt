@@ -5,3 +5,6 @@ pub mod Commits
 pub mod Settling
 pub mod Views
 pub mod Looks
+pub mod Outs
+pub mod Halls
+pub mod Laws

@@ -1,4 +1,4 @@
--- What a look at a version that was told says of the journal.
+-- What a look at a version that was reported says of the journal.
 use Rattle.std.specs.Prelude.{◌≡◌, ◌≤◌, List, length}
 use Rattle.image_sums.specs.Sums.{texel_sum}
 use Rattle.gpu_plan.specs.Plans.{PlansData}

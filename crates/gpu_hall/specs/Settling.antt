@@ -1,4 +1,4 @@
--- What is known of a stream's results once their reader came back.
+-- The facts of a stream's results once their reader came back.
 use Rattle.std.specs.Prelude.{◌≡◌, ℕ, List, Option, IfSome}
 use Rattle.gpu_word.specs.Results.{Written, Settles}
 use Rattle.gpu_plan.specs.Plans.{PlansData}

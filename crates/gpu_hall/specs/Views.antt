@@ -1,5 +1,5 @@
 -- How the view of a hall is tied to its journal.
-use Rattle.std.specs.Prelude.{◌≡◌, ℕ, ◌-◌, ◌≤◌, List, ◌++◌, length, drop, Option, Some, None, IfSome}
+use Rattle.std.specs.Prelude.{◌≡◌, ℕ, ◌-◌, ◌≤◌, List, ◌++◌, length, drop, Option, Some, None, option_map, IfSome}
 use Rattle.std.specs.List.{All}
 use Rattle.atomic_table.specs.Seated.{TableId}
 use Rattle.logbook.specs.Pages.{Book}
@@ -21,7 +21,7 @@ use Rattle.gpu_hall.specs.Takers.{QueuesFit}
 abbrev pub first_events : ℕ → List Event → List Event
 first_events n h = drop (length h - n) h
 
--- the version has the images of so many first events of the journal
+-- the version has the images of a prefix of the journal
 pub record IsVersionOf (p : PlansData) (h : List Event) (version : Version) : Type 0 where
   pub few : version.events ≤ length h
   pub images : version.images ≡ replay p (first_events version.events h)
@@ -34,6 +34,10 @@ whole_version p h = version (replay p h) (length h)
 pub record ShowAll (p : PlansData) (h : List Event) (versions : List Version) : Type 0 where
   pub each : All (IsVersionOf p h) versions
   pub last : IsLast (whole_version p h) versions
+
+-- which view a writer is of, and its versions
+abbrev pub front_of : WriterData → FrontData
+front_of writer = record { view = writer.view; versions = writer.versions }
 
 -- ---- the clause `view`
 
@@ -49,14 +53,14 @@ pub record IsFreshView (view : Book) (writer : WriterData) : Type 0 where
   pub named : writer.view ≡ view
   pub fresh : writer ≡ fresh_writer writer.view writer.spare
 
--- all clauses of a hall beside its house: those of the takers, and of the view where there is one
+-- the clauses of the takers, and of the view where there is one
 pub record HallFits (p : PlansData) (words lines : List TableId) (book : Book) (h : List Event) (takers : List EndData) (writer : Option WriterData) : Type 0 where
   pub queues : QueuesFit p words lines h takers
   pub view : IfSome writer (ViewFits p book h)
 
 -- ---- what a call does to the view
 
--- where there is a view, it has room for so many more operations
+-- where there is a view, it has room for this number of operations more
 abbrev pub HasRoom : ℕ → Option WriterData → Type 0
 HasRoom more writer = IfSome writer (λ it. more ≤ it.spare)
 
@@ -71,6 +75,14 @@ abbrev pub HasNoted : List Op → Option WriterData → Option WriterData → Ty
 HasNoted ops None None = Unit {0}
 HasNoted ops (Some old) (Some new) = new ≡ record old { noted = old.noted ++ ops; spare = new.spare }
 HasNoted ops _ _ = ⊥
+
+-- where there is a view, its last version is of all events of the journal
+abbrev pub ShowsAll : PlansData → List Event → Option FrontData → Type 0
+ShowsAll p h view = IfSome view (λ front. ShowAll p h front.versions)
+
+-- there is the same view as before, or still none
+abbrev pub IsOfSameView : Option FrontData → Option FrontData → Type 0
+IsOfSameView old new = option_map (λ (front : FrontData). front.view) new ≡ option_map (λ (front : FrontData). front.view) old
 
 -- ---- the end
 

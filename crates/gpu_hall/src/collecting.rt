@@ -17,7 +17,7 @@ use shm_words::Note;
 use std::sync::Wait;
 use wait_hooks::Hook;
 
-// Orders the next flush of an open stream, or for want of memory loses the stream.
+// Orders the next flush of an open stream, or loses the stream as out of memory.
 fn order_or_lose<N: Naming, P: NamedSide, H: Hook>(
     house: &mut House<N, P, H>,
     stream: u32,
@@ -30,7 +30,8 @@ fn order_or_lose<N: Naming, P: NamedSide, H: Hook>(
     requires mark { note.mark
         ≡ mark_of (plan_of N.plans stream) (known N.plans house.old.core.past stream).ordered }
     requires table { note.table ≡ table_at N.words stream }
-    ensures { OrderedOrLost N.plans stream house.old.core.past house.new.core.past }
+    ensures came { OrderedOrLost N.plans stream house.old.core.past house.new.core.past }
+    ensures outs { house.new.core.outs ≡ house.old.core.outs }
 {
     match house.order(stream, note) {
         Ok(_) => {}
@@ -43,7 +44,10 @@ impl<N: Naming, P: NamedSide, H: Hook> Hall<N, P, H> {
     fn collect_next<R: Wait>(&mut self, rt: &R, stream: u32, queue: &FlushQueue) -> bool
         requires known { IsKnown (length N.plans.plans) stream }
         requires queue { queue.now ≡ table_at N.queues stream }
-        ensures { (self.new ≡ self.old) ⊎ OrderedOrLost N.plans stream self.old self.new }
+        ensures came { (self.new.past ≡ self.old.past)
+            ⊎ OrderedOrLost N.plans stream self.old.past self.new.past }
+        ensures outs { self.new.outs ≡ self.old.outs }
+        ensures view { self.new.view ≡ self.old.view }
     {
         let Hall { house, takers, .. } = self;
         let Some(note) = queue.take_next(rt, &mut takers[stream as usize - 1]) else {
@@ -63,7 +67,9 @@ impl<N: Naming, P: NamedSide, H: Hook> Hall<N, P, H> {
     pub fn collect_from<R: Wait>(&mut self, rt: &R, stream: u32, queue: &FlushQueue) -> u32
         requires known { IsKnown (length N.plans.plans) stream }
         requires queue { queue.now ≡ table_at N.queues stream }
-        ensures { HasCollected N.plans self.old self.new }
+        ensures came { HasCollected N.plans self.old.past self.new.past }
+        ensures outs { self.new.outs ≡ self.old.outs }
+        ensures view { self.new.view ≡ self.old.view }
     {
         let mut count = 0u32;
         for _ in rt.forever() {
@@ -81,7 +87,9 @@ impl<N: Naming, P: NamedSide, H: Hook> Hall<N, P, H> {
     pub fn collect<R: Wait>(&mut self, rt: &R, queues: &[FlushQueue])
         requires queues { queues.now ≡ N.queues }
         requires many { length N.queues ≡ length N.plans.plans }
-        ensures { HasCollected N.plans self.old self.new }
+        ensures came { HasCollected N.plans self.old.past self.new.past }
+        ensures outs { self.new.outs ≡ self.old.outs }
+        ensures view { self.new.view ≡ self.old.view }
     {
         for stream in 1..=self.count() {
             self.collect_from(rt, stream, &queues[stream as usize - 1]);

@@ -1,16 +1,19 @@
-ghost use Rattle.std.specs.Prelude.{◌≡◌, [], length, IfSome};
+ghost use Rattle.std.specs.Prelude.{◌≡◌, [], length, option_map, replicate, IfSome};
 ghost use Rattle.sync_core.specs.Standing.{IsKnown};
 ghost use Rattle.gpu_journal.specs.World.{known};
 ghost use Rattle.gpu_plan.specs.Passes.{greatest};
 ghost use Rattle.gpu_journal.specs.Legal.{IsLegal};
+ghost use Rattle.house_core.specs.Desks.{at_home};
 ghost use Rattle.gpu_house.specs.Ending.{doing_of};
-ghost use Rattle.gpu_house.specs.Waiting.{HaveTargets, FormNoCycle};
+ghost use Rattle.gpu_house.specs.Waiting.{AreWaitsOf, HaveTargets, FormNoCycle};
+ghost use Rattle.gpu_house.specs.Stuck.{IsNotStuck};
 ghost use Rattle.gpu_hall.specs.Takers.{AreFreshTakers};
-ghost use Rattle.gpu_hall.specs.Views.{IsFreshView};
+ghost use Rattle.gpu_hall.specs.Outs.{NoneIsPaused};
+ghost use Rattle.gpu_hall.specs.Views.{IsFreshView, front_of};
 
 use crate::side::NamedSide;
 use flush_queue::Taker;
-use gpu_house::{Doing, House, Naming};
+use gpu_house::{Doing, House, Naming, WaitsKept};
 use live_view::ViewWriter;
 use std::marker::Model;
 use wait_hooks::Hook;
@@ -20,7 +23,7 @@ use wait_hooks::Hook;
 ///
 /// It is not `Drop`, as no writer is: give it up by `end` or `show`.
 ///
-/// Seen as the journal of the house.
+/// Seen as the journal of the house, the runs that are out, and where there is a view, which one it is and its versions.
 pub struct Hall<N: Naming, P: NamedSide, H: Hook> {
     pub(crate) house: House<N, P, H>,
     pub(crate) takers: Vec<Taker>,
@@ -28,15 +31,13 @@ pub struct Hall<N: Naming, P: NamedSide, H: Hook> {
 }
 
 impl<N: Naming, P: NamedSide, H: Hook> Model for Hall<N, P, H> {
-    ghost use Rattle.std.specs.Prelude.{List};
-    ghost use Rattle.gpu_journal.specs.declared.event.Event.{Event};
-    ghost use Rattle.gpu_hall.specs.Views.{HallFits};
+    ghost use Rattle.gpu_hall.specs.Halls.{HallData, seen, IsHall};
 
-    ghost Value = { List Event };
+    ghost Value = { HallData };
 
-    ghost view = { λ h. h.house.core.past };
+    ghost view = { λ h. seen h.house.core h.view };
 
-    ghost invariant = { λ h. HallFits N.plans N.words N.queues N.view h.house.core.past
+    ghost invariant = { λ h. IsHall N.plans N.words N.queues N.view h.house.core
         h.takers.items h.view };
 }
 
@@ -48,9 +49,12 @@ impl<N: Naming, P: NamedSide, H: Hook> Hall<N, P, H> {
         view: Option<ViewWriter>,
     ) -> Hall<N, P, H>
         requires empty { house.core.past ≡ [] }
+        requires home { house.core.outs ≡ replicate (length N.plans.plans) at_home }
         requires takers { AreFreshTakers N.plans.plans N.words N.queues takers.items }
         requires view { IfSome view (IsFreshView N.view) }
-        ensures { result ≡ [] }
+        ensures past { result.past ≡ [] }
+        ensures outs { result.outs ≡ house.core.outs }
+        ensures view { result.view ≡ option_map front_of view }
     {
         Hall {
             house,
@@ -69,7 +73,7 @@ impl<N: Naming, P: NamedSide, H: Hook> Hall<N, P, H> {
     /// What a stream is doing.
     pub fn state(&self, stream: u32) -> Doing
         requires { IsKnown (length N.plans.plans) stream }
-        ensures { result ≡ doing_of N.plans self.now stream }
+        ensures { result ≡ doing_of N.plans self.now.past stream }
     {
         self.house.state(stream)
     }
@@ -77,7 +81,7 @@ impl<N: Naming, P: NamedSide, H: Hook> Hall<N, P, H> {
     /// How many flushes of a stream are finished.
     pub fn finishes(&self, stream: u32) -> u32
         requires { IsKnown (length N.plans.plans) stream }
-        ensures { result ≡ (known N.plans self.now stream).finished }
+        ensures { result ≡ (known N.plans self.now.past stream).finished }
     {
         self.house.finishes(stream)
     }
@@ -85,17 +89,32 @@ impl<N: Naming, P: NamedSide, H: Hook> Hall<N, P, H> {
     /// The greatest token that a stream has set, or 0.
     pub fn greatest(&self, stream: u32) -> u32
         requires { IsKnown (length N.plans.plans) stream }
-        ensures { result ≡ greatest (known N.plans self.now stream).tokens }
+        ensures { result ≡ greatest (known N.plans self.now.past stream).tokens }
     {
         self.house.greatest(stream)
     }
 
-    /// What holds whenever the lock is free: the journal is legal, each pending wait names another stream, which is neither lost nor
-    /// closed and has a lower unprocessed order number, and no waits form a cycle. It changes nothing.
+    /// What the service really keeps of waits: how many are pending, and of a stream its first unprocessed number and whether a
+    /// wait of that is pending. It is what the journal says.
+    pub fn waits(&self, stream: u32) -> WaitsKept
+        ensures { AreWaitsOf N.plans self.now.past stream result }
+    {
+        self.house.waits(stream)
+    }
+
+    /// What holds whenever the lock is free. It changes nothing.
+    ///
+    /// - `legal`: the journal is legal
+    /// - `targets`: each pending wait names another stream, which is neither lost nor closed and has a lower unprocessed number
+    /// - `no_cycle`: no waits form a cycle
+    /// - `stuck`: where a number is unprocessed, the stream with the least one can run, and is at home or has its run out
+    /// - `going`: no run that is out is paused
     pub fn holds(&self)
-        ensures legal { IsLegal N.plans self.now }
-        ensures targets { HaveTargets N.plans self.now }
-        ensures no_cycle { FormNoCycle N.plans self.now }
+        ensures legal { IsLegal N.plans self.now.past }
+        ensures targets { HaveTargets N.plans self.now.past }
+        ensures no_cycle { FormNoCycle N.plans self.now.past }
+        ensures stuck { IsNotStuck N.plans self.now.past self.now.outs }
+        ensures going { NoneIsPaused self.now.outs }
     {
         let _ = self.house.journal();
         self.house.holds();

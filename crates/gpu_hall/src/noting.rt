@@ -1,5 +1,5 @@
 // What is done with the view of a hall.
-ghost use Rattle.std.specs.Prelude.{◌≡◌, ◌++◌, ◌≤◌, length, IsTrue, OnOk};
+ghost use Rattle.std.specs.Prelude.{◌≡◌, ◌++◌, ◌≤◌, length, IsTrue, OnOk, OnErr};
 ghost use Rattle.std.specs.List.{All};
 ghost use Rattle.gpu_store.specs.Images.{HasItsTexels};
 ghost use Rattle.gpu_hall.specs.Views.{HasRoom, IsSameView, HasNoted, ViewFits, ShowAll};
@@ -12,7 +12,7 @@ use live_view::ViewWriter;
 use std::sync::Wait;
 use wait_hooks::Hook;
 
-/// Makes room for so many more operations, where there is a view, and says whether there is.
+/// Makes room for more operations, where there is a view, and says whether there is.
 pub(crate) fn make_room(view: &mut Option<ViewWriter>, more: usize) -> bool
     ensures room { IsTrue result → HasRoom more view.new }
     ensures same { IsSameView view.old view.new }
@@ -62,6 +62,8 @@ pub(crate) fn publish_all<N: Naming, P: NamedSide, H: Hook, R: Wait>(
     requires fits { ViewFits N.plans N.view house.now.core.past writer.old }
     ensures fits { ViewFits N.plans N.view house.now.core.past writer.new }
     ensures all { OnOk result (ShowAll N.plans house.now.core.past writer.new.versions) }
+    ensures view { writer.new.view ≡ writer.old.view }
+    ensures stays { OnErr result (writer.new.versions ≡ writer.old.versions) }
 {
     let count = house.journal().events().len();
     if count > u32::MAX as usize {

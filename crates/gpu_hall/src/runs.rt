@@ -1,10 +1,14 @@
 //! Runs leave the hall, and what they have fetched comes back.
-ghost use Rattle.std.specs.Prelude.{◌≡◌, [], ◌∷◌, drop, true, false, IfSome, IfNone};
+ghost use Rattle.std.specs.Prelude.{◌≡◌, [], ◌∷◌, drop, true, false, option_map, IfSome, IfNone};
 ghost use Rattle.sync_core.specs.Standing.{is_open};
 ghost use Rattle.gpu_journal.specs.declared.event.Event.TheVariants.{Finish, Lost};
 ghost use Rattle.gpu_journal.specs.declared.event.Why.TheVariants.{Memory};
 ghost use Rattle.gpu_journal.specs.Waits.{standing_of};
-ghost use Rattle.house_core.specs.Core.{IsRunOf};
+ghost use Rattle.run_laws.specs.Choosing.{choice_at_home};
+ghost use Rattle.house_core.specs.Core.{IsRunOf, is_home, with_out};
+ghost use Rattle.house_core.specs.Desks.{at_home};
+ghost use Rattle.shm_words.specs.Seen.{NoteData};
+ghost use Rattle.gpu_house.specs.House.{OutData};
 ghost use Rattle.gpu_house.specs.Names.{table_at};
 ghost use Rattle.gpu_hall.specs.Ready.{IsReady};
 ghost use Rattle.gpu_house.specs.Batches.{member_words, batch_words, AreChained};
@@ -19,10 +23,18 @@ use wait_hooks::Hook;
 impl<N: Naming, P: NamedSide, H: Hook> Hall<N, P, H> {
     /// A run of the stream that the scheduler chooses among those at home, which may go on; `None` where none of them can run.
     pub fn take(&mut self) -> Option<Run<N, P>>
-        ensures past { self.new ≡ self.old }
-        ensures run { IfSome result (λ out. IsRunOf N.plans self.old out.run) }
+        ensures choice { option_map (λ (out : OutData P NoteData). out.run.stream) result
+            ≡ choice_at_home N.plans self.old.past (is_home self.old.outs) }
+        ensures none { IfNone result (self.new ≡ self.old) }
+        ensures past { self.new.past ≡ self.old.past }
+        ensures view { self.new.view ≡ self.old.view }
+        ensures run { IfSome result (λ out. IsRunOf N.plans self.old.past out.run) }
         ensures ready { IfSome result
             (IsReady P.side P.table P.mark P.note_of N.plans N.words N.books) }
+        ensures outs { IfSome result
+            (λ out. self.new.outs
+            ≡ with_out self.old.outs out.run.stream
+            record { order = out.run.order; paused = false }) }
     {
         let run = self.house.take()?;
         run.holds();
@@ -30,9 +42,12 @@ impl<N: Naming, P: NamedSide, H: Hook> Hall<N, P, H> {
     }
 
     /// Commits a batch that a run has fetched: steps the run on its members in order, and does under the same lock what is then to be
-    /// done. A run whose flush has more commands may go on; one at its end is finished; one whose wait was kept, one of which a command
-    /// is invalid, and one whose stream was over come home; and where memory was wanted, for a step or for the view, the stream is lost
-    /// behind the steps made. What was drawn is noted in the view.
+    /// done. What was drawn is noted in the view.
+    ///
+    /// - the flush has more commands: the run is returned
+    /// - it is at its end: the run is finished
+    /// - a wait was kept, a command is invalid, or the stream was over: the run is at home
+    /// - out of memory, for a step or for the view: the stream is lost after the steps made
     pub fn commit(&mut self, run: Run<N, P>, words: &P::Words, batch: Batch) -> Option<Run<N, P>>
         requires going { run.run.paused ≡ false }
         requires chained { AreChained run.run.facts batch }
@@ -43,10 +58,17 @@ impl<N: Naming, P: NamedSide, H: Hook> Hall<N, P, H> {
             (IsReady P.side P.table P.mark P.note_of N.plans N.words N.books) }
         ensures same { IfSome result (λ on. on.run.stream ≡ run.run.stream) }
         ensures more { IfSome result
-            (λ on. HasSteps N.plans self.old self.new run.run.stream (member_words batch) false) }
+            (λ on. HasSteps N.plans self.old.past self.new.past run.run.stream
+            (member_words batch) false) }
         ensures home { IfNone result
-            ((how : Return) × CameHome N.plans self.old self.new run.run.stream run.run.order
-            (member_words batch) how) }
+            ((how : Return) × CameHome N.plans self.old.past self.new.past run.run.stream
+            run.run.order (member_words batch) how) }
+        ensures out { IfSome result (λ on. self.new.outs
+            ≡ with_out self.old.outs run.run.stream
+            record { order = run.run.order; paused = false }) }
+        ensures back { IfNone result
+            (self.new.outs ≡ with_out self.old.outs run.run.stream at_home) }
+        ensures view { self.new.view ≡ self.old.view }
     {
         let mut run = run;
         if !make_room(&mut self.view, batch.members().len()) {
@@ -85,22 +107,26 @@ impl<N: Naming, P: NamedSide, H: Hook> Hall<N, P, H> {
         requires going { run.run.paused ≡ false }
         requires words { P.words_of words.now (table_at N.words run.run.stream)
             (table_at N.result_words run.run.stream) }
-        ensures event { is_open (standing_of N.plans self.old run.run.stream) ≡ true
-            → self.new ≡ Finish run.run.stream run.run.order ∷ self.old }
-        ensures over { is_open (standing_of N.plans self.old run.run.stream) ≡ false
-            → self.new ≡ self.old }
+        ensures event { is_open (standing_of N.plans self.old.past run.run.stream) ≡ true
+            → self.new.past ≡ Finish run.run.stream run.run.order ∷ self.old.past }
+        ensures over { is_open (standing_of N.plans self.old.past run.run.stream) ≡ false
+            → self.new.past ≡ self.old.past }
+        ensures back { self.new.outs ≡ with_out self.old.outs run.run.stream at_home }
+        ensures view { self.new.view ≡ self.old.view }
     {
         run.holds();
         self.house.holds();
         self.house.finish(run, words);
     }
 
-    /// Loses the stream of a run for want of memory, where it is neither lost nor closed. It takes no memory.
+    /// Loses the stream of a run as out of memory, where it is neither lost nor closed. It takes no memory.
     pub fn lose(&mut self, run: Run<N, P>)
-        ensures event { is_open (standing_of N.plans self.old run.run.stream) ≡ true
-            → self.new ≡ Lost run.run.stream Memory [] ∷ self.old }
-        ensures over { is_open (standing_of N.plans self.old run.run.stream) ≡ false
-            → self.new ≡ self.old }
+        ensures event { is_open (standing_of N.plans self.old.past run.run.stream) ≡ true
+            → self.new.past ≡ Lost run.run.stream Memory [] ∷ self.old.past }
+        ensures over { is_open (standing_of N.plans self.old.past run.run.stream) ≡ false
+            → self.new.past ≡ self.old.past }
+        ensures back { self.new.outs ≡ with_out self.old.outs run.run.stream at_home }
+        ensures view { self.new.view ≡ self.old.view }
     {
         self.house.lose(run);
     }

@@ -19,8 +19,7 @@ pub struct Shown {
 
 impl Model for Shown {
     ghost use Rattle.std.specs.Prelude.{option_map, IfSome};
-    ghost use Rattle.live_view.specs.Seen.{WriterData};
-    ghost use Rattle.gpu_hall.specs.Views.{ShownData, ShowAll};
+    ghost use Rattle.gpu_hall.specs.Views.{ShownData, ShowAll, front_of};
 
     ghost Value = { ShownData };
 
@@ -28,8 +27,7 @@ impl Model for Shown {
       plans = s.report.plans;
       base = s.report.base;
       past = s.report.past;
-      view = option_map (λ (writer : WriterData).
-          record { view = writer.view; versions = writer.versions }) s.view;
+      view = option_map front_of s.view;
     } };
 
     ghost invariant = { λ s. IfSome s.view

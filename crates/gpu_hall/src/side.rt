@@ -5,7 +5,7 @@ ghost use Rattle.shm_words.specs.Seen.{NoteData};
 use gpu_fetch::ServiceSide;
 use shm_words::{Note, ServicePass};
 
-/// A side whose client hands over notes of shared words, and whose words, notes, results and readers are told by their tables' names.
+/// A side whose client hands over notes of shared words, and whose words, notes, results and readers are named by their tables.
 ///
 /// Under a lock nothing else is known of them: that a side and a note are of one table of words, and results and a reader of one table
 /// of result words, is all that their types can keep. Whoever has words of these tables at hand learns here that they belong together.

@@ -15,12 +15,15 @@ use gpu_house::{Closing, Naming};
 use wait_hooks::Hook;
 
 impl<N: Naming, P: NamedSide, H: Hook> Hall<N, P, H> {
-    /// Loses a stream for want of memory, where it is neither lost nor closed. It takes no memory.
+    /// Loses a stream as out of memory, where it is neither lost nor closed. It takes no memory.
     pub fn lose_client(&mut self, stream: u32)
         requires known { IsKnown (length N.plans.plans) stream }
-        ensures event { is_open (standing_of N.plans self.old stream) ≡ true
-            → self.new ≡ Lost stream Memory [] ∷ self.old }
-        ensures over { is_open (standing_of N.plans self.old stream) ≡ false → self.new ≡ self.old }
+        ensures event { is_open (standing_of N.plans self.old.past stream) ≡ true
+            → self.new.past ≡ Lost stream Memory [] ∷ self.old.past }
+        ensures over { is_open (standing_of N.plans self.old.past stream) ≡ false
+            → self.new.past ≡ self.old.past }
+        ensures outs { self.new.outs ≡ self.old.outs }
+        ensures view { self.new.view ≡ self.old.view }
     {
         self.house.lose_client(stream);
     }
@@ -30,16 +33,18 @@ impl<N: Naming, P: NamedSide, H: Hook> Hall<N, P, H> {
         requires known { IsKnown (length N.plans.plans) stream }
         requires closes { is_closed (plan_of N.plans stream).actions ≡ true }
         ensures lost { (result ≡ Closing.Lost)
-            ↔ ((standing_of N.plans self.old stream).lost ≡ true) }
+            ↔ ((standing_of N.plans self.old.past stream).lost ≡ true) }
         ensures early { (result ≡ Closing.Early)
-            ↔ ((is_open (standing_of N.plans self.old stream) ≡ true)
-            × (MayClose N.plans self.old stream → ⊥)) }
+            ↔ ((is_open (standing_of N.plans self.old.past stream) ≡ true)
+            × (MayClose N.plans self.old.past stream → ⊥)) }
         ensures event { result ≡ Closing.Closed
-            → is_open (standing_of N.plans self.old stream) ≡ true
-            → self.new ≡ Close stream ∷ self.old }
+            → is_open (standing_of N.plans self.old.past stream) ≡ true
+            → self.new.past ≡ Close stream ∷ self.old.past }
         ensures same { (result ≡ Closing.Closed
-            → is_open (standing_of N.plans self.old stream) ≡ true → ⊥)
-            → self.new ≡ self.old }
+            → is_open (standing_of N.plans self.old.past stream) ≡ true → ⊥)
+            → self.new.past ≡ self.old.past }
+        ensures outs { self.new.outs ≡ self.old.outs }
+        ensures view { self.new.view ≡ self.old.view }
     {
         self.house.close(stream)
     }
@@ -51,7 +56,7 @@ impl<N: Naming, P: NamedSide, H: Hook> Hall<N, P, H> {
         requires words { P.words_of words.now (table_at N.words stream)
             (table_at N.result_words stream) }
         requires reader { P.reader_of reader (table_at N.result_words stream) }
-        ensures settled { AreSettled P.written N.plans self.old stream (P.reads reader) }
+        ensures settled { AreSettled P.written N.plans self.old.past stream (P.reads reader) }
         ensures same { self.new ≡ self.old }
     {
         self.house.holds();

@@ -1,5 +1,6 @@
 //! What viewers are shown of the journal, and the end.
-ghost use Rattle.std.specs.Prelude.{◌≡◌, IfOk, IfSome};
+ghost use Rattle.std.specs.Prelude.{◌≡◌, IfOk, IfSome, OnOk, OnErr};
+ghost use Rattle.gpu_hall.specs.Views.{ShowsAll, IsOfSameView};
 
 use crate::hall::Hall;
 use crate::noting::{end_view, publish_all};
@@ -17,7 +18,11 @@ impl<N: Naming, P: NamedSide, H: Hook> Hall<N, P, H> {
     ///
     /// `Memory`: what is shown stays, and nothing is lost for it. A later call shows more.
     pub fn publish<R: Wait>(&mut self, rt: &R) -> Result<(), Memory>
-        ensures { self.new ≡ self.old }
+        ensures past { self.new.past ≡ self.old.past }
+        ensures outs { self.new.outs ≡ self.old.outs }
+        ensures view { IsOfSameView self.old.view self.new.view }
+        ensures all { OnOk result (ShowsAll N.plans self.new.past self.new.view) }
+        ensures stays { OnErr result (self.new.view ≡ self.old.view) }
     {
         let Hall { house, view, .. } = self;
         match view {
@@ -34,8 +39,9 @@ impl<N: Naming, P: NamedSide, H: Hook> Hall<N, P, H> {
     pub fn show<R: Wait>(self, rt: &R) -> Result<Shown, Memory>
         ensures plans { IfOk result (λ shown. shown.plans ≡ N.plans) }
         ensures base { IfOk result (λ shown. shown.base ≡ N.base) }
-        ensures past { IfOk result (λ shown. shown.past ≡ self) }
-        ensures view { IfOk result (λ shown. IfSome shown.view (λ told. told.view ≡ N.view)) }
+        ensures past { IfOk result (λ shown. shown.past ≡ self.past) }
+        ensures view { IfOk result (λ shown. IsOfSameView self.view shown.view) }
+        ensures named { IfOk result (λ shown. IfSome shown.view (λ told. told.view ≡ N.view)) }
     {
         let Hall {
             house,
@@ -66,7 +72,7 @@ impl<N: Naming, P: NamedSide, H: Hook> Hall<N, P, H> {
     pub fn end<R: Wait>(self, rt: &R) -> Report
         ensures plans { result.plans ≡ N.plans }
         ensures base { result.base ≡ N.base }
-        ensures past { result.past ≡ self }
+        ensures past { result.past ≡ self.past }
     {
         let Hall {
             house,

@@ -55,7 +55,7 @@ module _ {Note : Type 0} (mark : Note → ℕ) (plan : PlanData) where
       by [] q = absurd (cc)
       by (note ∷ list) q = ((let is : mark note ≡ suc place = cc in omega (arith, is)), (let rest : map mark list ≡ marks_between plan (from + 1) upto = cc in rest))
 
-  -- the note of the next flush stands behind all others
+  -- the note of the next flush stands after all others
   pub queue_pushed : (notes : List Note) (note : Note) (from upto place : ℕ) → from ≤ upto → slice_get (flush_places plan.actions) upto ≡ Some place → mark note ≡ mark_of plan upto → map mark notes ≡ marks_between plan from upto
       → map mark (notes ++ note ∷ []) ≡ marks_between plan from (upto + 1)
   queue_pushed notes note from upto place low e is queued =

@@ -1,4 +1,4 @@
--- One step more behind those of a batch.
+-- One step more after those of a batch.
 use Rattle.std.proofs.Common.{◌≡◌, ℕ, Bool, true, false, List, [], ◌∷◌, ◌++◌, Option, Some, None, refl, sym, ap, subst, ◌∙◌, append_assoc}
 use Rattle.std.specs.Prelude.{◌||◌, IsOk, option_to_list}
 use Rattle.std.proofs.lemmas.List.{append-nil}
@@ -82,7 +82,7 @@ moved_more old mid new ws words paused kept over moved = record {
   book = moved.book ∙ over.book;
 }
 
--- ---- what is told of the images
+-- ---- the report of the images
 
 over_more : (images : Pictures) (ops more : List Op) → drawn_over images (ops ++ more) ≡ drawn_over (drawn_over images ops) more
 over_more images [] more = refl
@@ -92,7 +92,7 @@ drawn_then : (images : Pictures) (ops more : List Op) → AreDrawn images ops �
 drawn_then images [] more first second = second
 drawn_then images (op ∷ ops) more first second = (first.0, drawn_then (apply images op).images ops more first.1 second)
 
--- nothing is told
+-- nothing is reported
 pub tells_none : (images : Pictures) (before : List Op) → TellsDrawn images images before before
 tells_none images before = record { ops = []; told = sym (append-nil before); answered = tt; texels = All-nil HasItsTexels; images = refl }
 

@@ -206,11 +206,11 @@ module _ {Side Note Results Words : Type 0} (side : Side → SideData) (mark : N
     pub its_results : ResultsBelong results_belong words now.house.results now.out.run.stream
     its_results = subst (ResultsBelong results_belong words now.house.results) (sym st.stream) st.kept.wrote.belong
 
-    -- the facts behind the member are those of its run
+    -- the facts after the member are those of its run
     behind : facts_after member.facts member.words ≡ facts_after now.out.run.facts member.words
     behind = ap (λ (f : StreamFacts). facts_after f member.words) st.chained.0
 
-    -- where members stand behind it, no batch ends at it
+    -- where members stand after it, no batch ends at it
     passed_on : (next : FetchedData) (more : List FetchedData) → rest ≡ next ∷ more → Passes member
     passed_on next more is = passes member (subst (λ (l : List FetchedData). GoOn (member ∷ l)) is st.goes_on).0
 
@@ -226,7 +226,7 @@ module _ {Side Note Results Words : Type 0} (side : Side → SideData) (mark : N
       abbrev Made : Bool → Type 0
       Made paused = IsDone side mark p now.house new.house now.out new.out member.words paused
 
-      -- all words of the member are behind the run
+      -- all words of the member are after the run
       long_after : (paused : Bool) → Made paused → length (side new.out.side).fetched ≡ new.out.run.facts.fetched + length (batch_words rest)
       long_after paused made =
           let long : length (side now.out.side).fetched ≡ now.out.run.facts.fetched + length (member.words ++ batch_words rest) = st.long in
@@ -274,7 +274,7 @@ module _ {Side Note Results Words : Type 0} (side : Side → SideData) (mark : N
       pub kept_at : Kept old new
       kept_at = kept_then old now new st.stream st.kept took.kept
 
-      -- the members behind one that stops the batch are none
+      -- the members after one that stops the batch are none
       none_behind : (paused : Bool) → Made paused → ((member_passes : Passes member) → ⊥) → rest ≡ []
       none_behind paused made off = by rest refl
         where
@@ -331,7 +331,7 @@ module _ {Side Note Results Words : Type 0} (side : Side → SideData) (mark : N
           by Lost stops executed steps end = absurd (cc)
           by Closed stops executed steps end = absurd (cc)
 
-    -- memory was wanted for the step
+    -- memory ran out for the step
     pub in_part : (new : Stage Side Note Results) → IsStill now new → GoneInPart side mark p old new (member_words (done ++ member ∷ rest))
     in_part new still = record {
       first = member_words done;

@@ -52,7 +52,7 @@ draws_effect (Pixels op) images texels = by (apply images op).answer refl
     by OutOfTexels is = kept OutOfTexels is (λ e. absurd (cc))
 draws_effect (Results writes) images texels = draws_none images
 
--- what is told of a step that was executed is what it draws by the journal
+-- the report of a step that was executed is what it draws by the journal
 pub told_drawn : (p : PlansData) (h : List Event) (s : ℕ) (words : List (ℕ × ℕ)) (acted : Acted) → WasExecuted p h s words acted → drawn_of acted.effect acted.answer ≡ drawn_at p h s words
 told_drawn p h s words acted was =
     ap (drawn_of acted.effect) was.answer ∙ ap (λ (effect : Effect). drawn_of effect (drawn_by effect (replay p h)).answer) was.effect

@@ -30,7 +30,7 @@ use Rattle.gpu_house.specs.Marks.{AreMarked, MayBeMarked}
 
 -- ---- over sync events
 
--- at most so many waits does a deed make
+-- how many waits a deed makes at most
 abbrev makes : Deed → ℕ
 makes (Ordered fences) = length fences
 makes (Waited t r) = 1
@@ -44,7 +44,7 @@ module _ {X : Type 0} (p : X → Bool) where
   passing : (xs : List X) → length (filter p xs) ≤ length xs
   passing xs = subst (λ (n : ℕ). n ≤ length xs) (sym (length-filter p xs)) (count_by-le-length p xs)
 
-  -- those of a list with more behind it
+  -- those of a list with more after it
   passing_more : (xs ys : List X) → length (filter p (xs ++ ys)) ≤ length (filter p xs) + length ys
   passing_more xs ys = let parts = ap length (filter-append p xs ys) ∙ length-append (filter p xs) (filter p ys) in let few = passing ys in omega (arith, parts, few)
 
@@ -116,7 +116,7 @@ grows_event n e g =
 grows_none : (n : ℕ) (g : List SyncEvent) → GrowsBy n 0 g g
 grows_none n g = record { begins = take-length (endings n g); few = omega arith; room = omega arith }
 
--- so many waits does what an event does make
+-- how many waits come of what an event does
 abbrev makes_by : Option Deed → ℕ
 makes_by None = 0
 makes_by (Some d) = makes d
@@ -127,7 +127,7 @@ grows_noted n s (Some d) g = grows_event n (s, d) g
 
 -- ---- over a history
 
--- so many waits does an event make
+-- how many waits an event makes
 abbrev pub waits_made : PlansData → Event → List Event → ℕ
 waits_made p e h = makes_by (deed p e (world p h))
 

@@ -148,7 +148,7 @@ module _ {Side Note : Type 0} (side : Side → SideData) (table : Side → Table
 
     -- ---- a side leaves
 
-    -- what is known of a run that is taken, and of the slot that its side leaves
+    -- the facts of a run that is taken, and of the slot that its side leaves
     pub record Taken : Type 0 where
       pub plan : IsOfPlans p run
       pub run_of : IsRunOf p old.past run

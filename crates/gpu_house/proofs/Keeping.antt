@@ -24,7 +24,8 @@ use Rattle.gpu_house.proofs.Endings.{marked_again, marked_roomier}
 use Rattle.gpu_house.proofs.Writings.{AllFit}
 
 module _ {Side Note Results : Type 0} (side : Side → SideData) (table : Side → TableId) (mark : Note → ℕ) (note_of : Note → TableId → Type 0) (takes : Results → ℕ → Bool) (told : Results → Option (List Written)) (results_of : Results → TableId → Type 0) where
-  -- the core keeps its clauses, and has the same plans and books; the marks, the slots and the results, of which there are as many, fit the new journal
+  -- the core keeps its clauses, and has the same plans and books; the marks, the slots and the results, of which there
+  -- are as many, fit the new journal
   pub kept : (p : PlansData) (base : ℕ) (words books result_words : List TableId) (was marks : Marks) (old : HouseData Side Note Results) (now : HouseData Side Note Results) → HouseInvariant side table mark note_of takes told results_of p base words books result_words was old
       → IsCore now.core → now.core.plans ≡ old.core.plans → now.core.books ≡ old.core.books → AreMarked now.core.plans was.base now.core.past marks → length now.slots ≡ length old.slots → homes.AllFit side table mark note_of p (table_at words) now.core now.slots
       → length now.results ≡ length old.results → AllFit takes told results_of (table_at result_words) p now.core.past now.results → HouseInvariant side table mark note_of takes told results_of p base words books result_words marks now

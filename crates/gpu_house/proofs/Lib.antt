@@ -14,6 +14,7 @@ pub mod Keeping
 pub mod Ordering
 pub mod Fresh
 pub mod Idle
+pub mod Least
 pub mod Counting
 pub mod Drawings
 pub mod Members

@@ -32,7 +32,7 @@ use Rattle.gpu_house.specs.Slots.{RunFits}
 use Rattle.gpu_house.proofs.Running.{fetched_again}
 use Rattle.gpu_house.specs.Batches.{facts_after, facts_behind, member_words, batch_words, AreChained, ends_by, is_last, most_members, EndsExactly, FetchesInPart}
 
--- ---- behind a command that passed its checks
+-- ---- after a command that passed its checks
 
 -- it has a word, it ends in the ring, and the stream stays within its quota
 pub record Ends (words : List (ℕ × ℕ)) (facts : StreamFacts) : Type 0 where
@@ -51,13 +51,13 @@ passed_ends words facts command lawful copy =
       quota = room.quota;
     }
 
--- the facts behind it, as they are computed
+-- the facts after it, as they are computed
 pub behind_is : (words : List (ℕ × ℕ)) (facts : StreamFacts) (size get : ℕ) → size ≡ size_of (get_or words 0 (0, 0)).1 → get ≡ further facts.areas.ring facts.get size
     → record { areas = facts.areas; get = get; put = facts.put; fetched = facts.fetched + length words } ≡ facts_after facts words
 behind_is words facts size get sized at =
     ap (λ (g : ℕ). record facts { get = g; fetched = facts.fetched + length words }) (at ∙ ap (further facts.areas.ring facts.get) (sized ∙ ap size_of (first_value words)))
 
--- the facts behind it are lawful again
+-- the facts after it are lawful again
 pub behind_lawful : (words : List (ℕ × ℕ)) (facts : StreamFacts) → IsLawfulFacts facts → Ends words facts → IsLawfulFacts (facts_after facts words)
 behind_lawful words facts lawful ends =
     let ring = facts.areas.ring in
@@ -185,7 +185,7 @@ module _ (old between new : SideData) (first next : StreamFacts) (members : List
     areas = ap (λ (f : StreamFacts). f.areas) is ∙ ap (λ (f : StreamFacts). f.areas) one.facts ∙ were.areas ∙ ap (λ (s : SideData). s.plan.areas) (sym one.fetches.grows);
   }
 
-  -- what is known of each word is known of its words
+  -- the facts of each word are facts of its words
   pub shown_more : (S : ℕ × ℕ → Type 0) → All S (batch_words members) → All S member.words → All S (batch_words (members ++ member ∷ []))
   shown_more S all of_it = subst (All S) (sym (batch_words_more members member)) (All-append S (batch_words members) member.words all of_it)
 
@@ -198,14 +198,14 @@ module _ (old between new : SideData) (first next : StreamFacts) (members : List
     first = subst (λ (f : StreamFacts). fetched_places member.words f ≡ places_listed member.words ++ []) one.facts (sym one.copy.places ∙ sym (append-nil (places_listed member.words)));
   }
 
--- ---- a command whose words stand behind those of the others
+-- ---- a command whose words stand after those of the others
 
 -- how many there are
 pub parts_long : (list : List (ℕ × ℕ)) (parts : List FetchedPart) → length (parts_of list parts) ≡ length parts
 parts_long list [] = refl
 parts_long list (part ∷ parts) = ap suc (parts_long (drop part.count list) parts)
 
--- one command more was fetched onto the list, and is told behind the others
+-- one command more was fetched onto the list, and is reported after the others
 pub record IsOneMore (old between new : SideData) (first next : StreamFacts) (list longer : List (ℕ × ℕ)) (parts again : List FetchedPart) (verdict : Result Command CmdError) (count : ℕ) : Type 0 where
   pub were : Gathered old between first next (parts_of list parts)
   pub full : words_in parts ≡ length list
@@ -243,7 +243,7 @@ module _ {old between new : SideData} {first next : StreamFacts} {list longer : 
   pub parts_shown : (S : ℕ × ℕ → Type 0) → All S (batch_words (parts_of list parts)) → All S (added list longer) → All S (batch_words (parts_of longer again))
   parts_shown S all one = subst (λ (l : List FetchedData). All S (batch_words l)) (sym parts_are) (shown_more old between new first next (parts_of list parts) last_member more.were one_fetched S all one)
 
-  -- the batch goes on behind it
+  -- the batch goes on after it
   pub parts_go_on : (behind : StreamFacts) → behind ≡ facts_after next (added list longer) → IsLawfulFacts behind → behind.get ≢ behind.put → ends_by verdict (facts_after next (added list longer)) ≡ false → length again < most_members
       → Gathered old new first behind (parts_of longer again)
   parts_go_on behind is lawful going goes_on few =

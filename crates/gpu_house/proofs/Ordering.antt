@@ -1,4 +1,4 @@
--- The slots of a house after an order: the note of the flush stands behind the others of its stream.
+-- The slots of a house after an order: the note of the flush stands after the others of its stream.
 use Rattle.std.proofs.Common.{◌≡◌, ℕ, ◌+◌, ◌-◌, ◌<◌, false, Option, Some, List, [], ◌∷◌, ◌++◌, length, get_or, set, refl, sym, ap, subst, ◌∙◌, unwrap_or, IsSome}
 use Rattle.std.specs.Prelude.{slice_get}
 use Rattle.atomic_table.specs.Seated.{TableId}

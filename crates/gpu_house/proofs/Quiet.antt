@@ -28,7 +28,7 @@ use Rattle.gpu_house.specs.Batches.{facts_after, is_heard, ends_by, is_last, End
 
 -- ---- what passes
 
--- its command passed its checks and is not heard, and something is left of the flush behind it
+-- its command passed its checks and is not heard, and something is left of the flush after it
 pub record Passes (member : FetchedData) : Type 0 where
   pub command : Command
   pub passed : member.verdict ≡ Ok command

@@ -103,7 +103,7 @@ module _ {Side Note : Type 0} (side : Side → SideData) (table : Side → Table
     notes = λ o. absurd (cc);
   }
 
-  -- a note stands behind the others
+  -- a note stands after the others
   pub order_slot : (h : List Event) (home : Bool) (s n place : ℕ) (note : Note) (slot : SlotData Side Note) → IsLegal p h → is_open (standing_of p h s) ≡ true → slice_get (flush_places (plan_of p s).actions) (known p h s).ordered ≡ Some place
       → mark note ≡ mark_of (plan_of p s) (known p h s).ordered → note_of note (tables s) → Slot h home s slot → Slot (Order s n place ∷ h) home s (record slot { notes = slot.notes ++ note ∷ [] })
   order_slot h home s n place note slot legal open' there is shared f =

@@ -1,4 +1,4 @@
--- What a run keeps after a step: its note is met, and its client is told.
+-- What a run keeps after a step: its note is met, and its client hears of it.
 use Rattle.std.proofs.Common.{◌≡◌, ◌≢◌, ℕ, ◌+◌, ◌≤◌, max, eqb, Bool, true, false, List, [], ◌∷◌, length, drop, Option, Some, None, refl, sym, ap, subst, ◌∙◌, arith, length-drop, length-append, option_map}
 use Rattle.std.specs.Prelude.{IfSome, slice_get}
 use Rattle.std.specs.List.{All}
@@ -34,7 +34,7 @@ use Rattle.gpu_house.specs.declared.answers.Next.TheVariants.{More, FlushEnd}
 use Rattle.gpu_house.specs.Steps.{told_side, next_of}
 use Rattle.gpu_house.proofs.Running.{met_further, met_again}
 
--- ---- a client is told
+-- ---- what a client hears
 
 told_keeps : {A : Type 0} (of : SideData → A) → ((s : SideData) (token : ℕ) → of (with_token s token) ≡ of s) → (effect : Effect) (s : SideData) → of (told_side effect s) ≡ of s
 told_keeps of keeps Nothing s = refl
@@ -45,7 +45,7 @@ told_keeps of keeps (WaitName name r) s = refl
 told_keeps of keeps (Pixels op) s = refl
 told_keeps of keeps (Results write) s = refl
 
--- the greatest token that a client was told is that of the journal
+-- the greatest token that a client heard of is that of the journal
 told_greatest : (effect : Effect) (s : SideData) (tokens : List ℕ) → s.greatest ≡ greatest tokens → (told_side effect s).greatest ≡ greatest (worlds.with_token effect tokens)
 told_greatest Nothing s tokens is = is
 told_greatest (Token token) s tokens is = max_comm s.greatest token ∙ ap (max token) is
@@ -98,7 +98,7 @@ module _ {Side Note : Type 0} (side : Side → SideData) (table : Side → Table
   met_fits run x y None fits told bounded same = same_again run x y fits told same
   met_fits run x y (Some note) fits told bounded same = met_again side table mark note_of p tables books run x y note fits told bounded same
 
-  -- how many words were fetched: those of the facts, those of the step, and those behind them
+  -- how many words were fetched: those of the facts, those of the step, and those after them
   list_is : (run : RunData) (x : Side) (words : List (ℕ × ℕ)) → Fits run x None → (next : AreNext run.facts (side x).fetched words) → length (side x).fetched ≡ run.facts.fetched + length words + length next.rest
   list_is run x words fits next =
       let n = length-drop run.facts.fetched (side x).fetched in
@@ -107,7 +107,7 @@ module _ {Side Note : Type 0} (side : Side → SideData) (table : Side → Table
       let low = fits.list in
       omega (arith, n, k, m, low)
 
-  -- the words behind those of a step may have been put, where the greatest token is no less
+  -- the words after those of a step may have been put, where the greatest token is no less
   behind_may : (run now : RunData) (list : List (ℕ × ℕ)) (count : ℕ) → now.stream ≡ run.stream → now.place ≡ run.place → now.finished ≡ run.finished → run.greatest ≤ now.greatest → All (MayHavePut p run) (drop run.facts.fetched list)
       → All (MayHavePut p now) (drop (run.facts.fetched + count) list)
   behind_may run now list count stream place finished more may =

@@ -11,16 +11,16 @@ use Rattle.gpu_fetch.specs.Fetched.{FetchedData, IsFetched, FetchesSome}
 use Rattle.stream_state.specs.Steps.{header_in}
 use Rattle.house_core.specs.Answers.{further}
 
--- ---- one command behind the other
+-- ---- one command after the other
 
--- the facts of the command behind one that has these words
+-- the facts of the command after one that has these words
 abbrev pub facts_after : StreamFacts → List (ℕ × ℕ) → StreamFacts
 facts_after facts words = record facts {
   get = further facts.areas.ring facts.get (size_of (header_in words));
   fetched = facts.fetched + length words;
 }
 
--- the facts behind commands that have these words, one after the other
+-- the facts after commands that have these words, one after the other
 abbrev pub facts_behind : StreamFacts → List (List (ℕ × ℕ)) → StreamFacts
 facts_behind facts [] = facts
 facts_behind facts (words ∷ more) = facts_behind (facts_after facts words) more
@@ -38,8 +38,8 @@ abbrev pub AreChained : StreamFacts → List FetchedData → Type 0
 AreChained facts [] = Unit {0}
 AreChained facts (member ∷ more) = (member.facts ≡ facts) × AreChained (facts_after facts member.words) more
 
--- the words are the next that a side has fetched beyond those of the facts; there are none behind them where nothing is left of the
--- flush behind their command
+-- the words are the next that a side has fetched beyond those of the facts; there are none after them where nothing is left of the
+-- flush after their command
 pub record AreNext (facts : StreamFacts) (list words : List (ℕ × ℕ)) : Type 0 where
   pub rest : List (ℕ × ℕ)
   pub next : drop facts.fetched list ≡ words ++ rest
@@ -57,7 +57,7 @@ is_heard (GetBucketStart bucket result_memory result_offset data_size data_memor
 is_heard (GetBucketData bucket offset size memory memory_offset) = true
 is_heard _ = false
 
--- a batch ends at an error, at a command that is heard, and where nothing is left of the flush behind the command
+-- a batch ends at an error, at a command that is heard, and where nothing is left of the flush after the command
 abbrev pub ends_by : Result Command CmdError → StreamFacts → Bool
 ends_by (Err error) behind = true
 ends_by (Ok command) behind = if is_heard command then true else (behind.get == behind.put)
@@ -81,7 +81,7 @@ pub record EndsExactly (members : List FetchedData) : Type 0 where
 -- ---- how it is fetched
 
 -- the side fetched the words of some commands at which no batch ends, one after the other, and then the first of the places that
--- are to be fetched of the next one
+-- must be fetched of the next one
 pub record FetchesInPart (old new : SideData) (facts : StreamFacts) : Type 0 where
   pub members : List FetchedData
   pub between : SideData

@@ -60,7 +60,7 @@ pub record IsMovedOver (old new : RunData) (words : List (List (ℕ × ℕ))) (k
   pub paused : new.paused ≡ kept
   pub book : new.book ≡ old.book
 
--- ---- what is told of the images
+-- ---- the report of the images
 
 -- each operation is answered Done on the images that the ones before it left
 abbrev pub AreDrawn : Pictures → List Op → Type 0
@@ -72,8 +72,8 @@ abbrev pub drawn_over : Pictures → List Op → Pictures
 drawn_over images [] = images
 drawn_over images (op ∷ ops) = drawn_over (apply images op).images ops
 
--- operations were told behind those that had been: each was answered Done, an upload among them brings a texel for each of its
--- rectangle, and the new images are the old ones once they were applied in order
+-- operations were reported after those that had been: each was answered Done, an upload among them brings a texel for
+-- each of its rectangle, and the new images are the old ones once they were applied in order
 pub record TellsDrawn (old new : Pictures) (before after : List Op) : Type 0 where
   pub ops : List Op
   pub told : after ≡ before ++ ops
@@ -102,9 +102,10 @@ pub record IsStill {Side Note Results : Type 0} (old new : Stage Side Note Resul
   pub drawn : new.drawn ≡ old.drawn
 
 module _ {Side Note Results : Type 0} (side : Side → SideData) (mark : Note → ℕ) where
-  -- the stream is open and these are valid commands, one after the other. The journal notes their steps; the run moved on behind them
-  -- and is what the journal says again, paused where a wait of theirs was kept; its note is met, its client is told, and what they
-  -- draw is told
+  -- the stream is open and these are valid commands, one after the other:
+  -- - the journal notes their steps
+  -- - the run moved on after them and is what the journal says again, paused where a wait of theirs was kept
+  -- - its note is met, its client hears of it, and what they draw is reported
   pub record AreDone (p : PlansData) (old new : Stage Side Note Results) (words : List (List (ℕ × ℕ))) (paused : Bool) : Type 0 where
     pub still_open : is_open (standing_of p old.house.core.past old.out.run.stream) ≡ true
     pub valid : AreValid p old.out.run.stream words old.house.core.past

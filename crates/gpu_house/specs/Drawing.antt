@@ -38,8 +38,8 @@ abbrev pub drawn_on : Option Op → Pictures → Pictures
 drawn_on None images = images
 drawn_on (Some op) images = (apply images op).images
 
--- the operation that is told is answered Done on the old images, an upload among them brings a texel for each of its rectangle, and
--- the new images are the old ones once it was applied
+-- the operation that is reported is answered Done on the old images, an upload among them brings a texel for each of
+-- its rectangle, and the new images are the old ones once it was applied
 pub record Draws (old new : Pictures) (drawn : Option Op) : Type 0 where
   pub answered : IfSome drawn (λ op. (apply old op).answer ≡ Done)
   pub texels : IfSome drawn HasItsTexels

@@ -9,5 +9,6 @@ pub mod Steps
 pub mod Drawing
 pub mod Laws
 pub mod Waiting
+pub mod Stuck
 pub mod Batches
 pub mod Committing

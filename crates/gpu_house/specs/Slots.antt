@@ -82,9 +82,10 @@ module _ {Side Note : Type 0} (side : Side → SideData) (table : Side → Table
     pub agrees : is_open (standing_of p h s) ≡ true → IfSome slot.side (λ x. IsAtHome p h s (side x))
     pub notes : is_open (standing_of p h s) ≡ true → NotesFit p h s slot
 
-  -- what the type of a run keeps: it is of the plans and of its tables; its side is as it says; its fetches past those of its facts are
-  -- such as its client may have put, and at the flush's end there are none; a note that was not met is of its flush, and else its side
-  -- has met that
+  -- what the type of a run keeps:
+  -- - it is of the plans and of its tables, and its side is as it says
+  -- - its fetches past those of its facts are such as its client may have put, and at the flush's end there are none
+  -- - a note that was not met is of its flush, and else its side has met that
   pub record RunFits (p : PlansData) (tables books : ℕ → TableId) (run : RunData) (x : Side) (note : Option Note) : Type 0 where
     pub of_plans : IsOfPlans p run
     pub book : run.book ≡ books run.stream

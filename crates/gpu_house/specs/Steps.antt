@@ -20,7 +20,7 @@ use Rattle.gpu_house.specs.declared.answers.Next.TheVariants.{More, Paused, Flus
 use Rattle.gpu_house.specs.House.{HouseData, OutData}
 use Rattle.gpu_house.specs.Changes.{Same, met_by}
 
--- paused where the step's wait was kept, at the flush's end where nothing is left of it, and else more is to come
+-- paused where the step's wait was kept, at the flush's end where nothing is left of it, and else more will come
 abbrev pub next_of : Bool → Bool → Next
 next_of kept at_end = if kept then Paused else (if at_end then FlushEnd else More)
 
@@ -34,8 +34,10 @@ abbrev pub asked_at : PlansData → List Event → ℕ → List (ℕ × ℕ) →
 asked_at p h s words = asked_by p s words (world p h)
 
 module _ {Side Note Results : Type 0} (side : Side → SideData) (mark : Note → ℕ) where
-  -- the stream is open and the words are a valid command. The journal notes its step; the run moved on to the next command and
-  -- is what the journal says again, paused where the wait of this step was kept; its note is met, and its client is told
+  -- the stream is open and the words are a valid command:
+  -- - the journal notes its step
+  -- - the run moved on to the next command and is what the journal says again, paused where the wait of this step was kept
+  -- - its note is met, and its client hears of it
   pub record IsDone (p : PlansData) (old new : HouseData Side Note Results) (out left : OutData Side Note) (words : List (ℕ × ℕ)) (paused : Bool) : Type 0 where
     pub still_open : is_open (standing_of p old.core.past out.run.stream) ≡ true
     pub valid : IsOk (verdict_at p old.core.past out.run.stream words)

@@ -1,4 +1,4 @@
--- What is kept of waits, and what the waits of a house are known to be.
+-- The record of waits, and what the waits of a house are known to be.
 use Rattle.std.specs.Prelude.{◌≡◌, ℕ, ◌<◌, List, length, All, Contains}
 use Rattle.sync_core.specs.declared.wait.Wait.{Wait}
 use Rattle.sync_core.specs.Standing.{first_order}

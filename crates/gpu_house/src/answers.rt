@@ -17,7 +17,7 @@ pub enum Doing {
     Closed,
 }
 
-/// What is kept of waits.
+/// The record of waits.
 #[derive(Clone, Copy, Debug, PartialEq, Eq)]
 pub struct WaitsKept {
     /// How many waits are pending.

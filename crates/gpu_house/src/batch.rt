@@ -54,7 +54,7 @@ fn is_heard(command: &Command) -> bool
     }
 }
 
-// The place of the next header, behind a command of this size.
+// The place of the next header, after a command of this size.
 fn further(ring: u32, get: u32, size: u32) -> u32
     requires { get + size < 2 ^ 32 }
     ensures { result ≡ further ring get size }
@@ -63,7 +63,7 @@ fn further(ring: u32, get: u32, size: u32) -> u32
     if end == ring { 0 } else { end }
 }
 
-// The facts of the command behind one that passed its checks on these words.
+// The facts of the command after one that passed its checks on these words.
 fn facts_after(facts: &StreamFacts, words: &[(u32, u32)], command: &Command) -> StreamFacts
     requires lawful { IsLawfulFacts facts.now }
     requires copy { IsCopy words.now facts.now (Ok command.now) }
@@ -79,7 +79,7 @@ fn facts_after(facts: &StreamFacts, words: &[(u32, u32)], command: &Command) -> 
     }
 }
 
-// The facts of the member behind one with these words, where a batch does not end at that.
+// The facts of the member after one with these words, where a batch does not end at that.
 fn facts_behind(
     facts: &StreamFacts,
     words: &[(u32, u32)],
@@ -109,7 +109,7 @@ impl Batch {
     ///
     /// # Errors
     ///
-    /// `Memory`: the side has fetched the first of the places that were to be fetched.
+    /// `Memory`: the side has fetched the first of the places that must be fetched.
     pub(crate) fn fetch<P: ServiceSide>(
         alloc: Global,
         side: &mut P,

@@ -19,7 +19,7 @@ use gpu_store::Op;
 use gpu_word::Memory;
 use wait_hooks::Hook;
 
-// Adds an operation behind all others, where there is one, in room that was made before.
+// Adds an operation after all others, where there is one, in room that was made before.
 fn add(drawn: &mut Vec<Op>, op: Option<Op>)
     requires { vec_len drawn.old < vec_capacity drawn.old }
     ensures { drawn.new.items ≡ drawn.old.items ++ option_to_list op }
@@ -47,7 +47,7 @@ impl<N: Naming, P: ServiceSide, H: Hook> House<N, P, H> {
         None
     }
 
-    // The step of a run on the next member of its batch. An operation that was drawn is told behind all others.
+    // The step of a run on the next member of its batch. An operation that was drawn is reported after all others.
     fn step_member(
         &mut self,
         run: &mut Run<N, P>,
@@ -87,14 +87,16 @@ impl<N: Naming, P: ServiceSide, H: Hook> House<N, P, H> {
         Ok(progress.next)
     }
 
-    /// The steps of a run on the batch that was fetched for it, in order, as `step` makes them: up to its end, or up to the first
-    /// member that is no valid command any more, which loses the stream. The answer is that of the last member treated. The
-    /// operations that were drawn are told in order, behind those in the list. Where the stream is lost or closed already, nothing
-    /// changes.
+    /// The steps of a run on the batch that was fetched for it, in order, as `step` makes them:
+    /// - they go up to its end, or up to the first member that is no valid command any more, which loses the stream
+    /// - the answer is that of the last member treated
+    /// - the operations that were drawn are reported in order, after those in the list
+    /// - where the stream is lost or closed already, nothing changes
     ///
     /// # Errors
     ///
-    /// `Memory`: the steps of the first members were made, and what they drew is told. The run can then only be lost.
+    /// `Memory`: the steps of the first members were made, and what they drew is reported. The run can then only be
+    /// lost.
     pub fn step_batch(
         &mut self,
         run: &mut Run<N, P>,

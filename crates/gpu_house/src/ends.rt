@@ -20,7 +20,7 @@ use house_core::Closing;
 use wait_hooks::Hook;
 
 impl<N: Naming, P: ServiceSide, H: Hook> House<N, P, H> {
-    /// Loses a stream for want of memory, where it is neither lost nor closed. It takes no memory.
+    /// Loses a stream as out of memory, where it is neither lost nor closed. It takes no memory.
     pub fn lose_client(&mut self, stream: u32)
         requires known { IsKnown (length N.plans.plans) stream }
         ensures event { is_open (standing_of N.plans self.old.core.past stream) ≡ true

@@ -6,7 +6,7 @@ use gpu_word::Memory;
 use house_core::Core;
 use wait_hooks::{Hook, Hooks};
 
-/// Takes room for so many more marks than there are pending waits, which have room.
+/// Takes room for a given number of marks more than there are pending waits, which have room.
 pub(crate) fn take_room<H: Hook>(
     hooks: &mut Hooks<H>,
     waiting: usize,
@@ -25,7 +25,7 @@ pub(crate) fn take_room<H: Hook>(
     Ok(())
 }
 
-/// Each ending that has no mark yet is told to the callback, once and in order.
+/// Each ending that has no mark yet is passed to the callback, once and in order.
 pub(crate) fn follow<H: Hook>(core: &Core, hooks: &mut Hooks<H>)
     requires { MayBeMarked core.now.plans hooks.old.base core.now.past hooks.old }
     ensures { AreMarked core.now.plans hooks.old.base core.now.past hooks.new }

@@ -18,7 +18,7 @@ use gpu_fetch::ServiceSide;
 use sync_core::OrderFault;
 use wait_hooks::Hook;
 
-/// A flush has at most so many fences.
+/// A flush has at most this number of fences.
 const MOST_FENCES: usize = 16;
 
 impl<N: Naming, P: ServiceSide, H: Hook> House<N, P, H> {
@@ -80,7 +80,7 @@ impl<N: Naming, P: ServiceSide, H: Hook> House<N, P, H> {
     }
 }
 
-// The refusal of an order for which memory was wanted.
+// The refusal of an order for which memory ran out.
 fn no_memory<T>(note: T) -> OrderRefused<T>
     ensures why { result.why ≡ OrderFault.Memory }
     ensures note { result.note ≡ note }

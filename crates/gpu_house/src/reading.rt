@@ -5,6 +5,7 @@ ghost use Rattle.sync_core.specs.Standing.{IsKnown, is_open};
 ghost use Rattle.gpu_journal.specs.Waits.{standing_of};
 ghost use Rattle.gpu_house.specs.Names.{table_at};
 ghost use Rattle.gpu_house.specs.Waiting.{AreWaitsOf, HaveTargets, FormNoCycle};
+ghost use Rattle.gpu_house.specs.Stuck.{IsNotStuck};
 
 use crate::answers::WaitsKept;
 use crate::house::House;
@@ -41,13 +42,17 @@ impl<N: Naming, P: ServiceSide, H: Hook> House<N, P, H> {
         }
     }
 
-    /// What the type of a house keeps, for a house that comes out of a lock: each pending wait names another stream, which is neither
-    /// lost nor closed and has a lower unprocessed number, and no waits form a cycle; and there are results of each stream, of its
-    /// result words. It changes nothing.
+    /// What the type of a house keeps, for a house that comes out of a lock. It changes nothing.
+    ///
+    /// - `targets`: each pending wait names another stream, which is neither lost nor closed and has a lower unprocessed number
+    /// - `no_cycle`: so no waits form a cycle
+    /// - `stuck`: so the stream with the least unprocessed number can run, and is at home or has its run out
+    /// - `results`: there are results of each stream, of its result words
     #[tactic(auto, using(sync_core::proofs::Targets::waits_go_down, sync_core::proofs::Targets::no_cycle))]
     pub fn holds(&self)
         ensures targets { HaveTargets N.plans self.now.core.past }
         ensures no_cycle { FormNoCycle N.plans self.now.core.past }
+        ensures stuck { IsNotStuck N.plans self.now.core.past self.now.core.outs }
         ensures results { (stream : ℕ) → IsKnown (length N.plans.plans) stream
             → IsSomeAnd (slice_get self.now.results (stream - 1))
             (λ own. P.results_of own (table_at N.result_words stream)) }

@@ -22,8 +22,9 @@ use std::marker::{Model, PhantomData};
 
 /// A run of one stream, which has left the lock with the stream's side.
 ///
+/// It is not `Drop`: give it back, finish it or lose it.
+///
 /// Seen as what it carries, its side, and the note of its flush where no fetch has met that.
-#[derive(Drop)]
 pub struct Run<N: Naming, P: ServiceSide> {
     pub(crate) alloc: Global,
     pub(crate) carried: Carried,

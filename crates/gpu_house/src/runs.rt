@@ -89,10 +89,12 @@ impl<N: Naming, P: ServiceSide, H: Hook> House<N, P, H> {
             run.run.stream }
     {
         let Run {
+            alloc: _,
             carried,
             mut side,
             mut note,
-            ..
+            values: _values,
+            of: _,
         } = run;
         let stream = carried.stream();
         let House {
@@ -129,10 +131,12 @@ impl<N: Naming, P: ServiceSide, H: Hook> House<N, P, H> {
         ensures results { self.new.results ≡ self.old.results }
     {
         let Run {
+            alloc: _,
             carried,
             side,
             note,
-            ..
+            values: _values,
+            of: _,
         } = run;
         let stream = carried.stream();
         self.core.back(carried);
@@ -140,7 +144,7 @@ impl<N: Naming, P: ServiceSide, H: Hook> House<N, P, H> {
         self.slots[stream as usize - 1].come(side, note);
     }
 
-    /// Loses the stream of a run for want of memory, where it is neither lost nor closed, and takes the run back. It takes no
+    /// Loses the stream of a run as out of memory, where it is neither lost nor closed, and takes the run back. It takes no
     /// memory.
     pub fn lose(&mut self, run: Run<N, P>)
         ensures event { is_open (standing_of N.plans self.old.core.past run.run.stream) ≡ true
@@ -152,10 +156,12 @@ impl<N: Naming, P: ServiceSide, H: Hook> House<N, P, H> {
         ensures results { self.new.results ≡ self.old.results }
     {
         let Run {
+            alloc: _,
             carried,
             side,
             note,
-            ..
+            values: _values,
+            of: _,
         } = run;
         let stream = carried.stream();
         let House {

@@ -40,11 +40,11 @@ impl<S: Drop, T: Drop> Slot<S, T> {
         }
     }
 
-    /// The note of one more order stands behind all others.
+    /// The note of one more order stands after all others.
     ///
     /// # Errors
     ///
-    /// Memory was wanted; the note comes back.
+    /// Memory ran out; the note comes back.
     pub fn push(&mut self, note: T) -> Result<(), T>
         ensures ok { OnOk result
             (self.new ≡ record self.old { notes = self.old.notes ++ note ∷ [] }) }

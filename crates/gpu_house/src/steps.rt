@@ -25,7 +25,7 @@ use step_parts::Acted;
 use stream_state::Effect;
 use wait_hooks::Hook;
 
-// Tells the client of a step what it is to be told: its token, or its results.
+// Tells the client of a step what it must hear: its token, or its results.
 fn tell<P: ServiceSide>(side: &mut P, results: &mut P::Results, words: &P::Words, acted: &Acted)
     requires belongs { P.belongs side.old words.now }
     requires results { P.results_belong words.now results.old }
@@ -118,8 +118,10 @@ impl<N: Naming, P: ServiceSide, H: Hook> House<N, P, H> {
         })
     }
 
-    /// The step of a run on what was fetched for it: its command is executed, and the client is told of its token or its results; or
-    /// the stream is lost by an error. Where it is lost or closed already, nothing changes. The operation that was drawn is told.
+    /// The step of a run on what was fetched for it:
+    /// - a valid command is executed, the client hears of its token or its results, and an operation that was drawn is reported
+    /// - else the stream is lost by an error
+    /// - where it is lost or closed already, nothing changes
     ///
     /// # Errors
     ///

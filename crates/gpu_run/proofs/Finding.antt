@@ -29,7 +29,7 @@ same_found p e h s k (d ∷ dumps) le passed =
     let one : dump_read p h s d ≡ dump_read p (e ∷ h) s d = ap (λ (g : List Event). (d.0, d.1, result_at p g s d.1)) (sym (passed_before p e h s d.0 (omega (arith, le, lt)))) in
     ap (λ (x : ℕ × ℕ × ℕ). x ∷ map (dump_read p h s) dumps) one ∙ ap (λ (l : List (ℕ × ℕ × ℕ)). dump_read p (e ∷ h) s d ∷ l) (same_found p e h s k dumps le (λ i x lt. passed (suc i) x (omega (arith, lt))))
 
--- what a client is to find stands there still, where the event writes nothing, or the client has done all that it could
+-- what a client must find stands there still, where the event writes nothing, or the client has done all that it could
 still_there : (p : PlansData) (e : Event) (h : List Event) (s done : ℕ) → (written p (e ∷ h) s ≡ written p h s) ⊎ (count p h s ≤ done) → ((action place : ℕ) → done ≤ action → result_at p (passed_at p h s action) s place ≡ result_at p h s place)
     → (action place : ℕ) → done ≤ action → result_at p (passed_at p (e ∷ h) s action) s place ≡ result_at p (e ∷ h) s place
 still_there p e h s done quiet still action place le = by (nat_lt action (count p h s)) refl

@@ -64,7 +64,7 @@ flushes_next plan done n a e is = let step = flushes_one_further plan.actions do
 pub flushes_quiet : (plan : PlanData) (done : ℕ) (a : Action) → slice_get plan.actions done ≡ Some a → flush_count a ≡ 0 → flushes_to plan (done + 1) ≡ flushes_to plan done
 flushes_quiet plan done a e is = let step = flushes_one_further plan.actions done a e in omega (arith, step, is)
 
--- what is known of the next action, of the client as it is seen and as its fields are
+-- the facts of the next action, of the client as it is seen and as its fields are
 pub record Found (seen old : ClientData) (plan : PlanData) (f : ℕ) (tokens : List ℕ) (a : Action) : Type 0 where
   pub same : plan ≡ seen.words.plan
   pub here : slice_get plan.actions seen.words.done ≡ Some a

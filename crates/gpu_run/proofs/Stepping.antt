@@ -48,7 +48,7 @@ use Rattle.gpu_run.proofs.Homing.{home_served}
 
 -- ---- a run that fetched its next command
 
--- what is known once the words of the next command are fetched
+-- the facts once the words of the next command are fetched
 pub record HasFetched (p : PlansData) (house : PlainHouse) (clients : List ClientData) (run : OutData SideData ℕ) (words : List (ℕ × ℕ)) : Type 0 where
   pub many : AreAsMany p house clients
   pub others : (t : ℕ) → IsKnown (length p.plans) t → t ≢ run.run.stream → IsAtHomeWith p house clients t

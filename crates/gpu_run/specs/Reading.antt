@@ -23,8 +23,8 @@ read_with (Some dump) action result = if dump.0 == action then dump_now result d
 abbrev pub read_left : List (ℕ × ℕ) → List (ℕ × ℕ × ℕ) → (ℕ → ℕ) → List (ℕ × ℕ × ℕ)
 read_left dumps read result = map (dump_now result) (drop (length read) dumps)
 
--- the client of stream s, which has done so many actions, has read the dumps that it has passed, each as it then was; the
--- others are ahead of it, and the results now are still what each of them is to find
+-- the client of stream s, which has done a given number of actions, has read the dumps that it has passed, each as it
+-- then was; the others are ahead of it, and the results now are still what each of them must find
 pub record HasRead (p : PlansData) (h : List Event) (s done : ℕ) (read : List (ℕ × ℕ × ℕ)) : Type 0 where
   pub behind : List (ℕ × ℕ)
   pub ahead : List (ℕ × ℕ)

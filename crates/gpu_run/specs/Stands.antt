@@ -16,7 +16,7 @@ pub data Phase : Type 0 where
   Closing : ℕ → Phase
   Running : Phase
 
--- what each client and stream has done by then, where the clients have done so many actions
+-- what each client and stream has done by then, where the clients have done a given number of actions
 abbrev pub HasCome : Phase → PlansData → List Event → (ℕ → ℕ) → Type 0
 HasCome (Acting k) p h done = HaveActed p h done k
 HasCome (Closing k) p h done = HaveActed p h done (length p.plans) × HaveClosed p h k

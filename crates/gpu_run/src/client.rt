@@ -68,7 +68,7 @@ impl Client {
         self.position
     }
 
-    /// Whether the next action passes, where so many flushes are finished and this is the greatest token.
+    /// Whether the next action passes at this number of finished flushes and this greatest token.
     pub(crate) fn passes(&self, plan: &Plan, finishes: u32, token: u32) -> bool
         requires { plan.now ≡ self.now.words.plan }
         ensures { result ≡ passes plan.now.actions self.now.words.done finishes (token ∷ []) }

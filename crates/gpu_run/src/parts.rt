@@ -20,7 +20,7 @@ pub(crate) struct Parts {
 }
 
 impl Parts {
-    // Those of no stream, with room for so many.
+    // Those of no stream, with room for a given number.
     fn none(alloc: Global, streams: usize) -> Result<Parts, Memory>
         ensures { IfOk result (AreFreshFor []) }
     {

@@ -14,7 +14,7 @@ use std::alloc::Global;
 use stream_state::StreamState;
 use wait_hooks::Hook;
 
-/// Reads what is left of a plan's dumps, as the results now are.
+/// Reads the rest of a plan's dumps, as the results now are.
 ///
 /// # Errors
 ///

@@ -73,7 +73,11 @@ fn run_out<N: Naming, H: Hook>(
 {
     let mut out = run;
     while !out.at_end() {
-        if !turn(house, clients, &mut out)? {
+        let Ok(went) = turn(house, clients, &mut out) else {
+            house.lose(out);
+            return Err(Memory);
+        };
+        if !went {
             house.back(out);
             return Ok(());
         }

@@ -51,7 +51,7 @@ fn run_named<N: Naming, H: Hook>(
 
 /// Runs a script by the rule for one thread, and gives what the house leaves and what the clients read.
 ///
-/// It takes no Wait, and always returns. It loses no stream for want of memory, since the serial history has no such loss.
+/// It takes no Wait, and always returns. It loses no stream as out of memory, since the serial history has no such loss.
 ///
 /// # Errors
 ///

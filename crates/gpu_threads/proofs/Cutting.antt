@@ -160,7 +160,7 @@ module _ (p : PlansData) (s : ℕ) (dump : ℕ × ℕ) (value : ℕ) where
   longer : (e : Event) (h : List Event) → MayDump p h s dump value → MayDump p (e ∷ h) s dump value
   longer e h may = record { later = e ∷ may.later; past = may.past; first_part = ap (λ (g : List Event). e ∷ g) may.first_part; enough = may.enough; found = may.found }
 
-  -- a value that was last in a first part of what was written, behind enough finishes, may be told
+  -- a value that was last in a first part of what was written, after enough finishes, may be told
   pub may_be_told : (h : List Event) → WasLast (written p h s) dump.1 least value → MayDump p h s dump value
   may_be_told [] was =
       let none : take was.length (written p [] s) ≡ written p [] s = ap (take was.length) (written_none p s) ∙ take_none was.length ∙ sym (written_none p s) in

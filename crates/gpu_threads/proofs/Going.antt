@@ -141,7 +141,7 @@ module _ (c : ClientData) (planned : List (ℕ × ℕ)) (position flushed room :
       ∙ ap (λ (k : ℕ). dumps_to c.pass.done c.pass.plan.dumps ++ option_to_list (due_in (slice_get c.pass.plan.dumps (length (dumps_to c.pass.done c.pass.plan.dumps))) k)) is.counted.place
       ∙ sym next
 
-  -- an action was done, behind which a dump may be due
+  -- an action was done, after which a dump may be due
   pub went : (new : seen.ClientData) (due : Option (ℕ × ℕ)) (answer : Acted) → Acts c.pass new answer → counts answer ≡ 1 → due ≡ due_in (slice_get planned (length c.dumps)) position
       → IsClient (record c { pass = new; due = due }) planned (position + 1) flushed room
   went new due answer acts one due_is' =

@@ -163,7 +163,7 @@ one_more plans plan old new stream word queue client side writer taker book numb
       blank = subst (All IsFresh) (sym pushed.books) (All-push IsFresh old.books.items book was.blank made.blank);
     }
 
--- its number is that behind the plans before it
+-- its number is that after the plans before it
 pub take_number : (plans : List PlanData) (k : ℕ) (plan : PlanData) → slice_get plans (k + 1 - 1) ≡ Some plan → k + 1 ≡ length (take k plans) + 1
 take_number plans k plan e =
     let same : k + 1 - 1 ≡ k = omega arith in

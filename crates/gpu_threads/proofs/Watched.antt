@@ -1,4 +1,4 @@
--- What a viewer has seen once it was told of all versions.
+-- What a viewer has seen once it heard of all versions.
 use Rattle.std.proofs.Common.{◌≡◌, ℕ, ◌+◌, ◌-◌, ◌<◌, ◌≤◌, Option, Some, List, [], ◌∷◌, ◌++◌, length, map, get_or, sym, ap, subst, ◌∙◌, arith}
 use Rattle.std.specs.Prelude.{slice_get, option_map, IfSome}
 use Rattle.std.specs.List.{All}
@@ -46,7 +46,7 @@ module _ (shown : ShownData) (was now : ViewerData) (watched : length was.looks 
   last_is : (d : Sight) → get_or now.looks 16 d ≡ its
   last_is d = ap (λ (l : List Sight). get_or l 16 d) looked.looks ∙ ap (λ (k : ℕ). get_or (was.looks ++ its ∷ []) k d) (sym watched) ∙ get_or-append_seam was.looks its [] d
 
-  -- it is of a version that was told, and of none before the last one
+  -- it is of a version that was reported, and of none before the last one
   is_told : IsOf saw.told.versions its
   is_told = subst (IsOf saw.told.versions) (last_is its) (saw.each 16 its (let n = seventeen in omega (arith, n)))
 

@@ -14,7 +14,7 @@ use Rattle.result_words.specs.Seen.{ReaderData}
 use Rattle.gpu_house.specs.Names.{table_at}
 use Rattle.gpu_run.specs.Clients.{flushes_to}
 
--- its stream, its pass, its end of the queue, a note that is still to be posted, its reader, the dump that it is to read next, and
+-- its stream, its pass, its end of the queue, a note that is still to be posted, its reader, the dump that it must read next, and
 -- what it has read: the action place, the result place and the value of each dump
 pub record ClientData : Type 0 where
   pub stream : ℕ
@@ -27,7 +27,7 @@ pub record ClientData : Type 0 where
 
 -- ---- flushes
 
--- the note is of the flush that is to be posted next, and with it all flushes that the pass has done are posted
+-- the note is of the flush that must be posted next, and with it all flushes that the pass has done are posted
 pub record IsHeld (pass : seen.ClientData) (poster : EndData) (note : NoteData) : Type 0 where
   pub next : note ≡ note_of poster
   pub there : poster.count < flushes poster.plan.actions

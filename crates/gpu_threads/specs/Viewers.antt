@@ -11,7 +11,7 @@ abbrev pub view_in : Option WriterData → Book
 view_in None = no_view
 view_in (Some writer) = writer.view
 
--- there are so many viewers that have not looked, all of one view, and where there is a writer it is of this view and has published
+-- a given number of viewers has not looked, all of one view, and where there is a writer it is of this view and has published
 -- the first version alone
 pub record AreFreshViews (count : ℕ) (views : Views) : Type 0 where
   pub writer : IfSome views.writer (IsFreshView (view_in views.writer))

@@ -16,7 +16,7 @@ use Rattle.gpu_hall.specs.Views.{ShowAll, ShownData}
 
 -- ---- what comes of a run
 
--- the looks of one viewer: there are 17; each is of so many first events of the journal; the number of events does not fall from look to
+-- the looks of one viewer: there are 17; each is of a prefix of the journal; the number of events does not fall from look to
 -- look; and the last look is of all events
 pub record AreViewerLooks (p : PlansData) (h : List Event) (looks : List Look) : Type 0 where
   pub count : length looks ≡ 17
@@ -24,7 +24,7 @@ pub record AreViewerLooks (p : PlansData) (h : List Event) (looks : List Look) :
   pub rising : IsNonDecreasingBy (λ look. look.events) looks
   pub last : option_map (λ (look : Look). look.events) (slice_get looks 16) ≡ Some (length h)
 
--- there are so many viewers, and these are the looks of each, in order
+-- a given number of viewers, and these are the looks of each, in order
 pub record AreAllLooks (p : PlansData) (h : List Event) (viewers : ℕ) (all : List (Vec Look Global)) : Type 0 where
   pub many : length all ≡ viewers
   pub each : All (λ looks. AreViewerLooks p h looks.items) all
@@ -59,12 +59,12 @@ pub record HasLooked (old new : ViewerData) : Type 0 where
 
 -- ---- the end
 
--- the view was told
+-- the view was reported
 pub record IsTold (shown : ShownData) (told : FrontData) : Type 0 where
   pub its : shown.view ≡ Some told
   pub all : ShowAll shown.plans shown.past told.versions
 
--- each look of the viewer was at a version that was told
+-- each look of the viewer was at a version that was reported
 pub record SawTold (shown : ShownData) (viewer : ViewerData) : Type 0 where
   pub told : FrontData
   pub is_told : IsTold shown told

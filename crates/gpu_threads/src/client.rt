@@ -21,8 +21,8 @@ use std::sync::Wait;
 /// The client of one stream, on a thread of its own: it does the actions of its plan, posts its flushes to the queue of the stream, and
 /// reads its dumps in the result words.
 ///
-/// Seen as its stream, its pass, its end of the queue, the note that its queue did not take, its reader, the dump that it is
-/// to read next, and the dumps that it has read.
+/// Seen as its stream, its pass, its end of the queue, the note that its queue did not take, its reader, the dump that
+/// it must read next, and the dumps that it has read.
 #[derive(Drop)]
 pub struct Client {
     stream: u32,
@@ -194,6 +194,11 @@ impl Client {
         }
     }
 
+    /// Whether its next action is an await of a token.
+    pub(crate) fn awaits_token(&self) -> bool {
+        self.pass.awaits_token()
+    }
+
     /// Whether it has read all dumps of its plan.
     pub(crate) fn is_whole(&self) -> bool
         ensures { IsTrue result → IsWhole self.now }
@@ -245,7 +250,7 @@ impl Client {
         Act::Went
     }
 
-    // Does the next action. Behind an await a dump may be due. The gate is told of a flush before it is made.
+    // Does the next action. After an await a dump may be due. The gate hears of a flush before it is made.
     fn go<R: Wait, G: Gate>(
         &mut self,
         rt: &R,
@@ -288,8 +293,8 @@ impl Client {
         }
     }
 
-    /// One action, with no lock: a note that is held is posted, a dump that is due is read, or else the next action is done. At most one
-    /// of the first two is to be done, since no action comes before it.
+    /// One action, with no lock: a note that is held is posted, a dump that is due is read, or else the next action is
+    /// done. At most one of the first two is due, since no action comes before it.
     pub(crate) fn act<R: Wait, G: Gate>(
         &mut self,
         rt: &R,

@@ -9,7 +9,7 @@ use result_words::{ResultReader, ResultWords, ResultWriter};
 use shm_words::{Note, ServicePass, SharedWords};
 
 /// The service's side of one stream over words that it shares with its client, with result words beside them: what its steps write is
-/// written there, and its finishes are counted there before the client is told of them.
+/// written there, and its finishes are counted there before the client hears of them.
 #[derive(Drop)]
 pub struct FullPass {
     /// The service's pass over the shared words.

@@ -1,4 +1,51 @@
 //! Runs of whole scripts on threads: a client for each stream, workers, and viewers.
+//!
+//! What the contracts say:
+//! - `run_threads` runs any script with 1 to 8 workers and up to 4 viewers. On Ok:
+//!   - the journal of the report is legal (`legal`) and complete (`complete`);
+//!   - the report has the plans and the base of the callback's marks;
+//!   - beside it is what the client of each stream read: one value for each dump of its plan, or none where the stream is
+//!     lost.
+//! - Each value may be told of its dump (`dumps`). It is that of its result place after a prefix of the journal. In that
+//!   prefix at least as many flushes of the stream are finished as stand before the dump. That it was read while the run
+//!   went on no clause says.
+//! - Each viewer has 17 looks (`looks`). Each tells a number of first events of the journal and the sum of all texels that
+//!   these leave. The number does not fall from look to look, and the last look is of all events.
+//! - `client_turn` gives back a client of the same stream, words, plan, queue and result words. Its answers:
+//!   - Went only where it did one action, posted the flush that it held, or read the dump that was due;
+//!   - Waiting only where its await did not pass, it holds a flush that the queue did not take, too few finishes were
+//!     counted for the dump that is due, or it stands at its Close;
+//!   - Ended only where no action is left, or where it could not go on.
+//! - Of a queue that did not take a flush the clause says that there are 16 notes in it, the latest posted. It uses the
+//!   library's word `Held` and names no moment.
+//!
+//! Notes:
+//! - No clause says which locks a turn takes, that `run_threads` returns, or that it uses threads. The last two are only
+//!   tested. `serve_turn` answers Ran or NothingRunnable, which no clause ties to a cause.
+//! - `Run::holds` shows which tables a run is of, when it comes out of the lock. `NamedSide` says that whoever has words of
+//!   these tables at hand may fetch and publish there.
+//! - A dump is due once its await has passed, and no action comes before it. `read` gives its value once enough finishes
+//!   are counted, and the client keeps it in a list.
+//! - Clients and viewers lie in slices, and threads change them in place, so all of them are there when the threads are
+//!   done.
+//! - When the threads are done, nothing is known of the hall but its type. That is enough: the journal is legal, and
+//!   `play_left` goes on until no stream is open and each client has read all its dumps or its stream is lost. Then the
+//!   hall takes the readers back (`all_read`).
+//! - A thread that serves publishes under the lock that its finish or loss is under, and tells the gate of a finish
+//!   afterwards, when its next run may be in its hand.
+//! - No clause says that a thread gets on, so none speaks of bells. A lost ring costs a short nap, and after a few naps for
+//!   nothing a thread serves whoever else does.
+//! - At the end the hall is shown. Each viewer then learns, looks once more, and learns again until the answer is that all
+//!   its looks were at published versions.
+//! - Awaits pass by the finish that is published, and dumps by the one that is counted in the result words, which comes
+//!   first. No clause ties the two words. So a dump whose await has passed may find too few: `Unread`.
+//! - The list of workers alone takes memory: `Memory` is answered where it is refused. A viewer's list has its room before
+//!   any thread starts, so no look needs memory.
+//! - A client's note is posted in the turn that makes it. Only one for which the queue had no room waits for the next turn.
+//! - After the joins each client has a turn in every round. A stream that is lost prints no dumps, whatever its client has
+//!   read.
+//! - Looks come before the dumps in the answer, in the order of the viewers. No clause says which number of a flush the
+//!   gate hears: a gate changes nothing of a run.
 #![tactic(auto)]
 
 mod bell;

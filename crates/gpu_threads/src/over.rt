@@ -1,6 +1,6 @@
 //! Whether something is left to do.
-ghost use Rattle.std.specs.Prelude.{◌≡◌, ◌≢◌, length, IsTrue};
-ghost use Rattle.sync_core.specs.Standing.{IsKnown};
+ghost use Rattle.std.specs.Prelude.{◌≡◌, ◌≢◌, length, not, IsTrue};
+ghost use Rattle.sync_core.specs.Standing.{IsKnown, is_open};
 ghost use Rattle.gpu_journal.specs.Waits.{standing_of};
 ghost use Rattle.gpu_journal.specs.Complete.{IsComplete};
 ghost use Rattle.gpu_house.specs.Ending.{doing_of};
@@ -12,7 +12,7 @@ use wait_hooks::Hook;
 // Whether nothing is left to do for a stream.
 fn is_over<N: Naming, P: NamedSide, H: Hook>(hall: &Hall<N, P, H>, stream: u32) -> bool
     requires { IsKnown (length N.plans.plans) stream }
-    ensures { IsTrue result → doing_of N.plans hall.now stream ≢ Doing.Open }
+    ensures { IsTrue result → doing_of N.plans hall.now.past stream ≢ Doing.Open }
 {
     match hall.state(stream) {
         Doing::Open => false,
@@ -25,7 +25,7 @@ fn is_over<N: Naming, P: NamedSide, H: Hook>(hall: &Hall<N, P, H>, stream: u32) 
 /// Whether nothing is left to do for any stream.
 #[tactic(auto, using(crate::proofs::Complete::complete, crate::proofs::Complete::one_more_over))]
 pub(crate) fn all_over<N: Naming, P: NamedSide, H: Hook>(hall: &Hall<N, P, H>) -> bool
-    ensures { IsTrue result → IsComplete N.plans hall.now }
+    ensures { IsTrue result → IsComplete N.plans hall.now.past }
 {
     for stream in 1..=hall.count() {
         if !is_over(hall, stream) {
@@ -36,8 +36,10 @@ pub(crate) fn all_over<N: Naming, P: NamedSide, H: Hook>(hall: &Hall<N, P, H>) -
 }
 
 /// Whether a stream is lost or closed.
+#[tactic(auto, using(crate::proofs::Told::gone_lost, crate::proofs::Told::gone_open, crate::proofs::Told::gone_done, crate::proofs::Told::gone_closed))]
 pub(crate) fn is_gone<N: Naming, P: NamedSide, H: Hook>(hall: &Hall<N, P, H>, stream: u32) -> bool
     requires { IsKnown (length N.plans.plans) stream }
+    ensures { result ≡ not (is_open (standing_of N.plans hall.now.past stream)) }
 {
     match hall.state(stream) {
         Doing::Open => false,
@@ -51,7 +53,7 @@ pub(crate) fn is_gone<N: Naming, P: NamedSide, H: Hook>(hall: &Hall<N, P, H>, st
 #[tactic(auto, using(crate::proofs::Told::when_lost, crate::proofs::Told::when_open, crate::proofs::Told::when_done, crate::proofs::Told::when_closed))]
 pub(crate) fn is_lost<N: Naming, P: NamedSide, H: Hook>(hall: &Hall<N, P, H>, stream: u32) -> bool
     requires { IsKnown (length N.plans.plans) stream }
-    ensures { result ≡ (standing_of N.plans hall.now stream).lost }
+    ensures { result ≡ (standing_of N.plans hall.now.past stream).lost }
 {
     match hall.state(stream) {
         Doing::Open => false,

@@ -36,7 +36,7 @@ fn result_places(plan: &Plan) -> u32
 }
 
 impl Parts {
-    // Those of no stream, with room for so many.
+    // Those of no stream, with room for a given number.
     fn none(alloc: Global, streams: usize) -> Result<Parts, Memory>
         ensures { IfOk result (AreFreshFor []) }
     {

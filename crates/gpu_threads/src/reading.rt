@@ -25,7 +25,7 @@ use wait_hooks::Hook;
 // Whether a client has read all its dumps, or its stream is lost.
 fn is_through<N: Naming, H: Hook>(hall: &Hall<N, FullPass, H>, client: &Client) -> bool
     requires { IsKnown (length N.plans.plans) client.now.stream }
-    ensures { IsTrue result → IsThrough N.plans hall.now client.now }
+    ensures { IsTrue result → IsThrough N.plans hall.now.past client.now }
 {
     if is_lost(hall, client.stream()) {
         return true;
@@ -39,7 +39,7 @@ pub(crate) fn all_through<N: Naming, H: Hook>(
     clients: &[Client],
 ) -> bool
     requires { AreClientsOf N.plans N.words N.result_words N.queues clients.now }
-    ensures { IsTrue result → All (IsThrough N.plans hall.now) clients.now }
+    ensures { IsTrue result → All (IsThrough N.plans hall.now.past) clients.now }
 {
     for client in clients {
         if !is_through(hall, client) {
@@ -58,10 +58,10 @@ fn read_of<N: Naming, H: Hook>(
 ) -> Dumps
     requires client { IsClientOf N.plans N.words N.result_words N.queues client }
     requires words { AreWordsOf of_tables N.plans N.words N.result_words words.now }
-    requires through { IsThrough N.plans hall.old client }
+    requires through { IsThrough N.plans hall.old.past client }
     ensures same { hall.new ≡ hall.old }
-    ensures read { AreRead N.plans hall.old client.stream
-        (dumps_of N.plans hall.old client.stream) result }
+    ensures read { AreRead N.plans hall.old.past client.stream
+        (dumps_of N.plans hall.old.past client.stream) result }
 {
     let stream = client.stream();
     let lost = is_lost(hall, stream);
@@ -87,10 +87,10 @@ pub(crate) fn all_read<N: Naming, H: Hook>(
     clients: Vec<Client>,
 ) -> Result<Vec<Dumps>, Memory>
     requires clients { AreClientsOf N.plans N.words N.result_words N.queues clients.items }
-    requires through { All (IsThrough N.plans hall.old) clients.items }
+    requires through { All (IsThrough N.plans hall.old.past) clients.items }
     requires words { AreWordsOf of_tables N.plans N.words N.result_words words.now }
     ensures same { hall.new ≡ hall.old }
-    ensures read { IfOk result (λ all. AreAllRead N.plans hall.old (streams_of N.plans) all.items) }
+    ensures read { IfOk result (λ all. AreAllRead N.plans hall.old.past (streams_of N.plans) all.items) }
 {
     let mut all = Vec::with_capacity(alloc, clients.len())?;
     for client in clients {

@@ -63,8 +63,8 @@ fn turn_each<N: Naming, H: Hook, R: Wait, G: Gate>(
 // Whether nothing is left to do: no stream is open, and each client is through.
 fn all_done<N: Naming, H: Hook>(hall: &Hall<N, FullPass, H>, clients: &[Client]) -> bool
     requires { AreClientsOf N.plans N.words N.result_words N.queues clients.now }
-    ensures over { IsTrue result → IsComplete N.plans hall.now }
-    ensures through { IsTrue result → All (IsThrough N.plans hall.now) clients.now }
+    ensures over { IsTrue result → IsComplete N.plans hall.now.past }
+    ensures through { IsTrue result → All (IsThrough N.plans hall.now.past) clients.now }
 {
     if !all_over(hall) {
         return false;
@@ -84,9 +84,9 @@ fn play_left<N: Naming, H: Hook, R: Wait, G: Gate>(
 ) -> Hall<N, FullPass, H>
     requires clients { AreClientsOf N.plans N.words N.result_words N.queues clients.old }
     requires shared { AreShared N.plans N.words N.result_words N.queues words.now queues.now }
-    ensures complete { IsComplete N.plans result }
+    ensures complete { IsComplete N.plans result.past }
     ensures clients { AreClientsOf N.plans N.words N.result_words N.queues clients.new }
-    ensures through { All (IsThrough N.plans result) clients.new }
+    ensures through { All (IsThrough N.plans result.past) clients.new }
 {
     let mut hall = hall;
     for _ in rt.forever() {

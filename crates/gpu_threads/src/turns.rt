@@ -95,10 +95,11 @@ pub(crate) fn turn<N: Naming, P: NamedSide, H: Hook, R: Wait, G: Gate>(
     }
 }
 
-/// One action of a client, the post of the flush that it holds, or the read of the dump that is due. A note for which the queue has no
-/// room is held, and posted first in the next turn; a dump that could not be read stays due, and no action comes before it. The lock is
-/// taken only where the client cannot go on, to ask what its stream is doing, and at its Close, where the flushes of all queues are
-/// ordered and the stream is closed.
+/// One action of a client, the post of the flush that it holds, or the read of the dump that is due:
+/// - a note for which the queue has no room is held, and posted first in the next turn
+/// - a dump that could not be read stays due, and no action comes before it
+/// - where the client cannot go on, the lock is taken to ask what its stream is doing
+/// - at its Close the lock is taken to order the flushes of all queues and to close the stream
 pub fn client_turn<N: Naming, P: NamedSide, H: Hook, R: Wait, G: Gate>(
     rt: &R,
     client: Client,

@@ -167,9 +167,9 @@ pub(crate) fn show_all<N: Naming, P: NamedSide, H: Hook, R: Wait>(
     requires { All (HasWatched N.view 16) watches.items }
     ensures plans { IfOk result (λ ended. ended.0.plans ≡ N.plans) }
     ensures base { IfOk result (λ ended. ended.0.base ≡ N.base) }
-    ensures past { IfOk result (λ ended. ended.0.past ≡ hall) }
+    ensures past { IfOk result (λ ended. ended.0.past ≡ hall.past) }
     ensures looks { IfOk result
-        (λ ended. AreAllLooks N.plans hall (length watches.items) ended.1.items) }
+        (λ ended. AreAllLooks N.plans hall.past (length watches.items) ended.1.items) }
 {
     let Ok(seen) = Vec::with_capacity(alloc, watches.len()) else {
         hall.end(rt);

@@ -83,7 +83,7 @@ impl Watch {
         }
     }
 
-    /// Takes in what the writer told, and says whether all looks were at versions that were told.
+    /// Takes in what the writer told, and says whether all looks were at versions that were reported.
     pub(crate) fn learn<R: Wait>(&mut self, rt: &R, told: Told) -> bool
         requires { told.view ≡ self.old.view }
         ensures view { self.new.view ≡ self.old.view }

@@ -29,7 +29,7 @@ steps_order p (words ∷ more) h = steps_order p more (Step 1 words ∷ h) ∙ s
 loss_orders : (p : PlansData) (h g : List Event) (s : ℕ) (why : Why) (words : List (ℕ × ℕ)) → s ≡ 1 → g ≡ Lost s why words ∷ h → ordered p g ≡ ordered p h
 loss_orders p h g s why words one past = ap (ordered p) (past ∙ ap (λ (t : ℕ). Lost t why words ∷ h) one) ∙ ap (λ (k : Known). k.ordered) (known_lost p h 1 why words)
 
--- a loss for want of memory orders nothing, nor does what comes too late
+-- a loss as out of memory orders nothing, nor does what comes too late
 pub lose_orders : (p : PlansData) (h g : List Event) (s : ℕ) (stays : Bool) → s ≡ 1 → (stays ≡ true → g ≡ Lost s Memory [] ∷ h) → (stays ≡ false → g ≡ h) → ordered p g ≡ ordered p h
 lose_orders p h g s true one event over = loss_orders p h g s Memory [] one (event refl)
 lose_orders p h g s false one event over = ap (ordered p) (over refl)

@@ -49,7 +49,7 @@ first_plan p plan e = sym (get_or_from_slice_get p.plans 0 plan no_plan e)
 pub fresh_sides : {Side : Type 0} (seen : Side → SideData) (table : Side → TableId) (p : PlansData) (words : List TableId) (side : Side) → length p.plans ≡ 1 → seen side ≡ fresh_side (plan_of p 1) → words ≡ table side ∷ [] → AreFreshSides seen table p.plans words (side ∷ [])
 fresh_sides seen table p words side one e w = (ap (λ (x : SideData). x ∷ []) e ∙ sym (ap (map fresh_side) (one_plan p one)), sym w)
 
--- results of which nothing is told are fresh
+-- results of which nothing is known are fresh
 pub fresh_results : (p : PlansData) (tables : ℕ → TableId) → length p.plans ≡ 1
     → AreFreshResults (λ (results : Unit {0}) (place : ℕ). true) (λ (results : Unit {0}). None) (λ (results : Unit {0}) (table : TableId). Unit {0}) tables 1 p.plans (tt ∷ [])
 fresh_results p tables one =

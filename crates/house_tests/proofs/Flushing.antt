@@ -21,7 +21,7 @@ next_flush xs k a put fences got is = subst (λ (o : Option Action). IsSomeAnd o
 pub next_put : (xs : List Action) (k : ℕ) (a : Action) (place value : ℕ) → slice_get xs k ≡ Some a → a ≡ Put place value → IsNext IsPut xs k
 next_put xs k a place value got is = subst (λ (o : Option Action). IsSomeAnd o IsPut) (sym got) (subst IsPut (sym is) tt)
 
--- there is a flush behind those before it
+-- there is a flush after those before it
 pub flush_left : (plan : PlanData) (done n : ℕ) → n ≡ flushes (take done plan.actions) → IsNext IsFlush plan.actions done → n < flushes plan.actions
 flush_left plan done n e next =
     let more = flush_counts plan.actions done next in

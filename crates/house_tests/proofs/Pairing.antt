@@ -31,7 +31,7 @@ two_of (x ∷ y ∷ z ∷ xs) e = absurd (omega (arith, e))
 two_plans : (p : PlansData) → length p.plans ≡ 2 → p.plans ≡ plan_of p 1 ∷ plan_of p 2 ∷ []
 two_plans p two = two_of p.plans two
 
--- results of which nothing is told are fresh
+-- results of which nothing is known are fresh
 pub pair_results : {Results : Type 0} (p : PlansData) (tables : ℕ → TableId) (a b : Results) → length p.plans ≡ 2
     → AreFreshResults (λ (results : Results) (place : ℕ). true) (λ (results : Results). None) (λ (results : Results) (table : TableId). Unit {0}) tables 1 p.plans (a ∷ b ∷ [])
 pair_results {Results} p tables a b two =

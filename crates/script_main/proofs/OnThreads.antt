@@ -16,6 +16,7 @@ use Rattle.run_output.specs.Runs.{OutputData, behind_text, run_text}
 use Rattle.gpu_threads.specs.Dumps.{AreRead, AreAllRead}
 use Rattle.gpu_threads.specs.Views.{AreAllLooks}
 use Rattle.script_main.specs.Runs.{IsViewedRun, IsOutput, run_ending}
+use Rattle.script_main.proofs.Endings.{none_lost}
 
 -- the text of what was read of some dumps of a stream is one that may be told of them
 reads_are_told : (p : PlansData) (h : List Event) (s : ℕ) (dumps : List (ℕ × ℕ)) (reads : List (ℕ × ℕ × ℕ)) → AreRead p h s dumps reads → AreDumps p h s dumps (flat_map (dump_read_text s) reads)
@@ -45,8 +46,8 @@ length_all p h (s ∷ streams) (reads ∷ more) are = ap suc (length_all p h str
 pub length_all_read : (p : PlansData) (h : List Event) (all : List (List (ℕ × ℕ × ℕ))) → AreAllRead p h (streams_of p) all → length all ≡ length p.plans
 length_all_read p h all are = length_all p h (streams_of p) all are ∙ length-range_with_len 1 (length p.plans)
 
--- the text of a run whose history is legal and complete, with what its clients have read and its viewers have seen behind it, is its
--- output by the rule of threads
+-- the text of a run whose history is legal and complete, with what its clients have read and its viewers have seen after
+-- it, is its output by the rule of threads
 pub threads_output : (p : PlansData) (base viewers : ℕ) (run : OutputData) → run.report.plans ≡ p → run.report.base ≡ base → IsLegal p run.report.past → IsComplete p run.report.past → AreAllRead p run.report.past (streams_of p) run.dumps
     → AreAllLooks p run.report.past viewers run.looks → IsOutput (IsViewedRun viewers) p base (run_ending (reverse run.report.past)) (run_text run)
 threads_output p base viewers run plans based legal complete are looks =
@@ -60,7 +61,7 @@ threads_output p base viewers run plans based legal complete are looks =
       ran = record {
         dumps = dumps;
         views = views;
-        run = record { legal = legal; complete = complete; dumped = all_are_told p run.report.past 1 (length p.plans) run.dumps are };
+        run = record { legal = legal; complete = complete; dumped = all_are_told p run.report.past 1 (length p.plans) run.dumps are; kept = none_lost run.report.past };
         seen = record { looks = run.looks; seen = looks; are = refl };
         are = refl;
       };

@@ -23,11 +23,11 @@ digit_in least most _ = None
 abbrev pub workers_in : List ℕ → Option ℕ
 workers_in = digit_in 48 56
 
--- what stands behind `--workers=` in a word
+-- what stands after `--workers=` in a word
 abbrev pub behind_equals : List ℕ → Option (List ℕ)
 behind_equals word = if bytes_eq (take 10 word) (codes "--workers=") then Some (drop 10 word) else None
 
--- a run with so many workers; with none it is on one thread
+-- a run with a given number of workers; with none it is on one thread
 abbrev pub run_with : ℕ → Command
 run_with workers = if workers == 0 then Run else RunOnThreads workers 0
 
@@ -35,7 +35,7 @@ run_with workers = if workers == 0 then Run else RunOnThreads workers 0
 abbrev pub views_in : List ℕ → Option ℕ
 views_in = digit_in 49 52
 
--- a run with so many workers and viewers, where both are there; without workers there are no viewers
+-- a run with a given number of workers and viewers, where both are there; without workers there are no viewers
 abbrev pub viewed_with : Option ℕ → Option ℕ → Option Command
 viewed_with (Some workers) (Some views) = if workers == 0 then None else Some (RunOnThreads workers views)
 viewed_with _ _ = None
@@ -52,7 +52,7 @@ abbrev pub of_two : List ℕ → List ℕ → Option Command
 of_two name word =
     if bytes_eq name (codes "run") then option_map run_with (option_and_then workers_in (behind_equals word)) else None
 
--- two words behind `run`: `--workers N`
+-- two words after `run`: `--workers N`
 abbrev pub of_workers : List ℕ → List ℕ → Option Command
 of_workers first second =
     if bytes_eq first (codes "--workers") then option_map run_with (workers_in second) else None
@@ -65,7 +65,7 @@ of_three name first second =
     else (if bytes_eq name (codes "trial") then with_both Trial (sized (decimal_of first)) (decimal_of second)
     else None))
 
--- four words behind `run`: `--workers N --views V`
+-- four words after `run`: `--workers N --views V`
 abbrev pub of_views : List ℕ → List ℕ → List ℕ → List ℕ → Option Command
 of_views first second third fourth =
     if bytes_eq first (codes "--workers") && bytes_eq third (codes "--views") then viewed_with (workers_in second) (views_in fourth)

@@ -2,7 +2,7 @@
 use Rattle.std.specs.Prelude.{ℕ, List, ◌++◌, length, codes, decimal}
 use Rattle.gpu_plan.specs.Plans.{PlansData, actions_in, flushes_in}
 
--- a number behind what it counts
+-- a number after what it counts
 abbrev pub counted : List ℕ → ℕ → List ℕ
 counted what number = what ++ decimal number
 

@@ -22,24 +22,38 @@ use Rattle.run_output.specs.Parts.{view_texts}
 use Rattle.script_main.specs.declared.status.Status.{Status}
 use Rattle.script_main.specs.declared.status.Status.TheVariants as status
 
--- a rule of runs: to which histories these plans may be run, and which lines may stand behind the output then
+-- a rule of runs: to which histories these plans may be run, and which lines may stand after the output then
 abbrev pub RunRule : Type 1
 RunRule = PlansData → List Event → List ℕ → Type 0
 
--- the rule of threads: the history is any that is legal and complete, and the lines are those of the dumps, each of which
--- may be told: it is of a prefix that has as many finishes of its stream as flushes stand before it, or more
+-- the event is a loss by an error
+abbrev pub is_error_loss : Event → Bool
+is_error_loss (Lost s (Error error) words) = true
+is_error_loss _ = false
+
+-- how a run ends that prints these events: whether a stream is lost as out of memory, or else by an error
+abbrev pub run_ending : List Event → Status
+run_ending events =
+    if list_any wants_memory events then status.MemoryLost
+    else (if list_any is_error_loss events then status.SomeLost else status.Ok)
+
+-- the rule of threads:
+-- - the history is any that is legal and complete
+-- - the lines are those of the dumps, each of a prefix with at least as many finishes of its stream as flushes before it
+-- - a run that does not end as one that lost a stream as out of memory lost none so
 pub record IsRun (p : PlansData) (history : List Event) (dumps : List ℕ) : Type 0 where
   pub legal : IsLegal p history
   pub complete : IsComplete p history
   pub dumped : AreDumpLines p history dumps
+  pub kept : (run_ending (reverse history) ≡ status.MemoryLost → ⊥) → All (λ event. wants_memory event ≡ false) history
 
--- these are lines of looks: 17 for each of so many viewers, in order
+-- these are lines of looks: 17 for each viewer, in order
 pub record AreViewLines (p : PlansData) (history : List Event) (viewers : ℕ) (lines : List ℕ) : Type 0 where
   pub looks : List (Vec Look Global)
   pub seen : AreAllLooks p history viewers looks
   pub are : lines ≡ concat (view_texts 1 looks)
 
--- the rule of threads with so many viewers: it is such a run, and behind the lines of its dumps are those of looks
+-- the rule of threads with viewers: it is such a run, and after the lines of its dumps come those of looks
 pub record IsViewedRun (viewers : ℕ) (p : PlansData) (history : List Event) (behind : List ℕ) : Type 0 where
   pub dumps : List ℕ
   pub views : List ℕ
@@ -47,7 +61,7 @@ pub record IsViewedRun (viewers : ℕ) (p : PlansData) (history : List Event) (b
   pub seen : AreViewLines p history viewers views
   pub are : behind ≡ dumps ++ views
 
--- the rule of one thread: it is such a run, and its history is the serial one, which loses no stream for want of memory;
+-- the rule of one thread: it is such a run, its history is the serial one, which loses no stream as out of memory, and
 -- so are the dumps
 pub record IsSerialRun (p : PlansData) (history : List Event) (dumps : List ℕ) : Type 0 where
   pub run : IsRun p history dumps
@@ -55,18 +69,7 @@ pub record IsSerialRun (p : PlansData) (history : List Event) (dumps : List ℕ)
   pub kept : All (λ event. wants_memory event ≡ false) history
   pub read : dumps ≡ dump_lines p history
 
--- the event is a loss by an error
-abbrev pub is_error_loss : Event → Bool
-is_error_loss (Lost s (Error error) words) = true
-is_error_loss _ = false
-
--- how a run ends that prints these events: whether a stream is lost for want of memory, or else by an error
-abbrev pub run_ending : List Event → Status
-run_ending events =
-    if list_any wants_memory events then status.MemoryLost
-    else (if list_any is_error_loss events then status.SomeLost else status.Ok)
-
--- the text is the output of a run of these plans by a rule, with its marks over a base, and the lines behind it
+-- the text is the output of a run of these plans by a rule, with its marks over a base, and the lines after it
 pub record IsOutput (Ran : RunRule) (p : PlansData) (base : ℕ) (ending : Status) (text : List ℕ) : Type 0 where
   pub history : List Event
   pub behind : List ℕ

@@ -27,7 +27,7 @@ abbrev pub script_by : Command → List ℕ → Result PlansData (ℕ × Kind)
 script_by Verify input = script_in input
 script_by command input = script_of input
 
--- the line of a right journal of so many events
+-- the line of a right journal of a given number of events
 abbrev pub yes_line : ℕ → List ℕ
 yes_line events = codes "yes events " ++ decimal events ++ codes "\n"
 
@@ -37,7 +37,7 @@ IsYesText input text =
     (images : Pictures) × (events : ℕ) × IsRight input images events × (text ≡ yes_line events ++ picture_text images)
 
 -- a command that ends so writes this text of an input, with the marks of a run over a base; the run goes by the rule of one
--- thread, or by that of threads with so many viewers
+-- thread, or by that of threads with a given number of viewers
 abbrev pub Writes : Command → ℕ → List ℕ → Status → List ℕ → Type 0
 Writes Run base input ending text =
     (p : PlansData) × (script_of input ≡ Ok p) × IsOutput IsSerialRun p base ending text

@@ -1,4 +1,4 @@
--- The statuses: their numbers, what people are told of them, and which speak of an input.
+-- The statuses: their numbers, what people hear of them, and which speak of an input.
 use Rattle.std.specs.Prelude.{ℕ, Bool, true, false, Option, Some, None}
 use Rattle.script_main.specs.declared.status.Status.{Status}
 use Rattle.script_main.specs.declared.status.Status.TheVariants as status

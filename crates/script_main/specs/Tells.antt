@@ -23,14 +23,14 @@ pub record Tells (words : Option Command) (base : ℕ) (left left_then : Option 
   pub taken : Takes (reads words) left left_then input
   pub said : Says command base input ending text
 
--- a text that is told was written
+-- a text that is known was written
 pub record HasTold (words : Option Command) (base : ℕ) (left left_then : Option (List ℕ))
     (ending : Status) (written written_then : Option (List ℕ)) : Type 0 where
   pub text : List ℕ
   pub told : Tells words base left left_then ending text
   pub appended : Appends written written_then text
 
--- a front was written of a text that is told with a status that writes
+-- a front was written of a text that goes with a status that writes
 pub record HasBegun (words : Option Command) (base : ℕ) (left left_then : Option (List ℕ))
     (written written_then : Option (List ℕ)) : Type 0 where
   pub ending : Status
@@ -39,12 +39,12 @@ pub record HasBegun (words : Option Command) (base : ℕ) (left left_then : Opti
   pub told : Tells words base left left_then ending text
   pub begun : AppendsFront written written_then text
 
--- the input that a command will take, where that is told
+-- the input that a command will take, where that is known
 abbrev pub held : Bool → Option (List ℕ) → Option (List ℕ)
 held true left = left
 held false left = Some []
 
--- what a command may answer to an input where no fault rises: what it says, that the input is too long, or want of
+-- what a command may answer to an input where no fault rises: what it says, that the input is too long, or out of
 -- memory
 abbrev pub IsAnswer : Command → ℕ → List ℕ → Status → Type 0
 IsAnswer command base input ending =

@@ -37,7 +37,7 @@ fn is_error_loss(event: &Event) -> bool
     )
 }
 
-// Whether an event is a loss for want of memory.
+// Whether an event is a loss as out of memory.
 fn wants_memory(event: &Event) -> bool
     ensures { result ≡ wants_memory event.now }
 {
@@ -57,7 +57,7 @@ fn has_error_loss(events: &[Event]) -> bool
     events.iter().any(is_error_loss)
 }
 
-// Whether one of the events is a loss for want of memory.
+// Whether one of the events is a loss as out of memory.
 fn has_memory_loss(events: &[Event]) -> bool
     ensures { result ≡ list_any wants_memory events.now }
 {

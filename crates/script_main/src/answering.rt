@@ -95,7 +95,7 @@ fn trial_line<H: Hook>(alloc: Global, size: u32, seed: u32, hook: H) -> Result<V
     text
 }
 
-// The line of a right journal of so many events.
+// The line of a right journal of a given number of events.
 fn yes_line(alloc: Global, events: u32) -> Result<Vec<u8>, Memory>
     ensures { IfOk result (λ text. text.items ≡ yes_line events) }
 {

@@ -102,7 +102,7 @@ fn workers_in(word: &[u8]) -> Option<u32>
     digit_in(word, b'0', b'8')
 }
 
-// What stands behind `--workers=` in a word.
+// What stands after `--workers=` in a word.
 fn behind_equals(word: &[u8]) -> Option<&[u8]>
     ensures { option_map (λ rest. rest.now) result ≡ behind_equals word.now }
 {

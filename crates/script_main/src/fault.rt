@@ -32,7 +32,7 @@ pub(crate) enum Fault {
     NoJournal { line: u32 },
 }
 
-/// What there is to tell of a status.
+/// What a status says.
 pub(crate) fn fault_of(status: Status) -> Option<Fault>
     ensures { result ≡ fault_of status }
 {

@@ -1,4 +1,31 @@
 //! The program: it does what its words ask for, from standard input to standard output.
+//!
+//! `top`, the program over any source and sink, and `plain_top`, the program on one thread, say in the same 11 clauses what
+//! each command says of its input.
+//!
+//! What the contracts say:
+//! - `run`: the input is a script. The output of a legal and complete history of it was added, then lines that may be told
+//!   of its dumps, and with viewers the 17 lines of each. Without workers that history is the serial one, which has no loss
+//!   as out of memory, and the dump lines are those of that history.
+//! - MemoryLost comes exactly where a stream of the history is lost as out of memory, and else SomeLost exactly where one
+//!   is lost by an error.
+//! - `check` adds the line of the counts, `generate` the generated script, and `trial` the line of its serial history.
+//! - `verify`: on Ok the input is a script and a legal and complete journal of it, and the number of its events and its
+//!   images were added. No, NotComplete and NoJournal come only where that is the verdict on it.
+//! - After WriteFault a prefix of that text stands. Each other status but NoMemory comes only with its cause, Refused with
+//!   the first bad line and its first kind. All of these leave the sink alone.
+//! - Where the source tells its bytes, clause `complete` says which answer they have.
+//! - `is_plain` says exactly which words are for `plain_top`, which takes no handle, so it always returns.
+//! - A run that does not end with MemoryLost lost no stream as out of memory: field `kept` of `IsRun`.
+//! - `run_on`, the program over any source and sink, says so with marks over the base 1000: `usage`, `said` and `front`.
+//! - Law: runs on threads that print the same have the same history, whatever was read and seen during them.
+//!
+//! Notes:
+//! - Words that are not UTF-8 are a bad command line. Where memory runs out while the command line is read, that is the
+//!   answer.
+//! - Standard error gets one line, and nothing where all went well. The name of a kind in a refusal is that of the variant
+//!   of `Kind`.
+//! - With `verify` the lines before the line `journal` are the script, and else all of them.
 #![tactic(auto)]
 
 ghost use Rattle.std.specs.Prelude.{◌≡◌, ◌↔◌, None, true, map, string_bytes};
@@ -12,6 +39,7 @@ mod command;
 mod counts;
 mod fault;
 mod input;
+mod laws;
 mod on_threads;
 mod plain;
 mod program;
@@ -43,8 +71,8 @@ fn words_of(rt: &HostRuntime) -> io::Result<Vec<String>> {
     Ok(words)
 }
 
-// The program over a source and a sink, with marks over its base.
-fn run_on<S: Source, K: Sink, R: Threads + Wait + Sync>(
+/// The program over any source and any sink, with marks over its base.
+pub fn run_on<S: Source, K: Sink, R: Threads + Wait + Sync>(
     rt: &R,
     alloc: Global,
     words: &[String],

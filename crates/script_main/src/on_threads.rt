@@ -43,7 +43,7 @@ fn run_plans<H: Hook + Send, G: Gate + Sync, R: Threads + Wait + Sync>(
     RunOutput::make(alloc, report, dumps, looks)
 }
 
-// What `run` says of an input with so many workers and viewers.
+// What `run` says of an input with a given number of workers and viewers.
 fn run_answer<H: Hook + Send, G: Gate + Sync, R: Threads + Wait + Sync>(
     rt: &R,
     alloc: Global,

@@ -17,9 +17,12 @@ use wait_hooks::Hook;
 
 /// The program on one thread: it does what its words ask for.
 ///
-/// `run` reads a script, runs it by the rule for one thread, and writes the output; `check` writes how much a script
-/// has; `generate` writes a script, and `trial` one line of what comes of such a script; `verify` judges a journal;
-/// every other list of words is refused. It takes no Wait, and always returns.
+/// Does what the words say. It takes no Wait, and always returns.
+/// - `run` reads a script, runs it by the rule for one thread, and writes the output.
+/// - `check` writes how much a script has.
+/// - `generate` writes a script, and `trial` one line of what comes of such a script.
+/// - `verify` judges a journal.
+/// - Every other list of words is refused.
 ///
 /// It is for plain words; those of a run on threads are for `top`.
 #[tactic(auto, using(crate::proofs::Endings::said_speaks))]
@@ -36,7 +39,7 @@ pub fn plain_top<S: Source, K: Sink, H: Hook>(
     ensures unread { reads (command_of (map string_bytes words.now)) ≡ false
         → source.new ≡ source.old }
 
-    // What is answered of the input, and all that was written.
+    // The answer for the input, and all that was written.
     ensures said { speaks result ≡ true
         → HasTold (command_of (map string_bytes words.now)) (H.base hook)
         (S.left source.old) (S.left source.new) result (K.written sink.old) (K.written sink.new) }
@@ -62,7 +65,7 @@ pub fn plain_top<S: Source, K: Sink, H: Hook>(
     ensures only { (result ≡ Status.TooLong) ⊎ (result ≡ Status.ReadFault)
         → reads (command_of (map string_bytes words.now)) ≡ true }
 
-    // Where the input is told and no fault rises, the answer is the one that the input has, but for want of memory.
+    // Where the input is known and no fault rises, the answer is the one that the input has, or out of memory.
     ensures complete { (command : Command) → (input : List ℕ)
         → command_of (map string_bytes words.now) ≡ Some command
         → held (reads (Some command)) (S.left source.old) ≡ Some input

@@ -19,10 +19,11 @@ use wait_hooks::Hook;
 
 /// The program: it does what its words ask for, on threads where they say so.
 ///
-/// For plain words it does what `plain_top` does, and each clause says what that of `plain_top` says. `run` with 1 to 8
-/// workers runs the script on threads, the clients of the streams, the workers and the viewers side by side, and writes the
-/// output of one history, which is legal and complete; which one that is may differ from run to run. Behind it are 17 lines
-/// for each viewer. It may wait.
+/// For plain words it does what `plain_top` does, and each clause says what that of `plain_top` says. It may wait.
+/// - `run` with 1 to 8 workers runs the script on threads: the clients of the streams, the workers and the viewers side by
+///   side.
+/// - It writes the output of one history, which is legal and complete. Which one that is may differ from run to run.
+/// - After it are 17 lines for each viewer.
 #[tactic(auto, using(crate::proofs::Endings::said_speaks))]
 pub fn top<S: Source, K: Sink, G: Gate + Sync, H: Hook + Send, R: Threads + Wait + Sync>(
     rt: &R,
@@ -37,7 +38,7 @@ pub fn top<S: Source, K: Sink, G: Gate + Sync, H: Hook + Send, R: Threads + Wait
     ensures unread { reads (command_of (map string_bytes words.now)) ≡ false
         → source.new ≡ source.old }
 
-    // What is answered of the input, and all that was written.
+    // The answer for the input, and all that was written.
     ensures said { speaks result ≡ true
         → HasTold (command_of (map string_bytes words.now)) (H.base hook)
         (S.left source.old) (S.left source.new) result (K.written sink.old) (K.written sink.new) }
@@ -63,7 +64,7 @@ pub fn top<S: Source, K: Sink, G: Gate + Sync, H: Hook + Send, R: Threads + Wait
     ensures only { (result ≡ Status.TooLong) ⊎ (result ≡ Status.ReadFault)
         → reads (command_of (map string_bytes words.now)) ≡ true }
 
-    // Where the input is told and no fault rises, the answer is the one that the input has, but for want of memory.
+    // Where the input is known and no fault rises, the answer is the one that the input has, or out of memory.
     ensures complete { (command : Command) → (input : List ℕ)
         → command_of (map string_bytes words.now) ≡ Some command
         → held (reads (Some command)) (S.left source.old) ≡ Some input

@@ -18,17 +18,17 @@ pub enum Status {
     WriteFault,
     /// The input is no script: its first bad line, counted from 1, with its first kind; nothing was written.
     Refused { line: u32, kind: Kind },
-    /// Memory was wanted; nothing was written.
+    /// Memory ran out; nothing was written.
     NoMemory,
     /// The input is longer than 16,777,216 bytes; nothing was written.
     TooLong,
-    /// The script was run and all of its output written, in which a stream is lost for want of memory.
+    /// The script was run and all of its output written, in which a stream is lost as out of memory.
     MemoryLost,
     /// The journal is not legal: the first event that breaks a rule, counted from 1, and the least rule that it breaks.
     No { event: u32, rule: u32 },
     /// The journal is legal, and not complete.
     NotComplete,
-    /// No journal stands behind the script: the first line that is none, counted from 1.
+    /// No journal stands after the script: the first line that is none, counted from 1.
     NoJournal { line: u32 },
 }
 

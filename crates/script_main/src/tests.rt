@@ -329,7 +329,7 @@ fn a_failing_source_ends_verify(rt: HostRuntime) -> Result<(), Fail> {
     Ok(())
 }
 
-// How `verify` ends on a script of one flush and what stands behind it. Nothing is written.
+// How `verify` ends on a script of one flush and what stands after it. Nothing is written.
 fn verified(alloc: Global, behind: &[u8]) -> Result<Status, Fail> {
     let mut text = Vec::from_slice(alloc, ONE_FLUSH)?;
     text.extend_from_slice(behind)?;

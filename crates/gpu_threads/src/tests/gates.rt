@@ -19,7 +19,7 @@ pub(super) fn value_of(count: &AtomicU64) -> u64 {
     count.load(Ordering::SeqCst)
 }
 
-// Holds a thread until a place was reached, or for so many turns.
+// Holds a thread until a place was reached, or for a given number of turns.
 pub(super) fn hold_until(reached: &AtomicU64, late: &AtomicU64) {
     for _ in 0..TURNS {
         if value_of(reached) > 0 {

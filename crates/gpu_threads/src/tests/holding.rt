@@ -3,6 +3,8 @@ ghost use Rattle.std.specs.Prelude.{◌≡◌};
 ghost use Rattle.gpu_journal.specs.Legal.{IsLegal};
 ghost use Rattle.house_core.specs.Core.{names_of};
 ghost use Rattle.gpu_house.specs.Waiting.{HaveTargets, FormNoCycle};
+ghost use Rattle.gpu_house.specs.Stuck.{IsNotStuck};
+ghost use Rattle.gpu_hall.specs.Outs.{NoneIsPaused};
 ghost use Rattle.gpu_threads.specs.Clients.{AreClientsOf};
 ghost use Rattle.gpu_threads.specs.Making.{AreFreshFor};
 ghost use Rattle.gpu_threads.specs.Rows.{AreShared, shared_in, results_in};
@@ -28,9 +30,11 @@ use wait_hooks::{Hook, Marker};
 
 // A call that may be made of a hall alone of which the first half of the headline holds.
 fn wants_the_headline<N: Naming, P: NamedSide, H: Hook>(hall: &Hall<N, P, H>) -> u32
-    requires legal { IsLegal N.plans hall.now }
-    requires targets { HaveTargets N.plans hall.now }
-    requires no_cycle { FormNoCycle N.plans hall.now }
+    requires legal { IsLegal N.plans hall.now.past }
+    requires targets { HaveTargets N.plans hall.now.past }
+    requires no_cycle { FormNoCycle N.plans hall.now.past }
+    requires stuck { IsNotStuck N.plans hall.now.past hall.now.outs }
+    requires going { NoneIsPaused hall.now.outs }
 {
     hall.count()
 }
@@ -44,7 +48,8 @@ fn look<N: Naming, P: NamedSide, H: Hook, R: Wait>(rt: &R, hall: &Mutex<Hall<N, 
     count
 }
 
-// Plays each client to its end, one after the other, and looks at the hall behind each. Whether there were two streams each time.
+// Plays each client to its end, one after the other, and looks at the hall after each. Says whether there were two
+// streams each time.
 fn look_between<N: Naming, R: Wait>(
     rt: &R,
     hall: &Mutex<Hall<N, FullPass, Marker>>,

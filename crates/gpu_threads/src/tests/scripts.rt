@@ -92,7 +92,7 @@ pub(crate) fn plans_of(alloc: Global, script: &str) -> Result<Plans, Fail> {
     Ok(parse(alloc, script.as_bytes()).ok().ok_or("a script")?)
 }
 
-// What a run of a script with so many workers leaves, where a gate leads it.
+// What a run of a script with a given number of workers leaves, where a gate leads it.
 pub(crate) fn led<G: Gate + Sync, R: Threads + Wait + Sync>(
     rt: &R,
     alloc: Global,
@@ -104,7 +104,7 @@ pub(crate) fn led<G: Gate + Sync, R: Threads + Wait + Sync>(
     Ok(report)
 }
 
-// The same with so many viewers, and what each of them saw.
+// The same with a given number of viewers, and what each of them saw.
 pub(crate) fn viewed<G: Gate + Sync, R: Threads + Wait + Sync>(
     rt: &R,
     alloc: Global,

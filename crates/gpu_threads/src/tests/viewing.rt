@@ -28,7 +28,7 @@ impl Gate for ReadBack {
     }
 }
 
-// The second look is one of the first upload: what was finished is published before the gate is told of it.
+// The second look is one of the first upload: what was finished is published before the gate hears of it.
 #[test]
 fn a_finished_order_is_seen_during_the_run(rt: HostRuntime) -> Result<(), Fail> {
     let gate = ReadBack {

@@ -22,7 +22,7 @@ put 2 1 1 1
 flush 5
 ";
 
-// A script with a flush of these entries behind so many Noops.
+// A script with a flush of these entries after a given number of Noops.
 fn flush_of(alloc: Global, noops: usize, entries: &str, count: usize) -> Result<String, Fail> {
     let mut text = String::from_str(alloc, "gpu-script 1\nstream 1 normal 128\nput 0")?;
     for _noop in 0..noops {
@@ -34,7 +34,7 @@ fn flush_of(alloc: Global, noops: usize, entries: &str, count: usize) -> Result<
     Ok(text)
 }
 
-// Whether batches were of these sizes, and drew so many operations.
+// Whether batches were of these sizes, and drew a given number of operations.
 fn were_taken(pace: &Pace, sizes: &[usize], draws: usize) -> bool {
     match pace {
         Pace::Single => false,
@@ -45,8 +45,8 @@ fn were_taken(pace: &Pace, sizes: &[usize], draws: usize) -> bool {
     }
 }
 
-// Whether a flush over stirred words is taken in batches of these sizes, which draw so many operations, with the output that the same
-// commands give one by one.
+// Whether a flush over stirred words is taken in batches of these sizes, which draw a given number of operations, with
+// the output that the same commands give one by one.
 fn is_stirred_in(alloc: Global, script: &str, sizes: &[usize], draws: usize) -> Result<bool, Fail> {
     let one_by_one = stirred(alloc, script, &[], &mut Pace::Single)?;
     let mut pace = Pace::batched(alloc);

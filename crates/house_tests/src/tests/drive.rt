@@ -17,7 +17,7 @@ use wait_hooks::Hook;
 /// A flush of these tests has fewer commands.
 const MOST_TURNS: u32 = 80;
 
-/// How a run takes the commands of its flush, and what is told of that.
+/// How a run takes the commands of its flush.
 #[derive(Drop)]
 pub enum Pace {
     /// One by one.
@@ -80,8 +80,15 @@ fn turn<N: Naming, P: ServiceSide, H: Hook>(
         house.finish(run, words);
         return Ok(None);
     }
-    let fetched = run.fetch(words)?;
-    match house.step(&mut run, words, fetched)?.into_next() {
+    let Ok(fetched) = run.fetch(words) else {
+        house.lose(run);
+        return Err(Memory);
+    };
+    let Ok(progress) = house.step(&mut run, words, fetched) else {
+        house.lose(run);
+        return Err(Memory);
+    };
+    match progress.into_next() {
         Next::More => Ok(Some(run)),
         Next::FlushEnd => Ok(Some(run)),
         _ => {
@@ -110,9 +117,18 @@ fn turn_batch<N: Naming, P: ServiceSide, H: Hook>(
         house.finish(run, words);
         return Ok(None);
     }
-    let batch = run.fetch_batch(words)?;
-    sizes.push(batch.members().len())?;
-    let next = house.step_batch(&mut run, words, batch, drawn)?;
+    let Ok(batch) = run.fetch_batch(words) else {
+        house.lose(run);
+        return Err(Memory);
+    };
+    if sizes.push(batch.members().len()).is_err() {
+        house.lose(run);
+        return Err(Memory);
+    }
+    let Ok(next) = house.step_batch(&mut run, words, batch, drawn) else {
+        house.lose(run);
+        return Err(Memory);
+    };
     match next {
         Next::More => Ok(Some(run)),
         Next::FlushEnd => Ok(Some(run)),
@@ -163,6 +179,7 @@ fn run_out<N: Naming, P: ServiceSide, H: Hook>(
             None => return Ok(()),
         }
     }
+    house.lose(out);
     Err("a short flush".into())
 }
 
@@ -184,6 +201,7 @@ pub fn run<N: Naming, P: ServiceSide, H: Hook>(
         None => return Ok(false),
     };
     if run.stream() != 1 {
+        house.lose(run);
         return Err("one stream".into());
     }
     run_out(house, words, run, pace)?;

@@ -35,7 +35,7 @@ stream 2 normal 16
 flush 0 1 5
 ";
 
-/// What happens where stream 1 is lost for want of memory.
+/// What happens where stream 1 is lost as out of memory.
 const LOST: &str = "order 1 1 0
 order 2 2 0
 lost 1 memory
@@ -280,6 +280,7 @@ fn lose_run<N: Naming, P: ServiceSide, H: Hook>(
         None => return Err("a run".into()),
     };
     if run.stream() != 1 {
+        house.lose(run);
         return Err("stream 1 first".into());
     }
     house.lose(run);
@@ -324,9 +325,11 @@ fn finish_second<N: Naming, P: ServiceSide, H: Hook>(
         None => return Err("a run".into()),
     };
     if run.stream() != 2 {
+        house.lose(run);
         return Err("stream 2 next".into());
     }
     if !run.at_end() {
+        house.lose(run);
         return Err("an empty flush".into());
     }
     house.finish(run, words);

@@ -30,7 +30,7 @@ put 13 20c00009 1 0 0 1 1 1 0 0
 flush 22
 ";
 
-/// What is printed of it.
+/// Its output.
 const TWO_UPLOADED: &str = "order 1 1 14
 step 1 0:20400004 1:00000001 2:00000001 3:00000001
 step 1 4:20c00009 5:00000001 6:00000000 7:00000000 8:00000001 9:00000001 10:00000001 11:00000000 12:00000000 32:44332211
@@ -178,7 +178,7 @@ fn a_write_is_read_back(rt: HostRuntime) -> Result<(), Fail> {
     Ok(())
 }
 
-/// The puts up to the first flush, and the await behind it, which does not pass yet.
+/// The puts up to the first flush, and the await after it, which does not pass yet.
 const FIRST_ACTS: &[Acted] = &[
     Acted::Stored,
     Acted::Stored,

@@ -193,7 +193,7 @@ struct BothAtOnce {
     late: AtomicU64,
 }
 
-// Notes that a place was reached, and holds a thread there until the other was, or for so many turns.
+// Notes that a place was reached, and holds a thread there until the other was, or for a given number of turns.
 fn meet(mine: &AtomicU64, other: &AtomicU64, late: &AtomicU64) {
     let _ = mine.fetch_add(1, Ordering::SeqCst);
     for _ in 0..TURNS {

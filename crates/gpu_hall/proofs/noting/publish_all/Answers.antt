@@ -1,7 +1,7 @@
 use Rattle.std.proofs.Common.{◌≡◌, List, length, reverse, ap, ◌∙◌}
 use Rattle.std.proofs.lemmas.List.{length-reverse}
 use Rattle.gpu_journal.specs.declared.event.Event.{Event}
-use Rattle.gpu_hall.proofs.Viewed.{view_published, all_shown}
+use Rattle.gpu_hall.proofs.Viewed.{view_published, all_shown, err_first}
 use Rattle.gpu_hall.proofs.noting.publish_all.Goals as goal
 
 -- the number of a journal's events in order is that of its history
@@ -22,3 +22,9 @@ returns-clause-all g c =
     let h = c.args.house.now.core.past in
     let count = count_of c.events-count.result.now c.journal.result.now.events h c.events-count.ensures c.journal.ensures.past in
     all_shown N.plans N.view h (length c.events-count.result.now) c.args.writer.now c.publish.new.self count c.requires.fits c.publish.ensures.view c.publish.result c.publish.ensures.versions
+
+pub returns-clause-stays : goal.returns-clause-stays
+returns-clause-stays g c =
+    let old = c.args.writer.now in
+    let new = c.publish.new.self in
+    err_first (new.versions ≡ old.versions) (new.images ≡ old.images) (new.noted ≡ old.noted) c.publish.result c.publish.ensures.kept

@@ -13,7 +13,7 @@ use Rattle.gpu_run.proofs.acting.act_once.Given.{Over}
 use Rattle.gpu_run.proofs.acting.act_once.Goals.{After-act, After-passes}
 use Rattle.gpu_run.proofs.acting.act_once.Goals as goal
 
--- what is known before the action, of the client as it was or as it has read
+-- the facts before the action, of the client as it was or as it has read
 ready : (g : Over) (c : After-passes g) (client : ClientData) → client.words ≡ (get_or c.args.clients.now (c.args.stream - 1) c.index-clients-stream.result).words
     → Ready g.N.Naming.plans c.args.house.now c.args.clients.now c.args.stream c.finishes-finishes.result c.greatest-token.result c.plan-plan.result.now client
 ready g c client same =
@@ -33,7 +33,7 @@ returns-then-not-passes-clause-acts g c =
 pub act-requires-clause-plan : goal.act-requires-clause-plan
 act-requires-clause-plan g c = ready_plan _ _ _ _ _ _ _ _ (ready g (goal.at.act-requires-clause-plan g c).After-passes c.read.new.self c.in_ok-read.ensures.words)
 
--- ---- the client has acted, once what is known before of it as it has read is given
+-- ---- the client has acted, once the facts before that, as it has read, are given
 
 module _ (g : Over) (c : After-act g) (r : Ready g.N.Naming.plans c.args.house.now c.args.clients.now c.args.stream c.finishes-finishes.result c.greatest-token.result c.plan-plan.result.now c.read.new.self) where
   -- the action passes still

@@ -3,7 +3,7 @@ use Rattle.stream_state.specs.State.{result_of}
 use Rattle.gpu_run.specs.Reading.{read_left}
 use Rattle.gpu_run.proofs.reading.read_left.Given as goal
 
--- what is read and what is left are the same in all
+-- the part read and the rest are the same in all
 abbrev pub invariant-loop-dump : goal.invariant-loop-dump
 invariant-loop-dump l = l.dumps ++ read_left l.planned l.dumps (result_of l.state) ≡ l.initial.dumps ++ read_left l.planned l.initial.dumps (result_of l.state)
 

@@ -21,7 +21,7 @@ pub loop-house-smaller : goal.loop-house-smaller
 loop-house-smaller g c =
     let p = g.N.Naming.plans in
     let i = c.loop-house.invariant in
-    let e = c.in_ok-turn.ensures in
+    let e = c.in-Ok.ensures in
     let t = ran p c.loop-house.house.core.past c.turn.new.house.core.past (done_at c.args.clients.now) c.loop-house.out.run.stream e.event i.played i.running i.out.is_known i.chosen in
     fewer p c.loop-house.house.core.past c.turn.new.house.core.past c.requires.lawful t.played (one_longer _ _ _ e.event)
 
@@ -31,13 +31,13 @@ loop-house-preserved g c =
     let h = c.loop-house.house.core.past in
     let s = c.loop-house.out.run.stream in
     let i = c.loop-house.invariant in
-    let e = c.in_ok-turn.ensures in
+    let e = c.in-Ok.ensures in
     let t = ran p h c.turn.new.house.core.past (done_at c.args.clients.now) s e.event i.played i.running i.out.is_known i.chosen in
     let l = one_longer _ _ _ e.event in
-    let m = t.going (sym e.goes ∙ c.if-not-branch.false) in
+    let m = t.going (sym e.goes ∙ c.if-not-went.false) in
     record {
       played = t.played;
-      out = e.on c.if-not-branch.false;
+      out = e.on c.if-not-went.false;
       read = found_after p h c.turn.new.house.core.past c.args.clients.now s e.event (there_of p h (done_at c.args.clients.now) s c.requires.lawful i.played i.running i.out.is_known i.runs) i.read;
       running = m.0;
       chosen = m.1 ∙ ap Some (sym e.same);
@@ -53,20 +53,20 @@ out-back g c =
     let h = c.loop-house.house.core.past in
     let s = c.loop-house.out.run.stream in
     let i = c.loop-house.invariant in
-    let e = c.in_ok-turn.ensures in
-    run_out p h c.back.new.self.core.past c.args.clients.now s c.requires.lawful i.played i.running i.out.is_known i.chosen i.runs i.read (c.back.ensures.past ∙ e.event) (sym c.if-not-branch.true ∙ e.goes ∙ ap (λ (x : List Event). goes_on p x s) (sym c.back.ensures.past))
+    let e = c.in-Ok.ensures in
+    run_out p h c.back.new.self.core.past c.args.clients.now s c.requires.lawful i.played i.running i.out.is_known i.chosen i.runs i.read (c.back.ensures.past ∙ e.event) (sym c.if-not-went.true ∙ e.goes ∙ ap (λ (x : List Event). goes_on p x s) (sym c.back.ensures.past))
 
-pub returns-then-not-branch-clause-played : goal.returns-then-not-branch-clause-played
-returns-then-not-branch-clause-played g c = (out-back g c).played
+pub returns-then-not-went-clause-played : goal.returns-then-not-went-clause-played
+returns-then-not-went-clause-played g c = (out-back g c).played
 
-pub returns-then-not-branch-clause-served : goal.returns-then-not-branch-clause-served
-returns-then-not-branch-clause-served g c = c.in_ok-turn.ensures.home c.back.new.self record { past = c.back.ensures.past; outs = c.back.ensures.outs; slots = c.back.ensures.slots }
+pub returns-then-not-went-clause-served : goal.returns-then-not-went-clause-served
+returns-then-not-went-clause-served g c = c.in-Ok.ensures.home c.back.new.self record { past = c.back.ensures.past; outs = c.back.ensures.outs; slots = c.back.ensures.slots }
 
-pub returns-then-not-branch-clause-read : goal.returns-then-not-branch-clause-read
-returns-then-not-branch-clause-read g c = (out-back g c).read
+pub returns-then-not-went-clause-read : goal.returns-then-not-went-clause-read
+returns-then-not-went-clause-read g c = (out-back g c).read
 
-pub returns-then-not-branch-clause-running : goal.returns-then-not-branch-clause-running
-returns-then-not-branch-clause-running g c = (out-back g c).running
+pub returns-then-not-went-clause-running : goal.returns-then-not-went-clause-running
+returns-then-not-went-clause-running g c = (out-back g c).running
 
 -- ---- a run that is finished
 

@@ -4,6 +4,7 @@ use Rattle.std.proofs.lemmas.List.{length_push}
 use Rattle.std.proofs.lemmas.List.Elements.{All-head, All-tail}
 use Rattle.gpu_journal.specs.declared.event.Event.{Event}
 use Rattle.gpu_journal.specs.Dumps.{dumps_of}
+use Rattle.gpu_hall.specs.Halls.{HallData}
 use Rattle.gpu_threads.specs.Clients.{AreClientsFrom}
 use Rattle.gpu_threads.specs.Dumps.{AreRead, AreAllRead, IsThrough}
 use Rattle.gpu_threads.proofs.Crew.{head_at, tail_from}
@@ -26,9 +27,9 @@ loop-client-init g c =
     record {
       same = refl;
       left = subst (λ (s : ℕ). AreClientsFrom p N.words N.result_words N.queues s c.into_iter-client-iterator.result.rest.items) first (subst (AreClientsFrom p N.words N.result_words N.queues 1) is c.requires.clients.each);
-      through = subst (All (IsThrough p c.args.hall.now)) is c.requires.through;
+      through = subst (All (IsThrough p c.args.hall.now.past)) is c.requires.through;
       many = omega (arith, zero, count, many);
-      done = subst (λ (all : List (List (ℕ × ℕ × ℕ))). AreAllRead p c.args.hall.now (range_with_len 1 (length all)) all) (sym none) tt;
+      done = subst (λ (all : List (List (ℕ × ℕ × ℕ))). AreAllRead p c.args.hall.now.past (range_with_len 1 (length all)) all) (sym none) tt;
     }
 
 pub read_of-requires : goal.read_of-requires
@@ -43,14 +44,14 @@ read_of-requires g c =
     record {
       client = (head_at N.plans N.words N.result_words N.queues s before rest client left i.left).its;
       words = c.requires.words;
-      through = All-head (IsThrough N.plans c.loop-client.hall) client rest (subst (All (IsThrough N.plans c.loop-client.hall)) left i.through);
+      through = All-head (IsThrough N.plans c.loop-client.hall.past) client rest (subst (All (IsThrough N.plans c.loop-client.hall.past)) left i.through);
     }
 
 pub loop-client-preserved : goal.loop-client-preserved
 loop-client-preserved g c =
     let N = g.N.Naming in
     let p = N.plans in
-    let h = c.loop-client.hall in
+    let h = c.loop-client.hall.past in
     let i = c.loop-client.invariant in
     let n = length c.loop-client.all.items in
     let before = c.loop-client.client-iterator.rest.items in
@@ -61,7 +62,8 @@ loop-client-preserved g c =
     let now = c.push.new.self.items in
     let pushed = c.in_ok-push.ensures.items in
     let longer : length now ≡ n + 1 = one_longer c.loop-client.all.items now reads pushed in
-    let same : c.read_of.new.hall ≡ h = c.read_of.ensures.same in
+    let same = c.read_of.ensures.same in
+    let past = ap (λ (d : HallData). d.past) same in
     let at = head_at p N.words N.result_words N.queues (suc n) before rest client left i.left in
     let place : client.stream ≡ 1 + n = (let stream = at.stream in omega (arith, stream)) in
     let next : suc (suc n) ≡ suc (length now) = omega (arith, longer) in
@@ -71,9 +73,9 @@ loop-client-preserved g c =
     record {
       same = same ∙ i.same;
       left = subst (λ (s : ℕ). AreClientsFrom p N.words N.result_words N.queues s rest) next (tail_from p N.words N.result_words N.queues (suc n) before rest client left i.left);
-      through = subst (λ (h : List Event). All (IsThrough p h) rest) (sym same) (All-tail (IsThrough p h) client rest (subst (All (IsThrough p h)) left i.through));
+      through = subst (λ (h : List Event). All (IsThrough p h) rest) (sym past) (All-tail (IsThrough p h) client rest (subst (All (IsThrough p h)) left i.through));
       many = omega (arith, many, less, longer);
-      done = subst (λ (h : List Event). AreAllRead p h (range_with_len 1 (length now)) now) (sym same) (subst (λ (k : ℕ). AreAllRead p h (range_with_len 1 k) now) (sym longer) done);
+      done = subst (λ (h : List Event). AreAllRead p h (range_with_len 1 (length now)) now) (sym past) (subst (λ (k : ℕ). AreAllRead p h (range_with_len 1 k) now) (sym longer) done);
     }
 
 pub returns-clause-read : goal.returns-clause-read
@@ -85,4 +87,4 @@ returns-clause-read g c =
     let none = c.in-None.ensures.steps.0 in
     let many = i.many in
     let count : length all ≡ length p.plans = omega (arith, none, many) in
-    subst (λ (h : List Event). AreAllRead p h (range_with_len 1 (length p.plans)) all) i.same (subst (λ (k : ℕ). AreAllRead p c.loop-client.hall (range_with_len 1 k) all) count i.done)
+    subst (λ (d : HallData). AreAllRead p d.past (range_with_len 1 (length p.plans)) all) i.same (subst (λ (k : ℕ). AreAllRead p c.loop-client.hall.past (range_with_len 1 k) all) count i.done)

@@ -7,7 +7,7 @@ use Rattle.gpu_threads.proofs.reading.read_of.Goals as goal
 pub returns-then-lost-clause-read : goal.returns-then-lost-clause-read
 returns-then-lost-clause-read g c =
     let p = g.N.Naming.plans in
-    let h = c.args.hall.now in
+    let h = c.args.hall.now.past in
     let s = c.args.client.stream in
     let gone : (standing_of p h s).lost ≡ true = cc in
     none_read p h s c.clear.new.self gone c.clear.ensures
@@ -15,7 +15,7 @@ returns-then-lost-clause-read g c =
 pub returns-clause-read : goal.returns-clause-read
 returns-clause-read g c =
     let p = g.N.Naming.plans in
-    let h = c.args.hall.now in
+    let h = c.args.hall.now.past in
     let s = c.args.client.stream in
     let plan = c.args.client.pass.plan in
     let reads = c.of-dumps.result in

@@ -22,7 +22,7 @@ all_read-requires-clause-through g c =
     let many = c.play_left-hall.ensures.clients.many in
     let was = c.requires.clients.many in
     let long = c.args.clients.ok in
-    subst (All (IsThrough N.plans c.play_left-hall.result)) (sym (whole c.args.clients.len new (drop (length new) c.args.clients.items) (omega (arith, many, was, long)))) c.play_left-hall.ensures.through
+    subst (All (IsThrough N.plans c.play_left-hall.result.past)) (sym (whole c.args.clients.len new (drop (length new) c.args.clients.items) (omega (arith, many, was, long)))) c.play_left-hall.ensures.through
 
 pub all_read-requires-clause-words : goal.all_read-requires-clause-words
 all_read-requires-clause-words g c =

@@ -8,7 +8,7 @@ use Rattle.gpu_threads.specs.Views.{IsTold, SawTold}
 use Rattle.gpu_threads.proofs.Watched.{all_seen}
 use Rattle.gpu_threads.proofs.views.look_last.Goals as goal
 
--- what was told after the last look is what was told before it, and no look came after it
+-- what was reported after the last look is what was reported before it, and no look came after it
 pub returns-clause-looks : goal.returns-clause-looks
 returns-clause-looks g c =
     let shown = c.args.shown.now in

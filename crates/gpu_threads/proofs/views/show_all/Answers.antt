@@ -16,12 +16,12 @@ loop-watch-init g c =
     let N = g.N.Naming in
     let is : c.args.watches.items ≡ c.into_iter-watch-iterator.result.rest.items = cc in
     let none : c.in-Ok.seen.items ≡ [] = c.in-Ok.ensures.items in
-    let have : Vec Look Global → Type 0 = λ looks. AreViewerLooks N.plans c.args.hall looks.items in
+    let have : Vec Look Global → Type 0 = λ looks. AreViewerLooks N.plans c.args.hall.past looks.items in
     record {
       plans = c.in_ok-shown.ensures.plans;
       base = c.in_ok-shown.ensures.base;
       past = c.in_ok-shown.ensures.past;
-      view = c.in_ok-shown.ensures.view;
+      view = c.in_ok-shown.ensures.named;
       left = subst (All (HasWatched N.view 16)) is c.requires;
       many = (let a = ap length is in let b = ap length none in omega (arith, a, b));
       room = (let a = c.in-Ok.ensures.capacity in let b = c.len.ensures in let d = c.args.watches.ok in omega (arith, a, b, d));
@@ -40,7 +40,7 @@ loop-watch-preserved g c =
     let same : c.look_last.new.shown ≡ c.loop-watch.shown = c.look_last.ensures.same in
     let pushed : c.push_reserved.new.self.items ≡ seen ++ looks ∷ [] = c.push_reserved.ensures.items in
     let all = subst (λ (h : List Event). AreViewerLooks N.plans h looks.items) was.past (subst (λ (p : PlansData). AreViewerLooks p c.loop-watch.shown.past looks.items) was.plans c.look_last.ensures.looks) in
-    let have : Vec Look Global → Type 0 = λ looks. AreViewerLooks N.plans c.args.hall looks.items in
+    let have : Vec Look Global → Type 0 = λ looks. AreViewerLooks N.plans c.args.hall.past looks.items in
     record {
       plans = ap (λ (s : ShownData). s.plans) same ∙ was.plans;
       base = ap (λ (s : ShownData). s.base) same ∙ was.base;

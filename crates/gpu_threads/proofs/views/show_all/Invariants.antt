@@ -9,10 +9,10 @@ abbrev pub invariant-loop-watch : goal.invariant-loop-watch
 invariant-loop-watch g l = record {
   plans : l.shown.plans ≡ g.N.Naming.plans;
   base : l.shown.base ≡ g.N.Naming.base;
-  past : l.shown.past ≡ l.fn.hall;
+  past : l.shown.past ≡ l.fn.hall.past;
   view : IfSome l.shown.view (λ told. told.view ≡ g.N.Naming.view);
   left : All (HasWatched g.N.Naming.view 16) l.watch-iterator.rest.items;
   many : length l.seen.items + length l.watch-iterator.rest.items ≡ length l.fn.watches.items;
   room : length l.fn.watches.items ≤ vec_capacity l.seen;
-  done : All (λ looks. AreViewerLooks g.N.Naming.plans l.fn.hall looks.items) l.seen.items;
+  done : All (λ looks. AreViewerLooks g.N.Naming.plans l.fn.hall.past looks.items) l.seen.items;
 }

@@ -1,21 +1,26 @@
-use Rattle.std.proofs.Common.{◌≡◌, ℕ, Option, List, [], length, refl, ap, subst, arith}
+use Rattle.std.proofs.Common.{◌≡◌, ℕ, false, Option, List, [], length, refl, ap, subst, ◌∙◌, arith}
+use Rattle.std.specs.Prelude.{option_map}
 use Rattle.std.proofs.lemmas.List.{length-map}
 use Rattle.live_view.specs.Seen.{WriterData}
 use Rattle.gpu_fetch.specs.Fetched.{FetchedData}
 use Rattle.shm_words.specs.Seen.{NoteData}
 use Rattle.sync_core.specs.Standing.{is_open}
-use Rattle.gpu_journal.specs.declared.event.Event.{Event}
 use Rattle.gpu_journal.specs.declared.event.Event.TheVariants.{Finish, Lost}
 use Rattle.gpu_journal.specs.declared.event.Why.TheVariants.{Memory}
 use Rattle.gpu_journal.specs.Waits.{standing_of}
 use Rattle.gpu_house.specs.declared.answers.Next.{Next}
 use Rattle.gpu_house.specs.Batches.{member_words}
-use Rattle.gpu_house.specs.Committing.{Stage, Commits}
-use Rattle.gpu_hall.specs.Views.{HasRoom, HasNoted, HallFits}
+use Rattle.gpu_house.specs.Committing.{Stage, GoneInPart, Commits}
+use Rattle.house_core.specs.Core.{with_out}
+use Rattle.house_core.specs.Desks.{Out, at_home}
+use Rattle.gpu_hall.specs.Outs.{NoneIsPaused}
+use Rattle.gpu_hall.specs.Views.{HasRoom, HasNoted, HallFits, front_of}
 use Rattle.gpu_hall.specs.Commits.{Return, CameHome}
+use Rattle.gpu_hall.specs.Halls.{HallData}
 use Rattle.gpu_hall.proofs.Fitting.{fits_same, fits_while, fits_room}
 use Rattle.gpu_hall.proofs.Committed.{lost_first, may_come_back, came_back, was_ended, was_wanted}
-use Rattle.gpu_hall.proofs.Viewed.{fewer}
+use Rattle.gpu_hall.proofs.Viewed.{fewer, seen_same, seen_noted}
+use Rattle.gpu_hall.proofs.Outs.{none_set, back_part, back_committed}
 use Rattle.gpu_hall.proofs.Batched.{Answers, few_ops, whole_texels, fits_batch}
 use Rattle.gpu_hall.proofs.hall.Hall.commit.Given.{Over}
 use Rattle.gpu_hall.proofs.hall.Hall.commit.Goals.{After-step_batch-answer}
@@ -29,8 +34,11 @@ invariant_of-self g c =
     let takers = c.self.inside.takers.items in
     let h = c.self.inside.house.core.past in
     let s = c.args.run.run.stream in
-    let roomy = fits_room N.plans N.words N.queues N.view takers h c.self.inside.view c.make_room.new.view c.make_room.ensures.same c.self.invariant in
-    fits_while N.plans N.words N.queues N.view takers c.make_room.new.view (Lost s Memory []) h c.lose.new.self.core.past (is_open (standing_of N.plans h s)) refl refl c.lose.ensures.event c.lose.ensures.over roomy
+    let roomy = fits_room N.plans N.words N.queues N.view takers h c.self.inside.view c.make_room.new.view c.make_room.ensures.same c.self.invariant.fits in
+    record {
+      fits = fits_while N.plans N.words N.queues N.view takers c.make_room.new.view (Lost s Memory []) h c.lose.new.self.core.past (is_open (standing_of N.plans h s)) refl refl c.lose.ensures.event c.lose.ensures.over roomy;
+      going = none_set c.self.inside.house.core.outs c.lose.new.self.core.outs s at_home c.lose.ensures.outs refl c.self.invariant.going;
+    }
 
 pub returns-then-not-make_room-clause-home : goal.returns-then-not-make_room-clause-home
 returns-then-not-make_room-clause-home g c =
@@ -38,12 +46,20 @@ returns-then-not-make_room-clause-home g c =
     let run = c.args.run.run in
     let h = c.self.inside.house.core.past in
     let now = c.lose.new.self.core.past in
-    subst (λ (h : List Event). (how : Return) × CameHome N.plans h now run.stream run.order (member_words c.args.batch) how) c.self.view_is
+    subst (λ (d : HallData). (how : Return) × CameHome N.plans d.past now run.stream run.order (member_words c.args.batch) how) c.self.view_is
     (lost_first N.plans h now run.stream run.order (member_words c.args.batch) (is_open (standing_of N.plans h run.stream)) refl c.lose.ensures.event c.lose.ensures.over)
+
+pub returns-then-not-make_room-clause-back : goal.returns-then-not-make_room-clause-back
+returns-then-not-make_room-clause-back g c =
+    c.lose.ensures.outs ∙ ap (λ (d : HallData). with_out d.outs c.args.run.run.stream at_home) c.self.view_is
+
+pub returns-then-not-make_room-clause-view : goal.returns-then-not-make_room-clause-view
+returns-then-not-make_room-clause-view g c =
+    seen_same c.self.inside.view c.make_room.new.view c.make_room.ensures.same ∙ ap (λ (d : HallData). d.view) c.self.view_is
 
 -- ---- the batch was committed
 
--- the house and the run before it and behind it, how it was answered, and that the hall fits once what was drawn is noted
+-- the house and the run before it and after it, how it was answered, and that the hall fits once what was drawn is noted
 module _ (g : Over) (c : After-step_batch-answer g) where
   abbrev members : List (List (ℕ × ℕ))
   members = member_words c.args.batch
@@ -64,8 +80,23 @@ module _ (g : Over) (c : After-step_batch-answer g) where
   fit view noted =
       let N = g.N.Naming in
       let takers = c.self.inside.takers.items in
-      let roomy = fits_room N.plans N.words N.queues N.view takers old.house.core.past c.self.inside.view c.make_room.new.view c.make_room.ensures.same c.self.invariant in
+      let roomy = fits_room N.plans N.words N.queues N.view takers old.house.core.past c.self.inside.view c.make_room.new.view c.make_room.ensures.same c.self.invariant.fits in
       fits_batch g.P.ServiceSide.side g.P.ServiceSide.mark N.plans old new members none c.step_batch-answer.ensures.draws N.words N.queues N.view takers c.make_room.new.view view c.step_batch-answer.result did noted roomy
+
+  -- the run that came home after some members, and after a batch that was answered
+  part_back : GoneInPart g.P.ServiceSide.side g.P.ServiceSide.mark g.N.Naming.plans old new members → (outs : List Out) → outs ≡ with_out new.house.core.outs new.out.run.stream at_home → outs ≡ with_out old.house.core.outs old.out.run.stream at_home
+  part_back part = back_part g.P.ServiceSide.side g.P.ServiceSide.mark g.N.Naming.plans old new members part
+
+  batch_back : (next : Next) → Commits g.P.ServiceSide.side g.P.ServiceSide.mark g.N.Naming.plans old new members next → (outs : List Out) → outs ≡ with_out new.house.core.outs new.out.run.stream at_home → outs ≡ with_out old.house.core.outs old.out.run.stream at_home
+  batch_back next done = back_committed g.P.ServiceSide.side g.P.ServiceSide.mark g.N.Naming.plans old new members next done
+
+  -- the view is seen as before
+  view_back : (view : Option WriterData) → HasNoted new.drawn c.make_room.new.view view → option_map front_of view ≡ option_map front_of c.self.inside.view
+  view_back view noted = seen_noted new.drawn c.make_room.new.view view noted ∙ seen_same c.self.inside.view c.make_room.new.view c.make_room.ensures.same
+
+  -- no run is paused once that of the batch is at home
+  back : (outs : List Out) → outs ≡ with_out old.house.core.outs old.out.run.stream at_home → NoneIsPaused outs
+  back outs home = none_set old.house.core.outs outs old.out.run.stream at_home home refl c.self.invariant.going
 
 pub note_all-requires-clause-room : goal.note_all-requires-clause-room
 note_all-requires-clause-room g c =
@@ -91,7 +122,10 @@ invariant_of-self-in_default g c =
     let b = (goal.at.invariant_of-self-in_default g c).After-step_batch-answer in
     let s = (new g b).out.run.stream in
     let h = (new g b).house.core.past in
-    fits_while N.plans N.words N.queues N.view c.self.inside.takers.items c.note_all.new.view (Lost s Memory []) h c.lose-in_default.new.self.core.past (is_open (standing_of N.plans h s)) refl refl c.lose-in_default.ensures.event c.lose-in_default.ensures.over (fit g b c.note_all.new.view c.note_all.ensures)
+    record {
+      fits = fits_while N.plans N.words N.queues N.view c.self.inside.takers.items c.note_all.new.view (Lost s Memory []) h c.lose-in_default.new.self.core.past (is_open (standing_of N.plans h s)) refl refl c.lose-in_default.ensures.event c.lose-in_default.ensures.over (fit g b c.note_all.new.view c.note_all.ensures);
+      going = back g b c.lose-in_default.new.self.core.outs (part_back g b c.in_default.ensures.err c.lose-in_default.new.self.core.outs c.lose-in_default.ensures.outs);
+    }
 
 pub returns-in_default-clause-home : goal.returns-in_default-clause-home
 returns-in_default-clause-home g c =
@@ -99,13 +133,44 @@ returns-in_default-clause-home g c =
     let S = g.P.ServiceSide in
     let run = c.args.run.run in
     let b = (goal.at.returns-in_default-clause-home g c).After-step_batch-answer in
-    subst (λ (h : List Event). (how : Return) × CameHome N.plans h c.lose-in_default.new.self.core.past run.stream run.order (members g b) how) c.self.view_is
+    subst (λ (d : HallData). (how : Return) × CameHome N.plans d.past c.lose-in_default.new.self.core.past run.stream run.order (members g b) how) c.self.view_is
     (was_wanted S.side S.mark N.plans (old g b) (new g b) (members g b) c.lose-in_default.new.self.core.past c.in_default.ensures.err c.lose-in_default.ensures.event c.lose-in_default.ensures.over)
+
+pub returns-in_default-clause-back : goal.returns-in_default-clause-back
+returns-in_default-clause-back g c =
+    let b = (goal.at.returns-in_default-clause-back g c).After-step_batch-answer in
+    part_back g b c.in_default.ensures.err c.lose-in_default.new.self.core.outs c.lose-in_default.ensures.outs ∙ ap (λ (d : HallData). with_out d.outs c.args.run.run.stream at_home) c.self.view_is
+
+pub returns-in_default-clause-view : goal.returns-in_default-clause-view
+returns-in_default-clause-view g c =
+    let b = (goal.at.returns-in_default-clause-view g c).After-step_batch-answer in
+    view_back g b c.note_all.new.view c.note_all.ensures ∙ ap (λ (d : HallData). d.view) c.self.view_is
 
 -- ---- the flush has more, or is at its end
 
 pub invariant_of-self-in-More : goal.invariant_of-self-in-More
-invariant_of-self-in-More g c = fit g (goal.at.invariant_of-self-in-More g c).After-step_batch-answer c.note_all.new.view c.note_all.ensures
+invariant_of-self-in-More g c =
+    let b = (goal.at.invariant_of-self-in-More g c).After-step_batch-answer in
+    let S = g.P.ServiceSide in
+    let run = c.args.run.run in
+    let done = subst (λ (next : Next). Commits S.side S.mark g.N.Naming.plans (old g b) (new g b) (members g b) next) c.in-More.is c.in-Ok.ensures.commits in
+    record {
+      fits = fit g b c.note_all.new.view c.note_all.ensures;
+      going = none_set (old g b).house.core.outs (new g b).house.core.outs run.stream record { order = run.order; paused = false } done.outs refl c.self.invariant.going;
+    }
+
+pub returns-in-More-clause-out : goal.returns-in-More-clause-out
+returns-in-More-clause-out g c =
+    let b = (goal.at.returns-in-More-clause-out g c).After-step_batch-answer in
+    let S = g.P.ServiceSide in
+    let run = c.args.run.run in
+    let done = subst (λ (next : Next). Commits S.side S.mark g.N.Naming.plans (old g b) (new g b) (members g b) next) c.in-More.is c.in-Ok.ensures.commits in
+    done.outs ∙ ap (λ (d : HallData). with_out d.outs run.stream record { order = run.order; paused = false }) c.self.view_is
+
+pub returns-in-More-clause-view : goal.returns-in-More-clause-view
+returns-in-More-clause-view g c =
+    let b = (goal.at.returns-in-More-clause-view g c).After-step_batch-answer in
+    view_back g b c.note_all.new.view c.note_all.ensures ∙ ap (λ (d : HallData). d.view) c.self.view_is
 
 pub invariant_of-self-in-FlushEnd : goal.invariant_of-self-in-FlushEnd
 invariant_of-self-in-FlushEnd g c =
@@ -113,7 +178,10 @@ invariant_of-self-in-FlushEnd g c =
     let b = (goal.at.invariant_of-self-in-FlushEnd g c).After-step_batch-answer in
     let s = (new g b).out.run.stream in
     let h = (new g b).house.core.past in
-    fits_while N.plans N.words N.queues N.view c.self.inside.takers.items c.note_all.new.view (Finish s (new g b).out.run.order) h c.finish.new.self.core.past (is_open (standing_of N.plans h s)) refl refl c.finish.ensures.event c.finish.ensures.over (fit g b c.note_all.new.view c.note_all.ensures)
+    record {
+      fits = fits_while N.plans N.words N.queues N.view c.self.inside.takers.items c.note_all.new.view (Finish s (new g b).out.run.order) h c.finish.new.self.core.past (is_open (standing_of N.plans h s)) refl refl c.finish.ensures.event c.finish.ensures.over (fit g b c.note_all.new.view c.note_all.ensures);
+      going = back g b c.finish.new.self.core.outs (batch_back g b c.in-Ok.next c.in-Ok.ensures.commits c.finish.new.self.core.outs c.finish.ensures.outs);
+    }
 
 pub returns-in-FlushEnd-clause-home : goal.returns-in-FlushEnd-clause-home
 returns-in-FlushEnd-clause-home g c =
@@ -122,8 +190,18 @@ returns-in-FlushEnd-clause-home g c =
     let run = c.args.run.run in
     let b = (goal.at.returns-in-FlushEnd-clause-home g c).After-step_batch-answer in
     let done = subst (λ (next : Next). Commits S.side S.mark N.plans (old g b) (new g b) (members g b) next) c.in-FlushEnd.is c.in-Ok.ensures.commits in
-    subst (λ (h : List Event). (how : Return) × CameHome N.plans h c.finish.new.self.core.past run.stream run.order (members g b) how) c.self.view_is
+    subst (λ (d : HallData). (how : Return) × CameHome N.plans d.past c.finish.new.self.core.past run.stream run.order (members g b) how) c.self.view_is
     (was_ended S.side S.mark N.plans (old g b) (new g b) (members g b) c.finish.new.self.core.past done c.finish.ensures.event)
+
+pub returns-in-FlushEnd-clause-back : goal.returns-in-FlushEnd-clause-back
+returns-in-FlushEnd-clause-back g c =
+    let b = (goal.at.returns-in-FlushEnd-clause-back g c).After-step_batch-answer in
+    batch_back g b c.in-Ok.next c.in-Ok.ensures.commits c.finish.new.self.core.outs c.finish.ensures.outs ∙ ap (λ (d : HallData). with_out d.outs c.args.run.run.stream at_home) c.self.view_is
+
+pub returns-in-FlushEnd-clause-view : goal.returns-in-FlushEnd-clause-view
+returns-in-FlushEnd-clause-view g c =
+    let b = (goal.at.returns-in-FlushEnd-clause-view g c).After-step_batch-answer in
+    view_back g b c.note_all.new.view c.note_all.ensures ∙ ap (λ (d : HallData). d.view) c.self.view_is
 
 -- ---- the run comes home
 
@@ -137,7 +215,10 @@ pub invariant_of-self-in_default-next : goal.invariant_of-self-in_default-next
 invariant_of-self-in_default-next g c =
     let N = g.N.Naming in
     let b = (goal.at.invariant_of-self-in_default-next g c).After-step_batch-answer in
-    fits_same N.plans N.words N.queues N.view c.self.inside.takers.items c.note_all.new.view (new g b).house.core.past c.back.new.self.core.past c.back.ensures.past (fit g b c.note_all.new.view c.note_all.ensures)
+    record {
+      fits = fits_same N.plans N.words N.queues N.view c.self.inside.takers.items c.note_all.new.view (new g b).house.core.past c.back.new.self.core.past c.back.ensures.past (fit g b c.note_all.new.view c.note_all.ensures);
+      going = back g b c.back.new.self.core.outs (batch_back g b c.in-Ok.next c.in-Ok.ensures.commits c.back.new.self.core.outs c.back.ensures.outs);
+    }
 
 pub returns-in_default-next-clause-home : goal.returns-in_default-next-clause-home
 returns-in_default-next-clause-home g c =
@@ -145,5 +226,15 @@ returns-in_default-next-clause-home g c =
     let S = g.P.ServiceSide in
     let run = c.args.run.run in
     let b = (goal.at.returns-in_default-next-clause-home g c).After-step_batch-answer in
-    subst (λ (h : List Event). (how : Return) × CameHome N.plans h c.back.new.self.core.past run.stream run.order (members g b) how) c.self.view_is
+    subst (λ (d : HallData). (how : Return) × CameHome N.plans d.past c.back.new.self.core.past run.stream run.order (members g b) how) c.self.view_is
     (came_back S.side S.mark N.plans (old g b) (new g b) (members g b) c.in-Ok.next c.back.new.self.core.past c.in_default-next.not-More c.in_default-next.not-FlushEnd c.back.ensures.past c.in-Ok.ensures.commits)
+
+pub returns-in_default-next-clause-back : goal.returns-in_default-next-clause-back
+returns-in_default-next-clause-back g c =
+    let b = (goal.at.returns-in_default-next-clause-back g c).After-step_batch-answer in
+    batch_back g b c.in-Ok.next c.in-Ok.ensures.commits c.back.new.self.core.outs c.back.ensures.outs ∙ ap (λ (d : HallData). with_out d.outs c.args.run.run.stream at_home) c.self.view_is
+
+pub returns-in_default-next-clause-view : goal.returns-in_default-next-clause-view
+returns-in_default-next-clause-view g c =
+    let b = (goal.at.returns-in_default-next-clause-view g c).After-step_batch-answer in
+    view_back g b c.note_all.new.view c.note_all.ensures ∙ ap (λ (d : HallData). d.view) c.self.view_is

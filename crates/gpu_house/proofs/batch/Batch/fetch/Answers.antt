@@ -13,7 +13,7 @@ use Rattle.gpu_house.proofs.batch.Batch.fetch.Given.{Over}
 use Rattle.gpu_house.proofs.batch.Batch.fetch.Goals as goal
 use Rattle.gpu_house.proofs.batch.Batch.fetch.Goals.{After-deref, In_ok-members-in_default, in_default-via-in-Some+else-len-lt-MOST_MEMBERS, in_default-via-in_default}
 
--- ---- once a command is told behind the others
+-- ---- once a command is added after the others
 
 module _ (g : Over) (c : goal.After-deref g) where
   -- the side before the batch, and with the command
@@ -23,7 +23,7 @@ module _ (g : Over) (c : goal.After-deref g) where
   abbrev new : SideData
   new = g.P.ServiceSide.side c.fetch_onto.new.side
 
-  -- the words of the others, and those of the command behind them
+  -- the words of the others, and those of the command after them
   abbrev list : List (ℕ × ℕ)
   list = c.loop-parts.list.items
 
@@ -78,7 +78,7 @@ module _ (g : Over) (c : goal.In_ok-members-in_default g) where
   abbrev told : goal.After-deref g
   told = (goal.at.In_ok-members-in_default g c).After-deref
 
-  -- the members are those that were told
+  -- the members are those that were reported
   are : parts_of (longer g told) c.push.new.self.items ≡ c.in_ok-members-in_default.members.items
   are = sym (c.in_ok-members-in_default.ensures.value ∙ ap (parts_of (longer g told)) c.deref-in_default.ensures.value)
 

@@ -21,7 +21,7 @@ use Rattle.gpu_house.proofs.Keeping.{kept, kept_still}
 use Rattle.gpu_house.proofs.Ordering.{next_there, pushed_back, ordered_homes}
 use Rattle.gpu_house.proofs.house.House.order.Goals as goal
 
--- memory was wanted for the note
+-- memory ran out for the note
 pub invariant_of-self-in-Err : goal.invariant_of-self-in-Err
 invariant_of-self-in-Err g c =
     let core = c.self.inside.core in
@@ -41,7 +41,7 @@ order-requires-clause-next g c =
     (subst (λ (h : List Event). IsSome (slice_get (flush_places (plan_of g.N.Naming.plans s).actions) (known g.N.Naming.plans h s).ordered)) (sym (ap (λ house. house.core.past) c.self.view_is))
     (next_there g.N.Naming.plans c.args.self.now.core.past s c.requires.next))
 
--- memory was wanted for the order
+-- memory ran out for the order
 pub invariant_of-self-in-Err-order : goal.invariant_of-self-in-Err-order
 invariant_of-self-in-Err-order g c =
     let slots = c.self.inside.slots.items in

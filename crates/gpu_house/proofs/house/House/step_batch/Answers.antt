@@ -12,7 +12,7 @@ use Rattle.gpu_house.proofs.house.House.step_batch.Given.{Over}
 use Rattle.gpu_house.proofs.house.House.step_batch.Goals as goal
 use Rattle.gpu_house.proofs.house.House.step_batch.Goals.{In-Some-member, In_ok-next}
 
--- nothing else than an error is told of one
+-- nothing else than an error is said of one
 given_err : {T E P : Type 0} (r : Result T E) → P → IfErr r (λ _. P)
 given_err (Ok t) p = tt
 given_err (Err e) p = p
@@ -46,7 +46,7 @@ module _ (g : Over) (c : goal.In-Some-member g) where
   abbrev now : Stage g.row.P.Denot g.row.P-Note.Denot g.row.P-Results.Denot
   now = record { house = c.loop-member.self; out = c.loop-member.run; drawn = c.loop-member.drawn.items }
 
-  -- the members behind it
+  -- the members after it
   abbrev rest : List FetchedData
   rest = c.next.new.self.rest.items
 

@@ -70,7 +70,7 @@ stays g c same =
     kept_still g.P.ServiceSide.side g.P.ServiceSide.table g.P.ServiceSide.mark g.P.ServiceSide.note_of g.P.ServiceSide.takes g.P.ServiceSide.written g.P.ServiceSide.results_of g.N.Naming.plans g.N.Naming.base g.N.Naming.words g.N.Naming.books g.N.Naming.result_words c.self.inside.hooks c.take_room.new.hooks
     record { core = c.self.inside.core; slots = slots; results = results } record { core = c.step.new.self; slots = slots; results = results } c.self.invariant same refl refl room.base room.marks room.grows
 
--- memory was wanted for the step
+-- memory ran out for the step
 pub invariant_of-self-in_err-step : goal.invariant_of-self-in_err-step
 invariant_of-self-in_err-step g c = stays g (goal.at.invariant_of-self-in_err-step g c).After-step c.in_err-step.ensures.err
 
@@ -238,7 +238,7 @@ invariant_of-run-2 g c =
     subst (RunFits S.side S.table S.mark S.note_of p tables books c.step.new.run c.tell.new.side) (sym c.meet-2.ensures.met)
     (stepped_fits S.side S.table S.mark S.note_of p tables books run c.step.new.run c.meet-2.new.side c.tell.new.side words c.in-Done.acted.effect c.in-Done.acted.kept core.past now.past met next c.tell.ensures.side c.tell.ensures.table grows.past asked run_of own.moved now_of)
 
--- ---- what is answered
+-- ---- the answer
 
 pub returns-in-Invalid-clause-still : goal.returns-in-Invalid-clause-still
 returns-in-Invalid-clause-still g c = subst (λ (o : OutData g.row.P.Denot g.row.P-Note.Denot). StillBelongs g.P.ServiceSide.belongs g.P.ServiceSide.note_belongs c.args.words.now o.side c.meet.new.side) c.run.view_is c.meet.ensures.still

@@ -1,4 +1,4 @@
--- What is known of the run and of its slot is that of Homes.taken.
+-- The facts of the run and of its slot are those of Homes.taken.
 use Rattle.std.proofs.Common.{◌≡◌, ◌-◌, eqb, true, false, is_some, None, List, refl, sym, ap, subst, ◌∙◌, arith, length-set}
 use Rattle.gpu_journal.specs.declared.event.Event.{Event}
 use Rattle.house_core.specs.Core.{is_home, book_at}
@@ -27,7 +27,7 @@ invariant_of-self g c =
     record { core = c.self.inside.core; slots = slots; results = results } record { core = c.take.new.self; slots = slots; results = results } c.self.invariant
     c.in_err-carried.ensures.none refl refl refl refl (omega arith)
 
--- what is known of the run, and of the slot that its side leaves
+-- the facts of the run, and of the slot that its side leaves
 it : (g : Over) (c : goal.After-index_mut g) (left : SlotData g.row.P.Denot g.row.P-Note.Denot)
     → Taken g.P.ServiceSide.side g.P.ServiceSide.table g.P.ServiceSide.mark g.P.ServiceSide.note_of g.N.Naming.plans (table_at g.N.Naming.words) (book_at g.N.Naming.books) c.in_ok-carried.carried c.self.inside.core c.take.new.self c.self.inside.slots.items c.stream.result c.index_mut.result.now left
 it g c left =

@@ -1,0 +1,90 @@
+//! What the calls of a hall promise, in the words of a caller. These functions are proved and not run.
+ghost use Rattle.std.specs.Prelude.{◌≡◌, ◌+◌, ◌⊎◌, ◌↔◌, drop, length, true, false, IsTrue, IfSome, IfNone};
+ghost use Rattle.shm_words.specs.declared.client.Acted.TheVariants.{End};
+ghost use Rattle.gpu_plan.specs.Plans.{plan_of, is_closed};
+ghost use Rattle.sync_core.specs.Standing.{IsKnown, is_open};
+ghost use Rattle.gpu_journal.specs.Waits.{standing_of};
+ghost use Rattle.gpu_journal.specs.Legal.{MayClose};
+ghost use Rattle.gpu_house.specs.Names.{table_at};
+ghost use Rattle.gpu_house.specs.Batches.{member_words, batch_words, AreChained};
+ghost use Rattle.gpu_hall.specs.Laws.{GrowsBy};
+ghost use Rattle.gpu_hall.specs.Ready.{IsReady};
+ghost use Rattle.gpu_threads.specs.Clients.{ClientData, IsClientOf, IsSameClient};
+ghost use Rattle.gpu_threads.specs.Acts.{HasGone, HasTried};
+ghost use Rattle.gpu_threads.specs.Turns.{HasStopped};
+
+use crate::client::Client;
+use crate::{ClientTurn, client_turn};
+use flush_queue::FlushQueue;
+use gpu_hall::{Hall, NamedSide};
+use gpu_house::{Batch, Closing, Naming, Run};
+use gpu_io::Gate;
+use result_words::ResultWords;
+use shm_words::SharedWords;
+use std::sync::{Mutex, Wait};
+use wait_hooks::Hook;
+
+// The run that is taken is of the first number of its stream, by what the service keeps of waits.
+fn take_first<N: Naming, P: NamedSide, H: Hook>(hall: &mut Hall<N, P, H>) -> Option<Run<N, P>>
+    ensures { IfSome result (IsReady P.side P.table P.mark P.note_of N.plans N.words N.books) }
+{
+    let run = hall.take()?;
+    let is_first = hall.waits(run.stream()).front == Some(run.order());
+    prove!(is_first);
+    Some(run)
+}
+
+// A commit takes nothing from the journal, and adds at most an event for each command, and one more where the run comes home.
+#[tactic(auto, using(gpu_hall::proofs::Grown::steps_grow, gpu_hall::proofs::Grown::returns_grow))]
+fn commit_more<N: Naming, P: NamedSide, H: Hook>(
+    hall: &mut Hall<N, P, H>,
+    run: Run<N, P>,
+    words: &P::Words,
+    batch: Batch,
+) -> Option<Run<N, P>>
+    requires going { run.run.paused ≡ false }
+    requires chained { AreChained run.run.facts batch }
+    requires list { drop run.run.facts.fetched (P.side run.side).fetched ≡ batch_words batch }
+    requires words { P.words_of words.now (table_at N.words run.run.stream)
+        (table_at N.result_words run.run.stream) }
+    ensures goes { IfSome result (λ on. GrowsBy (length (member_words batch))
+        hall.old.past hall.new.past) }
+    ensures ends { IfNone result (GrowsBy (length (member_words batch) + 1)
+        hall.old.past hall.new.past) }
+{
+    hall.commit(run, words, batch)
+}
+
+// It is too early to close a stream exactly where that is open and its client has not come to its Close.
+fn is_early<N: Naming, P: NamedSide, H: Hook>(hall: &mut Hall<N, P, H>, stream: u32) -> bool
+    requires known { IsKnown (length N.plans.plans) stream }
+    requires closes { is_closed (plan_of N.plans stream).actions ≡ true }
+    ensures { IsTrue result ↔ ((is_open (standing_of N.plans hall.old.past stream) ≡ true)
+        × (MayClose N.plans hall.old.past stream → ⊥)) }
+{
+    hall.close(stream) == Closing::Early
+}
+
+// A client that went on did one thing, and one that waits could not go on.
+fn turn_once<N: Naming, P: NamedSide, H: Hook, R: Wait, G: Gate>(
+    rt: &R,
+    client: Client,
+    hall: &Mutex<Hall<N, P, H>>,
+    words: &(SharedWords, ResultWords),
+    queues: &[FlushQueue],
+    gate: &G,
+) -> ClientTurn
+    requires client { IsClientOf N.plans N.words N.result_words N.queues client }
+    requires words { words.now.0 ≡ table_at N.words client.stream }
+    requires results { words.now.1 ≡ table_at N.result_words client.stream }
+    requires queues { queues.now ≡ N.queues }
+    requires many { length N.queues ≡ length N.plans.plans }
+    ensures went { (new : ClientData) → result ≡ ClientTurn.Went new
+        → IsSameClient client new × HasGone client new }
+    ensures waits { (new : ClientData) → result ≡ ClientTurn.Waiting new
+        → IsSameClient client new × HasStopped client new }
+    ensures ended { (new : ClientData) → result ≡ ClientTurn.Ended new
+        → IsSameClient client new × (HasTried client new End ⊎ HasStopped client new) }
+{
+    client_turn(rt, client, hall, words, queues, gate)
+}
