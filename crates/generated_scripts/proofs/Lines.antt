@@ -19,7 +19,7 @@ use Rattle.generated_scripts.proofs.Words.{is_word, line_text}
 use Rattle.generated_scripts.proofs.Values.{hex, is_small, hex_is_word, hex_is_value, hexes_are_words, hexes_are_values}
 use Rattle.generated_scripts.proofs.Taken.{Takes, takes_line}
 
--- a ring of 64 entries, and memory 0 with 16 words behind it
+-- a ring of 64 entries, and memory 0 with 16 words after it
 abbrev pub small_areas : Areas
 small_areas = record { ring = 64; memories = set (replicate 16 None) 0 (Some (record { base = 64; words = 16 })); results = replicate 16 None }
 
@@ -27,7 +27,7 @@ small_areas = record { ring = 64; memories = set (replicate 16 None) 0 (Some (re
 abbrev pub small_plan : ℕ → Priority → List Action → PlanData
 small_plan stream priority actions = record { name = record { namespace = 0; id = stream }; areas = small_areas; priority = priority; actions = actions; dumps = [] }
 
--- a script whose last stream is this one, with so many actions and flushes in all
+-- a script whose last stream is this one, with this number of actions and flushes in all
 abbrev pub at_work : List PlanData → ℕ → Priority → List Action → ℕ → ℕ → Draft
 at_work done stream priority actions count flushes = record { done = done; last = Some (small_plan stream priority actions); actions = count; flushes = flushes }
 

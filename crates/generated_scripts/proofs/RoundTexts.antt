@@ -26,7 +26,7 @@ join put base values nl fill zero uploaded flush left finish = simp (append_asso
 pub round_is : (round : ℕ) (words : List ℕ) (uploaded : ℕ) → round_lines round words uploaded ≡ round_of (base_of round) words uploaded
 round_is round words uploaded = rw (same_values words) (join (codes "put") (number_text (base_of round)) (flat_map spaced (map hex words)) (codes "\n") (codes "fill") (codes " 0") (value_text uploaded) (codes "flush") (number_text (32 - base_of round)) (codes "finish"))
 
--- the lines of a stream before its rounds, behind the stream line
+-- the lines of a stream before its rounds, after the stream line
 abbrev pub start_of : ℕ → List ℕ
 start_of stream = line (codes "memory") (codes "0" ∷ codes "16" ∷ []) ++ (line (codes "put") (decimal 0 ∷ map hex (0x20400004 ∷ stream ∷ 16 ∷ 16 ∷ 28 ∷ [])) ++ (line (codes "flush") (decimal 32 ∷ []) ++ line (codes "finish") []))
 

@@ -42,7 +42,7 @@ module _ (a : List Action) (count flushes : ℕ) where
   unfolding numbered with_line with_stream numbered_said number_of digits may_follow
   fourth_begins b c n = refl
 
--- ---- the lines behind the head line
+-- ---- the lines after the head line
 
 -- a text makes a draft with four streams of this one
 record Ends (d : Draft) (text : List ℕ) : Type 0 where

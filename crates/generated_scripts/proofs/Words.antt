@@ -16,11 +16,11 @@ is_plain byte = not (is_blank byte) && not (ends_line byte)
 abbrev pub is_word : List ℕ → Bool
 is_word word = not (is_empty word) && list_all is_plain word
 
--- a word behind a space
+-- a word after a space
 abbrev pub spaced : List ℕ → List ℕ
 spaced word = codes " " ++ word
 
--- a word, and words behind it
+-- a word, and words after it
 abbrev pub line_text : List ℕ → List (List ℕ) → List ℕ
 line_text word words = word ++ flat_map spaced words
 
@@ -82,7 +82,7 @@ line_stays word words e =
     let both = and_parts (is_word word) (list_all is_word words) e in
     list_all-append stays word (flat_map spaced words) ∙ and_from (list_all stays word) (list_all stays (flat_map spaced words)) (word_stays word both.0) (words_stay words both.1)
 
--- a piece with pieces behind it is a line
+-- a piece with pieces after it is a line
 line_first : (piece : List ℕ) (pieces : List (List ℕ)) → 0 < length pieces → without_empty_last (piece ∷ pieces) ≡ piece ∷ without_empty_last pieces
 line_first piece [] some = absurd (omega arith)
 line_first piece (next ∷ more) some = refl

@@ -1,4 +1,4 @@
--- What a stream at work has done behind lines of its script.
+-- What a stream at work has done after lines of its script.
 use Rattle.std.proofs.Common.{◌≡◌, ℕ, ◌+◌, ◌-◌, ◌≤◌, ◌<◌, ◌^◌, true, List, [], ◌∷◌, ◌++◌, length, map, Some, refl, arith}
 use Rattle.std.specs.Prelude.{codes, decimal}
 use Rattle.std.specs.Fmt.{digits}
@@ -15,7 +15,7 @@ use Rattle.generated_scripts.proofs.Taken.{Takes, takes_both}
 use Rattle.generated_scripts.proofs.Lines.{at_work, is_open, puts_open, still_open, put_takes, fill_takes, flush_takes, finish_takes}
 use Rattle.generated_scripts.proofs.RoundTexts.{line, round_of}
 
--- behind a text a stream is at work, with at most so many actions and flushes in all
+-- after a text a stream is at work, with at most this number of actions and flushes in all
 pub record Works (done : List PlanData) (stream : ℕ) (priority : Priority) (d : Draft) (text : List ℕ) (most most_flushes : ℕ) : Type 0 where
   pub actions : List Action
   pub count : ℕ
@@ -39,7 +39,7 @@ unfolding number_of digits
 half_said = record { read = refl; word = refl }
 
 module _ (done : List PlanData) (stream : ℕ) (priority : Priority) where
-  -- a text that leads to another draft, and a work behind that one
+  -- a text that leads to another draft, and a work after that one
   pub works_behind : (d e : Draft) (s t : List ℕ) (b g : ℕ) → Takes d s e → Works done stream priority e t b g → Works done stream priority d (s ++ t) b g
   works_behind d e s t b g leads w = record {
     actions = w.actions;

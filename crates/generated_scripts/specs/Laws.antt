@@ -10,11 +10,11 @@ use Rattle.gpu_journal.specs.Output.{streams_of}
 use Rattle.gpu_journal.specs.Legal.{IsLegal}
 use Rattle.generated_scripts.specs.Trials.{losses}
 
--- what is generated from a size of at most 2000 and a seed is a script of version 1 with four streams
+-- the text generated from a size of at most 2000 and a seed is a script of version 1 with four streams
 abbrev pub GeneratedIsScript : Type 0
 GeneratedIsScript = (size seed : ℕ) → size ≤ 2000 → IsOkAnd (script_of (generated size seed)) (λ script. (script.version ≡ 1) × (length script.plans ≡ 4))
 
--- what is generated from a size of at most 2000 and a seed is no longer than a script may be
+-- the text generated from a size of at most 2000 and a seed is no longer than a script may be
 abbrev pub GeneratedIsShort : Type 0
 GeneratedIsShort = (size seed : ℕ) → size ≤ 2000 → length (generated size seed) ≤ 16777216
 

@@ -23,7 +23,7 @@ is_loss (Close s) = false
 abbrev pub losses : List Event → ℕ
 losses h = count_by is_loss h
 
--- a number behind what it counts
+-- a number after what it counts
 abbrev pub counted : List ℕ → ℕ → List ℕ
 counted what number = what ++ number_text number
 

@@ -12,7 +12,7 @@ weights-set [] i v w e = absurd (some-ne-none v (sym e))
 weights-set (x ∷ xs) zero v w e = let is : weight x ≡ weight v = ap weight (some-injective x v e) in omega arith
 weights-set (x ∷ xs) (suc i) v w e = let r = weights-set xs i v w e in omega arith
 
--- a view comes behind the others
+-- a view comes after the others
 pub weights-snoc : (l : List View) (v : View) → weights (l ++ v ∷ []) ≡ weights l + weight v
 weights-snoc [] v = omega arith
 weights-snoc (x ∷ xs) v = let r = weights-snoc xs v in omega arith

@@ -1,4 +1,4 @@
--- A fetch that goes by the head and then by the decoder copies what is to be copied.
+-- A fetch that goes by the head and then by the decoder copies what must be copied.
 use Rattle.std.proofs.Common.{◌≡◌, ℕ, zero, suc, ◌+◌, ◌<◌, ◌≤◌, true, false, Result, Ok, Err, List, [], ◌∷◌, ◌++◌, length, map, refl, sym, ap, ◌∙◌, arith}
 use Rattle.std.specs.Prelude.{◌==◌, nat_lt, slice_index}
 use Rattle.std.specs.List.{range_with_len}
@@ -69,7 +69,7 @@ pub places_at : (place : ℕ) (values : List ℕ) → places_listed (words_at pl
 places_at place [] = refl
 places_at place (value ∷ values) = ap (λ places. place ∷ places) (places_at (place + 1) values)
 
--- one more value at the place behind the last
+-- one more value at the place after the last
 pub words_at_push : (place : ℕ) (values : List ℕ) (value : ℕ) → words_at place (values ++ value ∷ []) ≡ words_at place values ++ (place + length values, value) ∷ []
 words_at_push place [] value = ap (λ p. (p, value) ∷ []) (omega arith)
 words_at_push place (first ∷ values) value =

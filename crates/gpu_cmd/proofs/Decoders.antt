@@ -20,11 +20,11 @@ five_passed true true true false q found P h = tt
 five_passed true true true true false found P h = tt
 five_passed true true true true true found P h = h refl refl
 
--- what is answered for a command that passes
+-- the answer for a command that passes
 abbrev pub answer_of : Command → StreamFacts → Decoded
 answer_of command facts = record { command = command; from = (transfer_places facts.areas command).from; count = (transfer_places facts.areas command).count }
 
--- each fact of a command that passed checks 9 and 10 holds of what is answered
+-- each fact of a command that passed checks 9 and 10 holds of the answer
 checked_passed : (ring_words : ℕ) (command : Command) (facts : StreamFacts) (P : Decoded → Type 0) → (IsTrue (has_memories facts.areas command) → IsTrue (is_within_quota (facts.fetched + ring_words + (transfer_places facts.areas command).count)) → P (answer_of command facts)) → IfOk (checked ring_words command facts) P
 unfolding checked
 checked_passed ring_words command facts P h = five_passed (has_format command) (has_slot command) (has_data ring_words command && has_aligned_results command) (has_memories facts.areas command) (is_within_quota (facts.fetched + ring_words + (transfer_places facts.areas command).count)) (answer_of command facts) P h

@@ -1,4 +1,4 @@
--- The places to be fetched: the ring places rise below the ring's end, and the transfer places rise behind it.
+-- The places to be fetched: the ring places rise below the ring's end, and the transfer places rise after it.
 use Rattle.std.proofs.Common.{◌≡◌, ℕ, zero, suc, ◌+◌, ◌*◌, ◌<◌, ◌≤◌, Bool, true, false, Option, Some, None, Result, Ok, Err, List, [], ◌∷◌, ◌++◌, map, refl, ⊎_elim, arith, add-one, IsTrue, IfOk, IsOkAnd}
 use Rattle.std.specs.Prelude.{◌==◌, nat_le, ◌&&◌}
 use Rattle.std.specs.List.{AllByRecursion, range_with_len}
@@ -53,7 +53,7 @@ by_range areas (Some range) others lawful h = by_span areas range (span_at areas
     first_holds true b h = refl
     first_holds false b h = h
 
--- the transfer places of what the decoder answers stand behind the ring
+-- the transfer places of what the decoder answers stand after the ring
 pub decoded_behind : (words : List ℕ) (facts : StreamFacts) → IsLawfulAreas facts.areas → IfOk (decoded words facts) (λ found. AreBehind facts.areas found.from found.count)
 decoded_behind words facts lawful = decoded_passed words facts (λ found. AreBehind facts.areas found.from found.count) (λ command m q. by_range facts.areas (transfer_range command) (option_map_or (lies_in facts.areas.results) (size_range command) true && option_map_or (lies_in facts.areas.results) (data_range command) true) lawful m)
 
@@ -74,7 +74,7 @@ unfolding RisesWithin
 wider low lower high [] h r = tt
 wider low lower high (place ∷ places) h r = let first : low ≤ place = r.0 in (omega arith, r.1, r.2)
 
--- a list that rises, and behind it one that rises from its end on
+-- a list that rises, and after it one that rises from its end on
 one_behind_other : (low middle high : ℕ) (front back : List ℕ) → low ≤ middle → middle ≤ high → RisesWithin low middle front → RisesWithin middle high back → RisesWithin low high (front ++ back)
 unfolding RisesWithin
 one_behind_other low middle high [] back l m r s = wider middle low high back l s

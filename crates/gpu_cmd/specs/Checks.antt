@@ -18,7 +18,7 @@ use Rattle.gpu_cmd.specs.Spans.{span_at}
 use Rattle.gpu_cmd.specs.Lawful.{most_fetched, room}
 use Rattle.gpu_cmd.specs.Ranges.{format_in, slot_in, made_size_in, immediate_size_in, transfer_range, size_range, data_range, transfer_places}
 
--- so many words are no more than a stream may fetch
+-- this number of words is no more than a stream may fetch
 abbrev pub is_within_quota : ℕ → Bool
 is_within_quota words = nat_le words most_fetched
 
@@ -61,7 +61,7 @@ lies_in spans range = option_map_or (λ (span : Span). nat_le (range.offset + ra
 abbrev pub has_memories : Areas → Command → Bool
 has_memories areas command = option_map_or (lies_in areas.memories) (transfer_range command) true && (option_map_or (lies_in areas.results) (size_range command) true && option_map_or (lies_in areas.results) (data_range command) true)
 
--- checks 6 to 10, of a command with so many ring words
+-- checks 6 to 10, of a command with a given number of ring words
 unfoldable pub checked : ℕ → Command → StreamFacts → Result Decoded CmdError
 checked ring_words command facts = do
   _ ← unless (has_format command) InvalidArguments  -- 6

@@ -29,11 +29,11 @@ EntriesRefused = (facts : StreamFacts) (shape : Shape) (values : List ℕ) (erro
 abbrev pub CommandCopied : Type 0
 CommandCopied = (facts : StreamFacts) (shape : Shape) (values : List ℕ) (found : Decoded) (more : List ℕ) → facts.put < facts.areas.ring → headed (slice_index values 0) facts ≡ Ok shape → length values ≡ shape.ring_words → decoded values facts ≡ Ok found → length more ≡ found.count → IsCopy (words_at facts.get values ++ words_at found.from more) facts (Ok found.command)
 
--- words that are to be fetched, and that a memory has, are those that are fetched from this memory
+-- words that must be fetched, and that a memory has, are those that are fetched from this memory
 abbrev pub WordsOfMemory : Type 0
 WordsOfMemory = (memory : ℕ → ℕ) (words : List (ℕ × ℕ)) (facts : StreamFacts) → places_listed words ≡ fetched_places words facts → All (λ word. word.1 ≡ memory word.0) words → words ≡ fetched memory facts
 
--- what is fetched from a memory is to be fetched, and its verdict is that on the memory's values
+-- what is fetched from a memory must be fetched, and its verdict is that on the memory's values
 abbrev pub MemoryCopied : Type 0
 MemoryCopied = (memory : ℕ → ℕ) (facts : StreamFacts) → IsCopy (fetched memory facts) facts (judged memory facts)
 

@@ -5,18 +5,18 @@ use Rattle.gpu_cmd.specs.declared.command.Command.{Command}
 use Rattle.gpu_cmd.specs.declared.command.Command.TheVariants.{Noop, SetToken, SetBucketSize, SetBucketData, SetBucketDataImmediate, GetBucketStart, GetBucketData, InsertFence, WaitToken, CreateImage, DeleteImage, ClearRect, CopyRect, UploadRect, UploadBucket, CreateBuffer, DeleteBuffer, BufferData, UploadBuffer, WaitSyncToken}
 
 -- a command's id, its number of entries with the header, whether more entries are allowed, and the command of its
--- arguments by their places behind the header, from 1 on
+-- arguments by their places after the header, from 1 on
 pub record Row : Type 0 where
   pub id : ℕ
   pub entries : ℕ
   pub more : Bool
   pub command : (ℕ → ℕ) → Command
 
--- a command of so many entries
+-- a command of a given number of entries
 abbrev pub exactly : ℕ → ℕ → ((ℕ → ℕ) → Command) → Row
 exactly id entries command = record { id = id; entries = entries; more = false; command = command }
 
--- a command of so many entries or more
+-- a command of a given number of entries or more
 abbrev pub at_least : ℕ → ℕ → ((ℕ → ℕ) → Command) → Row
 at_least id entries command = record { id = id; entries = entries; more = true; command = command }
 
@@ -49,7 +49,7 @@ table =
 unfoldable pub row_of : ℕ → Option Row
 row_of id = find (λ row. row.id == id) table
 
--- the row allows a command of so many entries
+-- the row allows a command of a given number of entries
 abbrev pub fits : Row → ℕ → Bool
 fits row size = if row.more then nat_le row.entries size else row.entries == size
 
@@ -57,7 +57,7 @@ fits row size = if row.more then nat_le row.entries size else row.entries == siz
 abbrev pub ring_words_of : ℕ → ℕ → ℕ
 ring_words_of id size = if id == 0 then 1 else size
 
--- the argument at a place behind the header
+-- the argument at a place after the header
 abbrev pub argument : List ℕ → ℕ → ℕ
 argument words place = slice_index words place
 
@@ -65,7 +65,7 @@ argument words place = slice_index words place
 abbrev pub ring_of : List ℕ → List ℕ
 ring_of words = take (ring_words_of (id_of (slice_index words 0)) (size_of (slice_index words 0))) words
 
--- the command of ring words by a row, where it allows so many
+-- the command of ring words by a row, where it allows this number
 abbrev pub said_by : Option Row → List ℕ → Option Command
 said_by None ring = None
 said_by (Some row) ring = if fits row (length ring) then Some (row.command (argument ring)) else None

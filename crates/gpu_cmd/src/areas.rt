@@ -53,7 +53,7 @@ pub fn words_in(spans: &[Option<Span>; 16]) -> u64
 }
 
 impl Span {
-    // The place behind the span's last one.
+    // The place after the span's last one.
     fn end(self) -> u64
         ensures { result ≡ self.base + self.words }
     {

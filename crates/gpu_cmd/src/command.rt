@@ -1,9 +1,12 @@
 /// A command with its arguments, in the order in which they follow the header.
 ///
-/// Images, buckets, buffers, transfer memories and result memories go by number. Offsets and sizes are in bytes, and
-/// `x`, `y`, `w`, `h` and the like in texels; a rectangle has `w * h` of them, packed by rows without gaps. A texel is
-/// `r * 2^24 + g * 2^16 + b * 2^8 + a`, and `format` is the number of a `gpu_word::Format`. A release or an id in two
-/// halves is `low + high * 2^32`.
+/// A command with its arguments:
+/// - images, buckets, buffers, transfer memories and result memories go by number
+/// - offsets and sizes are in bytes
+/// - `x`, `y`, `w`, `h` and the like are in texels; a rectangle has `w * h` of them, packed by rows without gaps
+/// - a texel is `r * 2^24 + g * 2^16 + b * 2^8 + a`
+/// - `format` is the number of a `gpu_word::Format`
+/// - a release or an id in two halves is `low + high * 2^32`
 #[derive(Clone, Copy, Debug, PartialEq, Eq)]
 pub enum Command {
     /// Does nothing.

@@ -19,7 +19,7 @@ pub struct Decoded {
     pub count: u32,
 }
 
-// Checks 6 to 10 on a command with so many ring words.
+// Checks 6 to 10 on a command with a given number of ring words.
 #[tactic(auto, unfolding(crate::specs::Checks::checked))]
 fn checked(ring_words: usize, command: Command, facts: &StreamFacts) -> Result<Decoded, CmdError>
     requires lawful { IsLawfulFacts facts.now }
@@ -53,9 +53,12 @@ fn checked(ring_words: usize, command: Command, facts: &StreamFacts) -> Result<D
     })
 }
 
-/// The checks on all ring words of a command whose header passed `head`, in order: that its format is one, that its
-/// bucket or buffer and their size are, that its data and its offsets into result memories are, that its memories hold
-/// what it reads and writes, and that the stream's quota holds with its transfer words too.
+/// The checks on all ring words of a command whose header passed `head`, in order:
+/// - its format is one
+/// - its bucket or buffer and their size are
+/// - its data and its offsets into result memories are
+/// - its memories hold what it reads and writes
+/// - the stream's quota holds with its transfer words too
 pub fn decode(words: &[u32], facts: &StreamFacts) -> Result<Decoded, CmdError>
     requires lawful { IsLawfulFacts facts.now }
     requires head { IsOkAnd (headed (slice_index words.now 0) facts.now)

@@ -1,6 +1,6 @@
 ghost use Rattle.gpu_cmd.specs.Laws.{PutOutOfRange, HeaderRefused, EntriesRefused, CommandCopied, WordsOfMemory, MemoryCopied, PlacesRise, PlacesAreThere, AcceptedLeavesRoom};
 
-/// The law of copied words: what was read as `head` and `decode` say is what is to be fetched, and the verdict on it is
+/// The law of copied words: what was read as `head` and `decode` say is what must be fetched, and the verdict on it is
 /// theirs, at each point where a fetch can stop.
 pub fn copied_words()
     ensures put { PutOutOfRange }

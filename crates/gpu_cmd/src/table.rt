@@ -6,7 +6,7 @@ use crate::command::Command;
 use crate::{arguments, ids};
 use gpu_word::split;
 
-// Whether a command of this id may have so many entries, or `None` where no command has this id.
+// Whether a command of this id may have a given number of entries, or `None` where no command has this id.
 #[tactic(auto, unfolding(crate::specs::Table::row_of))]
 pub(crate) fn fits(id: u32, size: u32) -> Option<bool>
     ensures { result ≡ option_map (λ row. fits row size) (row_of id) }
@@ -37,7 +37,7 @@ pub(crate) fn fits(id: u32, size: u32) -> Option<bool>
     Some(fits)
 }
 
-// How many of so many entries are fetched: of a Noop its header alone, of every other command all.
+// How many of a given number of entries are fetched: of a Noop its header alone, of every other command all.
 pub(crate) fn ring_words(id: u32, size: u32) -> u32
     ensures { result ≡ ring_words_of id size }
 {
@@ -75,7 +75,7 @@ pub(crate) fn command(id: u32, words: &[u32]) -> Command
     }
 }
 
-// The first so many words, or all where there are fewer.
+// The first words, up to a given number, or all where there are fewer.
 fn first(words: &[u32], count: usize) -> &[u32]
     ensures { result.now ≡ take count words.now }
 {
@@ -86,9 +86,9 @@ fn first(words: &[u32], count: usize) -> &[u32]
     front
 }
 
-/// The command that words say by the header and the arguments that they begin with, without a check on these; words
-/// behind its ring words are not looked at. `None` where no command has the header's id, or none of that id has so many
-/// ring words.
+/// The command that words say by the header and the arguments that they begin with, without a check on these:
+/// - words after its ring words are not looked at
+/// - `None`: no command has the header's id, or none of that id has a given number of ring words
 pub fn command_of(words: &[u32]) -> Option<Command>
     requires { 0 < length words.now }
     ensures { result ≡ command_said words.now }

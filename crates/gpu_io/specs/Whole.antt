@@ -20,7 +20,8 @@ ReadsAtMost most old new = (bytes : List ℕ) × Consumes old new bytes × (leng
 abbrev pub ReadsMoreThan : ℕ → Option (List ℕ) → Option (List ℕ) → Type 0
 ReadsMoreThan most old new = (bytes : List ℕ) × Consumes old new bytes × (length bytes ≡ most + 1)
 
--- what an input of so many told bytes may be answered where no fault rose: that it is too long, or want of memory
+-- what an input of a given number of known bytes may be answered where no fault rose: that it is too long, or out of
+-- memory
 abbrev pub IsExcused : ReadError → ℕ → ℕ → Type 0
 IsExcused errors.Fault most count = ⊥
 IsExcused errors.TooLong most count = most < count

@@ -24,7 +24,7 @@ impl Model for Bounded {
 }
 
 impl Bounded {
-    /// An empty room for so many bytes.
+    /// An empty room for a given number of bytes.
     pub(crate) fn new(alloc: Global, room: usize) -> Result<Bounded, Memory>
         ensures { IfOk result (λ b. b ≡ record { bytes = []; room = room }) }
     {
@@ -47,7 +47,7 @@ impl Bounded {
         self.bytes.len() == self.room
     }
 
-    /// Puts bytes from the front of these behind what lies there, as many as fit, and at most `most`.
+    /// Puts bytes from the front of these after what lies there, as many as fit, and at most `most`.
     pub(crate) fn put(&mut self, bytes: &[u8], most: usize) -> usize
         ensures count { result ≡ min (min (length bytes.now) (free_room self.old)) most }
         ensures appended { self.new.bytes ≡ self.old.bytes ++ take result bytes.now }

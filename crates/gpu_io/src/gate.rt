@@ -16,7 +16,7 @@ pub enum Place {
     BeforeLook { viewer: u32, look: u32 },
 }
 
-/// What a run with threads is led through: it is told each place, with no lock held.
+/// What a run with threads is led through: it hears of each place, with no lock held.
 ///
 /// A gate decides when a thread goes on, and changes nothing of what the run does.
 pub trait Gate {

@@ -37,7 +37,7 @@ impl Model for MemorySink {
 }
 
 impl MemorySink {
-    /// An empty sink with room for so many bytes, all of it taken at once.
+    /// An empty sink with room for a given number of bytes, all of it taken at once.
     ///
     /// A write moves at most `piece` bytes. The writes whose numbers, from 1, stand in `fails` fail, and those that find
     /// the room full, and no others.

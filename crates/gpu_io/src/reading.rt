@@ -20,7 +20,7 @@ pub enum ReadError {
     Fault,
     /// The input has more bytes than are allowed.
     TooLong,
-    /// Want of memory.
+    /// Out of memory.
     Memory,
 }
 
@@ -40,7 +40,7 @@ impl From<AllocError> for ReadError {
     }
 }
 
-// So many zero bytes.
+// A given number of zero bytes.
 fn zeros(alloc: Global, count: usize) -> Result<Vec<u8>, AllocError>
     ensures { IfOk result (λ bytes. vec_len bytes ≡ count) }
 {
@@ -81,7 +81,7 @@ pub fn read_within<S: Source>(
     ensures unfailed { IsErrOf result ReadError.TooLong
         → S.faults source.new ≡ S.faults source.old }
 
-    // Where the bytes are told and no fault rose, they are read exactly where they are within the limit.
+    // Where the bytes are known and no fault rose, they are read exactly where they are within the limit.
     ensures complete { (text : List ℕ) → S.left source.old ≡ Some text
         → ¬ HasRisen (S.faults source.old) (S.faults source.new)
         → MatchResult result (λ _. length text ≤ most)
@@ -124,7 +124,7 @@ pub fn read_all<S: Source>(alloc: Global, source: &mut S) -> Result<Vec<u8>, Rea
     ensures unfailed { IsErrOf result ReadError.TooLong
         → S.faults source.new ≡ S.faults source.old }
 
-    // Where the bytes are told and no fault rose, they are read exactly where they are within the limit.
+    // Where the bytes are known and no fault rose, they are read exactly where they are within the limit.
     ensures complete { (text : List ℕ) → S.left source.old ≡ Some text
         → ¬ HasRisen (S.faults source.old) (S.faults source.new)
         → MatchResult result (λ _. length text ≤ most_bytes)

@@ -10,7 +10,7 @@ use std::marker::Model;
 
 /// A sink over a writer of the system. It counts the writer's errors, and tells of its bytes what the writer tells.
 ///
-/// It keeps no bytes back, since a fault that came after its answer would be told to nobody. So the writer is to be one
+/// It keeps no bytes back, since a fault that came after its answer would be told to nobody. So the writer must be one
 /// without a buffer.
 #[derive(Debug, Drop)]
 pub struct RealSink<W: Write> {

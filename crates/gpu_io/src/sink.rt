@@ -14,8 +14,8 @@ pub trait Sink {
 
     /// Takes bytes from the front of these, at least one, and answers how many.
     ///
-    /// After [`Failed`] the bytes written, where they are told, are what they were, and its count of faults rose; else it
-    /// did not. A sink that can take nothing has failed.
+    /// After [`Failed`] the bytes written, where they are known, are what they were, and its count of faults rose; else
+    /// it did not. A sink that can take nothing has failed.
     fn write(&mut self, bytes: &[u8]) -> Result<usize, Failed>
         requires { 0 < length bytes.now }
         ensures some { IfOk result (λ n. 0 < n) }

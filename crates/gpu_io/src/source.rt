@@ -14,8 +14,8 @@ pub trait Source {
 
     /// Reads some bytes into the front of the buffer, and answers how many: none only where no byte is left.
     ///
-    /// After [`Failed`] the bytes left, where they are told, are what they were, and its count of faults rose; else it did
-    /// not.
+    /// After [`Failed`] the bytes left, where they are known, are what they were, and its count of faults rose; else it
+    /// did not.
     fn read(&mut self, buffer: &mut [u8]) -> Result<usize, Failed>
         requires { 0 < length buffer.old }
         ensures bound { IfOk result (λ n. n ≤ length buffer.new) }

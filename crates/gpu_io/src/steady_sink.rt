@@ -26,7 +26,7 @@ impl Model for SteadySink {
 }
 
 impl SteadySink {
-    /// An empty sink with room for so many bytes, all of it taken at once.
+    /// An empty sink with room for a given number of bytes, all of it taken at once.
     pub fn make(alloc: Global, room: usize) -> Result<SteadySink, Memory>
         ensures written { IfOk result (λ s. s.written ≡ record { bytes = []; room = room }) }
         ensures faults { IfOk result (λ s. s.faults ≡ 0) }

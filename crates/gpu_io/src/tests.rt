@@ -6,7 +6,7 @@ use std::alloc::{AllocError, Global};
 use std::io::{self, ErrorKind, Read, Write};
 use std::test::Fail;
 
-// What so many reads give: the bytes of each, or '!' for a fault, and then a '|'.
+// What a given number of reads gives: the bytes of each, or '!' for a fault, and then a '|'.
 fn reads<S: Source>(alloc: Global, source: &mut S, calls: u8) -> Result<Vec<u8>, AllocError> {
     let mut trace = Vec::new(alloc);
     for _ in 0..calls {
@@ -20,7 +20,7 @@ fn reads<S: Source>(alloc: Global, source: &mut S, calls: u8) -> Result<Vec<u8>,
     Ok(trace)
 }
 
-// How many of the bytes `xyz` each of so many writes takes, or none for a fault.
+// How many of the bytes `xyz` each of a given number of writes takes, or none for a fault.
 fn writes<K: Sink>(
     alloc: Global,
     sink: &mut K,

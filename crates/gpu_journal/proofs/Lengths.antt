@@ -32,7 +32,7 @@ length-take_more f (x ∷ xs) (suc i) d lt =
     let next : suc i + 1 ≡ suc (i + 1) = omega arith in
     rw next (omega (arith, length-append (f x) (flat_map f (take (i + 1) xs)), length-append (f x) (flat_map f (take i xs)), length-take_more f xs i d (omega arith)))
 
--- words whose places have at most so many digits
+-- words whose places have at most a given number of digits
 pub length-words : (most : ℕ) (words : List (ℕ × ℕ)) → ((k : ℕ) → k < length words → length (numeral (get_or words k (0, 0)).0) ≤ most) → length (flat_map word_text words) ≤ (most + 10) * length words
 length-words most [] short = omega arith
 length-words most (word ∷ words) short =

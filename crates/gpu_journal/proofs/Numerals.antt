@@ -93,7 +93,7 @@ ends (b ∷ rest) = nat_lt b 48 || nat_lt 57 b
 goes_on : (d : ℕ) (rest : List ℕ) → 48 ≤ d → d ≤ 57 → ends (d ∷ rest) ≡ false
 goes_on d rest low high = rw (le-ltb d 48 low, le-ltb 57 d high) refl
 
--- where digits end, they are told from what stands behind them
+-- where digits end, they can be told from what stands after them
 cut : (a b x y : List ℕ) → AreDigits a → AreDigits b → ends x ≡ true → ends y ≡ true → a ++ x ≡ b ++ y → (a ≡ b) × (x ≡ y)
 cut [] [] x y da db ex ey e = (refl, e)
 cut [] (d ∷ b) x y da db ex ey e =

@@ -149,7 +149,7 @@ close_cut s t x y e =
     let one = number_cut s t (10 ∷ x) (10 ∷ y) refl refl behind in
     (ap Close one.0, ap behind_first one.1)
 
--- the line of an event is told from what stands behind it
+-- the line of an event can be told from what stands after it
 event_cut : (a b : Event) (x y : List ℕ) → HasWords a → HasWords b → event_text a ++ x ≡ event_text b ++ y → (a ≡ b) × (x ≡ y)
 unfolding event_text
 event_cut (Order s m c) (Order t n d) x y small_a small_b e = order_cut s t m n c d x y e

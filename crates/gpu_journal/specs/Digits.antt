@@ -2,7 +2,7 @@
 use Rattle.std.specs.Prelude.{ℕ, zero, suc, ◌+◌, ◌/◌, ◌%◌, true, false, nat_lt, List, [], ◌∷◌, ◌++◌, codes}
 use Rattle.std.specs.Char.{digit_char}
 
--- the decimal digits of a number, at most so many, without a leading zero; the code of `0` is 48
+-- the decimal digits of a number, at most a given number of them, without a leading zero; the code of `0` is 48
 abbrev pub digits_within : ℕ → ℕ → List ℕ
 digits_within zero number = []
 digits_within (suc count) number =
@@ -12,7 +12,7 @@ digits_within (suc count) number =
 unfoldable pub numeral : ℕ → List ℕ
 numeral number = digits_within (suc number) number
 
--- the last hexadecimal digits of a number, so many of them, in lower case
+-- a given number of the last hexadecimal digits of a number, in lower case
 abbrev pub hex_digits : ℕ → ℕ → List ℕ
 hex_digits zero number = []
 hex_digits (suc count) number = hex_digits count (number / 16) ++ digit_char (number % 16) ∷ []

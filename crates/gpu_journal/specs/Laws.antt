@@ -55,7 +55,7 @@ pub record OthersBegin : Type 0 where
   pub dump : (stream place index value : ℕ) (behind : List ℕ) → IsTrue (is_other (dump_text stream place index value ++ behind))
   pub view : (viewer events sum : ℕ) (behind : List ℕ) → IsTrue (is_other (view_text viewer events sum ++ behind))
 
--- a journal with the other parts behind it tells the history and these parts
+-- a journal with the other parts after it tells the history and these parts
 abbrev pub OutputTells : Type 0
 OutputTells = (g h : List Event) (x y : List ℕ) → All HasWords g → All HasWords h → IsTrue (is_other x) → IsTrue (is_other y)
     → journal_text g ++ x ≡ journal_text h ++ y → (g ≡ h) × (x ≡ y)

@@ -136,7 +136,7 @@ abbrev pub grown : List Event → Option Event → List Event
 grown h None = h
 grown h (Some e) = e ∷ h
 
--- the history after so many events, or after the last that follows
+-- the history after a given number of events, or after the last that follows
 unfoldable pub events : PlansData → ℕ → List Event
 events p zero = []
 events p (suc n) = grown (events p n) (next p (events p n))

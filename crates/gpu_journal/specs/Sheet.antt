@@ -1,4 +1,4 @@
--- Lines of the output, one behind the other.
+-- Lines of the output, one after the other.
 use Rattle.std.specs.Prelude.{ℕ, List}
 
 -- the bytes of the lines, and up to how many of them another line may be begun

@@ -31,7 +31,7 @@ pub record Known : Type 0 where
 abbrev pub nothing_known : Known
 nothing_known = record { state = first_state; tokens = 0 ∷ []; ordered = 0; finished = 0 }
 
--- the images, and what is known of each stream
+-- the images, and the facts of each stream
 pub record World : Type 0 where
   pub images : Pictures
   pub streams : ℕ → Known
@@ -59,14 +59,14 @@ abbrev pub greatest_after : Effect → ℕ → ℕ
 greatest_after (Token token) greatest = max token greatest
 greatest_after _ greatest = greatest
 
--- what is known of a stream after a step that asked for this effect and got this answer
+-- the facts of a stream after a step that asked for this effect and got this answer
 abbrev pub known_after_step : PlansData → ℕ → List (ℕ × ℕ) → Effect → Applied → Known → Known
 known_after_step p s words effect applied old = record old {
   state = noted applied.answer (stepped (plan_of p s).areas words old.state);
   tokens = with_token effect old.tokens;
 }
 
--- what is known of a stream after an event of it
+-- the facts of a stream after an event of it
 abbrev pub known_after : PlansData → Event → World → Known → Known
 known_after p (Order s n c) world old = record old { ordered = old.ordered + 1 }
 known_after p (Step s words) world old = known_after_step p s words (asked_by p s words world) (drawn_by (asked_by p s words world) world.images) old
@@ -82,7 +82,7 @@ images_after p (Finish s n) world = world.images
 images_after p (Lost s why words) world = world.images
 images_after p (Close s) world = world.images
 
--- what a history says: an event changes the images, and what is known of its own stream alone
+-- what a history says: an event changes the images, and the facts of its own stream alone
 unfoldable pub world : PlansData → List Event → World
 world p [] = first_world
 world p (e ∷ h) = record {

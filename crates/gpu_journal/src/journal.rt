@@ -34,7 +34,7 @@ impl Journal {
         }
     }
 
-    /// Makes room for so many more events.
+    /// Makes room for a given number of further events.
     pub fn reserve(&mut self, more: usize) -> Result<(), Memory>
         ensures events { self.new.events ≡ self.old.events }
         ensures spare { OnOk result (more ≤ self.new.spare) }
@@ -45,7 +45,7 @@ impl Journal {
         Ok(())
     }
 
-    /// Adds an event behind all others, in room that was made before.
+    /// Adds an event after all others, in room that was made before.
     pub fn push(&mut self, event: Event)
         requires { 0 < self.old.spare }
         ensures events { self.new.events ≡ event ∷ self.old.events }

@@ -13,7 +13,7 @@ pub fn histories_that_differ_have_different_texts()
 {}
 
 /// The law of the output: no line of a journal begins with the first word of another part, and each other part begins
-/// with its own. So a journal with the other parts behind it tells the history.
+/// with its own. So a journal with the other parts after it tells the history.
 pub fn the_output_tells_the_history()
     ensures apart { EventsAreApart }
     ensures others { OthersBegin }

@@ -9,7 +9,7 @@ use crate::put::put;
 /// The most bytes of an image's own line.
 pub(crate) const HEAD: usize = 80;
 
-/// The bytes of a texel with the space or the line feed behind it.
+/// The bytes of a texel with the space or the line feed after it.
 pub(crate) const TEXEL: usize = 9;
 
 /// Appends the own line of an image.

@@ -25,9 +25,9 @@ use sync_core::Ending;
 /// The bytes that a line has room for. The longest is that of an event with 69,632 words, each of them at most 15 bytes.
 const ROOM: usize = 1_048_576;
 
-/// Lines of the output with their line feeds, one behind the other, seen as their bytes and as a limit.
+/// Lines of the output with their line feeds, one after the other, seen as their bytes and as a limit.
 ///
-/// Each call puts another line behind those that are there, as long as these have no more bytes than the limit. All memory
+/// Each call puts another line after those that are there, as long as these have no more bytes than the limit. All memory
 /// is taken by `make`.
 #[derive(Drop)]
 pub struct Sheet {
@@ -47,7 +47,7 @@ impl Model for Sheet {
 }
 
 impl Sheet {
-    /// No line yet, and room for 1,048,576 bytes behind as many as the limit.
+    /// No line yet, and room for 1,048,576 bytes after as many as the limit.
     pub fn make(alloc: Global, limit: usize) -> Result<Sheet, Memory>
         ensures { IfOk result (λ sheet. sheet ≡ record { bytes = []; limit = limit }) }
     {

@@ -1,4 +1,4 @@
--- Pieces of text that stand one behind the other, however they were put together.
+-- Pieces of text that stand one after the other, however they were put together.
 use Rattle.std.proofs.Common.{◌≡◌, ℕ, List, ◌++◌, append_assoc}
 
 pub three_pieces : (a b c x : List ℕ) → ((a ++ b) ++ c) ++ x ≡ a ++ (b ++ (c ++ x))

@@ -5,7 +5,7 @@ use Rattle.byteorder.specs.Endian.{little_bytes}
 use Rattle.std.proofs.lemmas.Grind.{common_steps}
 use Rattle.gpu_word.specs.Bytes.{bytes_of}
 
--- behind the bytes of n words stand those of the words behind them
+-- after the bytes of n words stand those of the words after them
 pub drop-bytes_of : (n : ℕ) (words : List ℕ) → drop (4 * n) (bytes_of words) ≡ bytes_of (drop n words)
 drop-bytes_of zero words = refl
 drop-bytes_of (suc n) [] = grind (arith, common_steps)

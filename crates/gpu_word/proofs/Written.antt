@@ -1,4 +1,4 @@
--- Lists of what was written, one behind the other.
+-- Lists of what was written, one after the other.
 use Rattle.std.proofs.Common.{◌≡◌, ℕ, ◌+◌, cond, List, [], ◌∷◌, ◌++◌, refl}
 use Rattle.std.proofs.lemmas.List.Sums.{sum_by-append}
 use Rattle.gpu_word.specs.Results.{Written, is_finish, finishes_in, after_written, last_or}

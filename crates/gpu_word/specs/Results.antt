@@ -33,7 +33,8 @@ last_or i v (member ∷ list) = last_or i (after_written i v member) list
 abbrev pub last_written : List Written → ℕ → ℕ
 last_written list i = last_or i 0 list
 
--- the value is the last one written to the place, or 0, in a first part of the list that has at least so many finishes
+-- the value is the last one written to the place, or 0, in a first part of the list that has at least a given number of
+-- finishes
 pub record WasLast (list : List Written) (place at_least value : ℕ) : Type 0 where
   pub length : ℕ
   pub enough : at_least ≤ finishes_in (take length list)

@@ -1,6 +1,6 @@
 use std::alloc::{AllocError, AllocFailed};
 
-/// Want of memory: an allocation was refused.
+/// Out of memory: an allocation was refused.
 ///
 /// It is the one answer that no contract ties to a cause.
 #[derive(Clone, Copy, Debug, PartialEq, Eq)]

@@ -59,7 +59,7 @@ events_small p [] lawful legal = All-nil HasWords
 events_small p (e ∷ h) lawful legal =
     subst (All HasWords) (sym (reverse-append (e ∷ []) h)) (All-push HasWords (reverse h) e (events_small p h lawful legal.1) (event_small p e h lawful legal.1 legal.0))
 
--- ---- what stands behind the head, and what behind the journal
+-- ---- what stands after the head, and what after the journal
 
 -- the first byte, or 0
 abbrev first : List ℕ → ℕ
@@ -70,7 +70,7 @@ first (b ∷ rest) = b
 abbrev is_apart : List ℕ → Bool
 is_apart x = not (first x == 103) && not (first x == 110)
 
--- the text can stand behind a journal, and be told from head lines too
+-- the text can stand after a journal, and be told from head lines too
 abbrev CanFollow : List ℕ → Type 0
 CanFollow x = IsTrue (is_other x) × (is_apart x ≡ true)
 
@@ -139,7 +139,7 @@ name_cut s t a b x y e =
     let three = number_cut a.id b.id (10 ∷ x) (10 ∷ y) refl refl two.1 in
     ap behind_first three.1
 
--- the lines of names end where the text behind them begins
+-- the lines of names end where the text after them begins
 names_cut : (f g : ℕ → Name) (ss ts : List ℕ) (x y : List ℕ) → is_apart x ≡ true → is_apart y ≡ true → flat_map (λ s. name_text s (f s)) ss ++ x ≡ flat_map (λ s. name_text s (g s)) ts ++ y → x ≡ y
 unfolding name_text
 names_cut f g [] [] x y ax ay e = e

@@ -38,7 +38,7 @@ use Rattle.gpu_plan.proofs.Counts.{none_flushes}
 use Rattle.serial_laws.specs.Scripts.{IsScriptPlan, AreLawfulPlans}
 use Rattle.history_laws.specs.Laws.{ScriptsAreLawful}
 
--- ---- what is kept of a draft
+-- ---- the record of a draft
 
 -- a plan that a script may have, with room for 16 memories of each kind
 record IsKept (plan : PlanData) : Type 0 where

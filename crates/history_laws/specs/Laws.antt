@@ -1,4 +1,4 @@
--- Laws of scripts, of the history that a script has on one thread, and of what is printed of histories.
+-- Laws of scripts, of the history that a script has on one thread, and of the output of histories.
 use Rattle.std.specs.Prelude.{◌≡◌, ℕ, ◌≤◌, List, [], ◌∷◌, ◌++◌, length, take, IfOk, Some}
 use Rattle.std.specs.List.{All, flat_map}
 use Rattle.gpu_plan.specs.Plans.{PlansData, plan_of}
@@ -36,7 +36,7 @@ ScriptsRunToTheEnd = (text : List ℕ) → IfOk (script_of text) (λ p. IsComple
 
 -- ---- dumps
 
--- what is printed of the dumps of a serial history may be told of them: each value is that of its place after a first
+-- the dump lines of a serial history may be told of its dumps: each value is that of its place after a first
 -- part of the history in which at least as many flushes of its stream are finished as stand before the dump's action
 abbrev pub DumpsMayBeTold : Type 0
 DumpsMayBeTold = (p : PlansData) → AreLawfulPlans p → AreDumpLines p (serial p) (dump_lines p (serial p))
@@ -76,7 +76,7 @@ abbrev pub SameOutputIsSameHistory : Type 0
 SameOutputIsSameHistory = (p q : PlansData) (mark other : Ending → ℕ) (g h : List Event) → AreLawfulPlans p → AreLawfulPlans q → IsLegal p g → IsLegal q h
     → output p mark g ≡ output q other h → g ≡ h
 
--- and so they are where their dumps are printed behind it
+-- and so they are where their dumps are printed after it
 abbrev pub SameRunIsSameHistory : Type 0
 SameRunIsSameHistory = (p q : PlansData) (mark other : Ending → ℕ) (g h : List Event) → AreLawfulPlans p → AreLawfulPlans q → IsLegal p g → IsLegal q h
     → output p mark g ++ dump_lines p g ≡ output q other h ++ dump_lines q h → g ≡ h
@@ -85,7 +85,7 @@ SameRunIsSameHistory = (p q : PlansData) (mark other : Ending → ℕ) (g h : Li
 abbrev pub look_lines : List (ℕ × ℕ × ℕ) → List ℕ
 look_lines looks = flat_map (λ look. view_text look.0 look.1 look.2) looks
 
--- and so they are where threads ran them: whatever may be told of their dumps, and whatever looks are printed behind
+-- and so they are where threads ran them: whatever may be told of their dumps, and whatever looks are printed after
 abbrev pub SameThreadedRunIsSameHistory : Type 0
 SameThreadedRunIsSameHistory = (p q : PlansData) (mark other : Ending → ℕ) (g h : List Event) (dumps more : List ℕ) (looks others : List (ℕ × ℕ × ℕ))
     → AreLawfulPlans p → AreLawfulPlans q → IsLegal p g → IsLegal q h → AreDumpLines p g dumps → AreDumpLines q h more

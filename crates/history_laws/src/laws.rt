@@ -8,7 +8,7 @@ pub fn scripts_are_lawful()
     ensures complete { ScriptsRunToTheEnd }
 {}
 
-/// The law of dumps: what is printed of the dumps of a serial history is what a client may have found once its await had
+/// The law of dumps: the dump lines of a serial history say what a client may have found once its await had
 /// passed; and what it would have found at any later moment may be told as well.
 #[tactic(auto, using(crate::proofs::Dumps::dumps_may_be_told, crate::proofs::Dumps::later_may_be_told))]
 pub fn dumps_may_be_told()
@@ -16,9 +16,11 @@ pub fn dumps_may_be_told()
     ensures later { LaterMayBeTold }
 {}
 
-/// The law of kept waits. No step, finish or loss by an error of a stream comes while a kept wait of its first number is
-/// pending; when it comes, and ever after the finish, each kept wait of that number has exactly one ending. Each ending has
-/// the event that made it. After a legal and complete history no wait is pending.
+/// The law of kept waits:
+/// - no step, finish or loss by an error of a stream comes while a kept wait of its first number is pending
+/// - when it comes, and ever after the finish, each kept wait of that number has exactly one ending
+/// - each ending has the event that made it
+/// - after a legal and complete history no wait is pending
 #[tactic(auto, using(crate::proofs::Waits::none_runs_waiting, crate::proofs::Waits::runs_after_endings, crate::proofs::Waits::finished_have_ended, crate::proofs::Waits::endings_have_causes, crate::proofs::Waits::complete_waits_for_none))]
 pub fn kept_waits_are_followed()
     ensures waiting { NoneRunsWaiting }
@@ -29,7 +31,7 @@ pub fn kept_waits_are_followed()
 {}
 
 /// The law of the whole output: it tells its history, in either version, and with no look at the script. So does an output
-/// with the lines of its dumps behind it, which is what a run on one thread prints, or with those of any run on threads.
+/// with the lines of its dumps after it, which is what a run on one thread prints, or with those of any run on threads.
 #[tactic(auto, using(crate::proofs::Outputs::same_output_is_same_history, crate::proofs::Outputs::same_run_is_same_history, crate::proofs::Outputs::same_threaded_run_is_same_history))]
 pub fn outputs_tell_histories()
     ensures output { SameOutputIsSameHistory }

@@ -1,4 +1,7 @@
 //! Sums over the texels of images.
+//!
+//! What the contracts say:
+//! - `texel_sum` is the sum of all texels of all images, modulo 2^32.
 #![tactic(auto)]
 
 mod sums;

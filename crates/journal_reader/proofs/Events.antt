@@ -35,7 +35,7 @@ Told pieces event = (pieces ≡ event_pieces event) × IsWritten event
 same_event : (pieces : List (List ℕ)) (a b : Event) → Some a ≡ Some b → Told pieces a → Told pieces b
 same_event pieces a b e told = let is : a ≡ b = cc in subst (Told pieces) is told
 
--- ---- what the pieces behind a first word say
+-- ---- what the pieces after a first word say
 
 order_told : (pieces : List (List ℕ)) (event : Event) → order_said pieces ≡ Some event → Told (codes "order" ∷ pieces) event
 unfolding order_said

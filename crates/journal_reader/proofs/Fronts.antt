@@ -60,7 +60,7 @@ colon_first a b others = by (position is_colon (a ++ 58 ∷ b)) refl
           ]
         ]
 
--- what stands before the colon of a word, and behind it
+-- what stands before the colon of a word, and after it
 pub word_cut_at : (text : List ℕ) (word : ℕ × ℕ) (rest : List ℕ) (at : ℕ) → HasWord text word rest → position is_colon text ≡ Some at → (take at text ≡ numeral word.0) × (drop (at + 1) text ≡ hex8 word.1 ++ rest)
 word_cut_at text word rest at has e =
     let a = numeral word.0 in

@@ -206,7 +206,7 @@ journal_is_one text g h first second = different_texts g h (All-weaker IsWritten
 
 -- ---- a text that is read up to some place
 
--- the events of what was read, and the text behind it
+-- the events of what was read, and the text after it
 pub record IsRead (text : List ℕ) (events : List Event) (rest : List ℕ) : Type 0 where
   pub is : text ≡ flat_map event_text events ++ rest
   pub written : All IsWritten events

@@ -14,7 +14,7 @@ use Rattle.journal_reader.specs.Said.{◌>>=◌, own_number, own_value, word_sai
 use Rattle.journal_reader.specs.Reading.{IsWord}
 use Rattle.journal_reader.proofs.Numbers.{number_told_own, own_number_there, value_told_own, own_value_there}
 
--- the words so far with the words that are said behind them, if these are words
+-- the words so far with the words that are said after them, if these are words
 abbrev pub with_front : List (ℕ × ℕ) → Option (List (ℕ × ℕ)) → Option (List (ℕ × ℕ))
 with_front words said = option_map (λ more. words ++ more) said
 

@@ -3,7 +3,7 @@ use Rattle.std.specs.Prelude.{◌≡◌, ℕ, ◌==◌, ◌<◌, ◌^◌, Bool, 
 use Rattle.gpu_journal.specs.Digits.{numeral, hex8}
 use Rattle.journal_reader.specs.Reading.{IsWord}
 
--- nothing, or a space and what stands behind it
+-- nothing, or a space and what stands after it
 abbrev pub IsCut : List ℕ → Type 0
 IsCut [] = Unit {0}
 IsCut (byte ∷ text) = byte ≡ 32
@@ -12,7 +12,7 @@ IsCut (byte ∷ text) = byte ≡ 32
 abbrev pub is_colon : ℕ → Bool
 is_colon byte = byte == 58
 
--- the text is the eight digits of the value, and this stands behind them
+-- the text is the eight digits of the value, and this stands after them
 pub record HasValue (text : List ℕ) (value : ℕ) (rest : List ℕ) : Type 0 where
   pub is : text ≡ hex8 value ++ rest
   pub small : value < 2 ^ 32
@@ -22,7 +22,7 @@ pub record HasValue (text : List ℕ) (value : ℕ) (rest : List ℕ) : Type 0 w
 abbrev pub HasNoValue : List ℕ → Type 0
 HasNoValue text = (value : ℕ) (rest : List ℕ) → HasValue text value rest → ⊥
 
--- the text is a place, a colon and the eight digits of a value, and this stands behind them
+-- the text is a place, a colon and the eight digits of a value, and this stands after them
 pub record HasWord (text : List ℕ) (word : ℕ × ℕ) (rest : List ℕ) : Type 0 where
   pub is : text ≡ numeral word.0 ++ 58 ∷ (hex8 word.1 ++ rest)
   pub small : IsWord word

@@ -13,7 +13,7 @@ use Rattle.journal_reader.specs.declared.fault.JournalFault.TheVariants as fault
 abbrev pub IsWord : ℕ × ℕ → Type 0
 IsWord word = (word.0 < 2 ^ 32) × (word.1 < 2 ^ 32)
 
--- an event of numbers of 32 bits; a loss for want of memory has no words
+-- an event of numbers of 32 bits; a loss as out of memory has no words
 abbrev pub IsWritten : Event → Type 0
 IsWritten (Order stream order place) = (stream < 2 ^ 32) × (order < 2 ^ 32) × (place < 2 ^ 32)
 IsWritten (Step stream words) = (stream < 2 ^ 32) × All IsWord words
@@ -36,7 +36,7 @@ abbrev pub joined : ℕ → List (List ℕ) → List (List ℕ)
 joined byte [] = (byte ∷ []) ∷ []
 joined byte (line ∷ lines) = (byte ∷ line) ∷ lines
 
--- the lines of a text, each with the line feed that ends it; what stands behind the last one is a line without any
+-- the lines of a text, each with the line feed that ends it; what stands after the last one is a line without any
 abbrev pub whole_lines : List ℕ → List (List ℕ)
 whole_lines [] = []
 whole_lines (byte ∷ text) = if ends_line byte then (byte ∷ []) ∷ whole_lines text else joined byte (whole_lines text)
@@ -45,7 +45,7 @@ whole_lines (byte ∷ text) = if ends_line byte then (byte ∷ []) ∷ whole_lin
 abbrev pub IsLineOf : List ℕ → Event → Type 0
 IsLineOf line event = IsWritten event × (line ≡ event_text event)
 
--- the line behind so many others is the first that is no event's
+-- the line after a given number of others is the first that is no event's
 abbrev pub IsFirstBad : List (List ℕ) → ℕ → Type 0
 IsFirstBad [] k = ⊥
 IsFirstBad (line ∷ lines) zero = (event : Event) → IsLineOf line event → ⊥

@@ -19,7 +19,7 @@ None >>= f = None
 abbrev pub is_space : ℕ → Bool
 is_space byte = byte == 32
 
--- what stands behind the first space, cut at each further one
+-- what stands after the first space, cut at each further one
 abbrev pub pieces_of : List ℕ → List (List ℕ)
 pieces_of text = drop 1 (slice_split is_space text)
 
@@ -59,7 +59,7 @@ abbrev pub why_said : List ℕ → Option Why
 why_said word =
     if bytes_eq word (codes "memory") then Some Memory else (if bytes_eq word (codes "1") then Some (Error InvalidSize) else (if bytes_eq word (codes "2") then Some (Error OutOfBounds) else (if bytes_eq word (codes "3") then Some (Error UnknownCommand) else (if bytes_eq word (codes "4") then Some (Error InvalidArguments) else (if bytes_eq word (codes "6") then Some (Error Quota) else None)))))
 
--- behind `order`: a stream, an order number and an action place
+-- after `order`: a stream, an order number and an action place
 unfoldable pub order_said : List (List ℕ) → Option Event
 order_said (s ∷ n ∷ c ∷ []) = do
   stream ← own_number s
@@ -68,7 +68,7 @@ order_said (s ∷ n ∷ c ∷ []) = do
   Some (Order stream order place)
 order_said _ = None
 
--- behind `step`: a stream and words
+-- after `step`: a stream and words
 unfoldable pub step_said : List (List ℕ) → Option Event
 step_said [] = None
 step_said (s ∷ pieces) = do
@@ -76,7 +76,7 @@ step_said (s ∷ pieces) = do
   words ← words_said pieces
   Some (Step stream words)
 
--- behind `finish`: a stream and an order number
+-- after `finish`: a stream and an order number
 unfoldable pub finish_said : List (List ℕ) → Option Event
 finish_said (s ∷ n ∷ []) = do
   stream ← own_number s
@@ -84,13 +84,13 @@ finish_said (s ∷ n ∷ []) = do
   Some (Finish stream order)
 finish_said _ = None
 
--- a loss with these words; one for want of memory has none
+-- a loss with these words; one as out of memory has none
 abbrev pub lost_with : ℕ → Why → List (ℕ × ℕ) → Option Event
 lost_with stream (Error error) words = Some (Lost stream (Error error) words)
 lost_with stream Memory [] = Some (Lost stream Memory [])
 lost_with stream Memory (word ∷ words) = None
 
--- behind `lost`: a stream, why it was lost, and words
+-- after `lost`: a stream, why it was lost, and words
 unfoldable pub lost_said : List (List ℕ) → Option Event
 lost_said (s ∷ w ∷ pieces) = do
   stream ← own_number s
@@ -99,14 +99,14 @@ lost_said (s ∷ w ∷ pieces) = do
   lost_with stream why words
 lost_said _ = None
 
--- behind `close`: a stream
+-- after `close`: a stream
 unfoldable pub close_said : List (List ℕ) → Option Event
 close_said (s ∷ []) = do
   stream ← own_number s
   Some (Close stream)
 close_said _ = None
 
--- a first word, and what it says with the pieces behind it
+-- a first word, and what it says with the pieces after it
 unfoldable pub said_by : List ℕ → List (List ℕ) → Option Event
 said_by keyword pieces =
     if bytes_eq keyword (codes "step") then step_said pieces else (if bytes_eq keyword (codes "order") then order_said pieces else (if bytes_eq keyword (codes "finish") then finish_said pieces else (if bytes_eq keyword (codes "lost") then lost_said pieces else (if bytes_eq keyword (codes "close") then close_said pieces else None))))

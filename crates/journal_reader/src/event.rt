@@ -31,7 +31,7 @@ fn why(word: &[u8]) -> Option<Why>
     }
 }
 
-// The pieces behind `order`.
+// The pieces after `order`.
 #[tactic(auto, unfolding(crate::specs::Said::order_said))]
 fn order(mut pieces: Pieces<'_>) -> Option<Event>
     ensures { result ≡ order_said (pieces_of pieces.entry.rest.now) }
@@ -54,7 +54,7 @@ fn order(mut pieces: Pieces<'_>) -> Option<Event>
     })
 }
 
-// The pieces behind `step`.
+// The pieces after `step`.
 #[tactic(auto, unfolding(crate::specs::Said::step_said))]
 fn step(
     alloc: Global,
@@ -75,7 +75,7 @@ fn step(
     }
 }
 
-// The pieces behind `finish`.
+// The pieces after `finish`.
 #[tactic(auto, unfolding(crate::specs::Said::finish_said))]
 fn finish(mut pieces: Pieces<'_>) -> Option<Event>
     ensures { result ≡ finish_said (pieces_of pieces.entry.rest.now) }
@@ -88,7 +88,7 @@ fn finish(mut pieces: Pieces<'_>) -> Option<Event>
     Some(Event::Finish { stream, order })
 }
 
-// A loss with these words: one for want of memory has none.
+// A loss with these words: one as out of memory has none.
 fn lost_with(stream: u32, why: Why, words: Words) -> Option<Event>
     ensures { result ≡ lost_with stream why words }
 {
@@ -103,7 +103,7 @@ fn lost_with(stream: u32, why: Why, words: Words) -> Option<Event>
     Some(Event::Lost { stream, why, words })
 }
 
-// The pieces behind `lost`.
+// The pieces after `lost`.
 #[tactic(auto, unfolding(crate::specs::Said::lost_said))]
 fn lost(
     alloc: Global,
@@ -124,7 +124,7 @@ fn lost(
     }
 }
 
-// The pieces behind `close`.
+// The pieces after `close`.
 #[tactic(auto, unfolding(crate::specs::Said::close_said))]
 fn close(mut pieces: Pieces<'_>) -> Option<Event>
     ensures { result ≡ close_said (pieces_of pieces.entry.rest.now) }
@@ -136,7 +136,7 @@ fn close(mut pieces: Pieces<'_>) -> Option<Event>
     Some(Event::Close { stream })
 }
 
-// What a first word says with the pieces behind it.
+// What a first word says with the pieces after it.
 #[tactic(auto, unfolding(crate::specs::Said::said_by))]
 fn said_by(
     alloc: Global,

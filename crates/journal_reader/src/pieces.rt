@@ -4,7 +4,7 @@ ghost use Rattle.std.specs.Iterator.{YieldsFirstRef, item_count};
 ghost use Rattle.journal_reader.specs.Said.{is_space, pieces_of};
 ghost use Rattle.journal_reader.specs.Fronts.{IsCut};
 
-/// What is left of a line behind a piece of it: nothing, or a space and the further pieces.
+/// The rest of a line after a piece of it: nothing, or a space and the further pieces.
 #[derive(Clone, Copy, Debug)]
 pub(crate) struct Pieces<'a> {
     pub(crate) rest: &'a [u8],
@@ -33,7 +33,7 @@ impl<'a> Pieces<'a> {
     }
 }
 
-/// What stands before the first space, and the pieces behind it.
+/// What stands before the first space, and the pieces after it.
 #[tactic(auto, using(crate::proofs::Cuts::cut_none))]
 pub(crate) fn first_piece(text: &[u8]) -> (&[u8], Pieces<'_>)
     ensures { slice_split is_space text.now ≡ result.0.now ∷ pieces_of result.1.rest.now }
@@ -47,7 +47,7 @@ pub(crate) fn first_piece(text: &[u8]) -> (&[u8], Pieces<'_>)
     }
 }
 
-// What stands behind the first space, cut at the next one.
+// What stands after the first space, cut at the next one.
 #[tactic(auto, using(crate::proofs::Cuts::next_found, crate::proofs::Cuts::next_none))]
 fn next_piece(text: &[u8]) -> Option<(&[u8], &[u8])>
     ensures { MatchOption result (pieces_of text.now ≡ [])

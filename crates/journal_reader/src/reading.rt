@@ -7,7 +7,7 @@ use gpu_journal::Event;
 use script_words::{cut_at, line_end};
 use std::alloc::Global;
 
-// The first line, without its line feed, and what stands behind it.
+// The first line, without its line feed, and what stands after it.
 fn first_line(text: &[u8]) -> Option<(&[u8], &[u8])>
     ensures cut { IfSome result (λ cut. text.now ≡ cut.0.now ++ 10 ∷ cut.1.now) }
     ensures first { MatchOption result (HasNoFeed text.now) (λ cut. HasNoFeed cut.0.now) }

@@ -27,7 +27,7 @@ fn is_cut(text: &[u8]) -> bool
     }
 }
 
-// The value whose eight digits a text begins with, and what stands behind them: nothing, or a space and more.
+// The value whose eight digits a text begins with, and what stands after them: nothing, or a space and more.
 fn first_value(text: &[u8]) -> Option<(u32, &[u8])>
     ensures { MatchOption result (HasNoValue text.now)
         (λ front. HasValue text.now front.0 front.1.now) }
@@ -43,7 +43,7 @@ fn first_value(text: &[u8]) -> Option<(u32, &[u8])>
     Some((value, rest))
 }
 
-// The place and the value of the word that a text begins with, and what stands behind it: nothing, or a space and more.
+// The place and the value of the word that a text begins with, and what stands after it: nothing, or a space and more.
 fn first_word(text: &[u8]) -> Option<((u32, u32), &[u8])>
     ensures { MatchOption result (HasNoWord text.now)
         (λ front. HasWord text.now front.0 front.1.now) }

@@ -17,7 +17,7 @@ shown versions = []
 abbrev pub moved : List Version → List Version → ℕ → Type 0
 moved before after n = Unit {0}
 
--- a version with no fewer events than any other may come behind them
+-- a version with no fewer events than any other may come after them
 pub rises : (versions : List Version) (v : Version) → AreRising versions → IsLatest versions v.events → AreRising (versions ++ v ∷ [])
 rises versions v rising latest =
     IsNonDecreasingBy-push (λ (w : Version). w.events) versions v rising (λ d some. latest (length versions - 1) d (omega arith))

@@ -20,7 +20,7 @@ further_if : (front : Option FrontData) (now next : FrontData) → IsBegun now n
 further_if None now next on fits = tt
 further_if (Some f) now next on fits = begun_further f now next fits on
 
--- one view is replaced by one that has met what is published now
+-- one view is replaced by one that has met the version published now
 kept_at : (x y : Shown) (views : List Known) (seat : ℕ) (w : Known) → Holds x views → IsLast y.version y.front.versions → IsBegun x.front y.front → w.front ≡ Some y.front → Holds y (set views seat w)
 kept_at x y views seat w h last on new = record {
   last = last;

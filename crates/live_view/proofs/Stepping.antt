@@ -39,7 +39,7 @@ images_after [] shown = refl
 images_after (Draw op ∷ steps) shown = images_after steps (after shown (Draw op))
 images_after (End mark ∷ steps) shown = images_after steps (after shown (End mark))
 
--- what some steps and an end behind them lead to
+-- what some steps and an end after them lead to
 pub ended : (steps : List Step) (mark : Mark) (shown : Shown) → fold after shown (steps ++ End mark ∷ []) ≡ record { version = version (drawn_by shown.version.images (ops_of steps)) mark.events; front = mark.front }
 ended steps mark shown =
     fold-append after shown steps (End mark ∷ []) ∙ ap (λ (images : Pictures). record { version = version images mark.events; front = mark.front }) (images_after steps shown)
@@ -67,7 +67,7 @@ whole [] all pre = refl
 whole (v ∷ front) [] pre = absurd (cc (pre.1))
 whole (v ∷ front) (w ∷ all) pre = let same : v ≡ w = cc (pre.1) in let rest = whole front all (pre.0, cc (pre.1)) in cc (same, rest)
 
--- an operation goes from the front of those that wait behind the steps
+-- an operation goes from the front of those that wait after the steps
 pub handed_on : (steps : List Step) (op : Op) (items all : List Op) → all ≡ op ∷ items → ops_of (steps ++ Draw op ∷ []) ++ items ≡ ops_of steps ++ all
 handed_on steps op items all is = ap (λ (ops : List Op). ops ++ items) (ops_push steps op) ∙ append_assoc (ops_of steps) (op ∷ []) items ∙ ap (λ (ops : List Op). ops_of steps ++ ops) (sym is)
 
@@ -75,13 +75,13 @@ handed_on steps op items all is = ap (λ (ops : List Op). ops ++ items) (ops_pus
 pub all_handed : (steps : List Step) (items noted : List Op) → ops_of steps ++ items ≡ noted → items ≡ [] → ops_of steps ≡ noted
 all_handed steps items noted is none = sym (append-nil (ops_of steps)) ∙ ap (λ (more : List Op). ops_of steps ++ more) (sym none) ∙ is
 
--- one more comes behind what is left behind a beginning
+-- one more comes after the rest after a beginning
 pub drop_push : (front all : List Version) (v : Version) → IsPrefix front all → drop (length front) (all ++ v ∷ []) ≡ drop (length front) all ++ v ∷ []
 drop_push [] all v pre = refl
 drop_push (w ∷ front) [] v pre = absurd (cc (pre.1))
 drop_push (w ∷ front) (x ∷ all) v pre = drop_push front all v (pre.0, cc (pre.1))
 
--- nothing is left behind the whole
+-- nothing is left after the whole
 drop_self : (all : List Version) → drop (length all) all ≡ []
 drop_self [] = refl
 drop_self (v ∷ all) = drop_self all

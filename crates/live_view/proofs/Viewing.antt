@@ -32,7 +32,7 @@ prefix_back told new k v pre lt at =
     let there : slice_get new k ≡ Some w = prefix_get told new k w pre here in
     here ∙ sym there ∙ at
 
--- a look whose place is below the number of versions told is one at a version that was told
+-- a look whose place is below the number of versions told is one at a version that was reported
 pub of_told : (old told new : List Version) (s : Sight) → IsPrefix old new → IsPrefix told new → s.place < length told → IsOf old s → IsOf told s
 of_told old told new s pre pre' lt is =
     let v = seen_at (slice_get old s.place) s.look is in
@@ -96,7 +96,7 @@ looks_more old new looks v are pre rising last =
 pub looks_longer : (old new : List Version) (looks : List Sight) → AreLooks old looks → IsPrefix old new → AreLooks new looks
 looks_longer old new looks are pre = record { each = λ i d lt. of_longer old new (get_or looks i d) pre (are.each i d lt); places = are.places; events = are.events }
 
--- where the latest look is at a version that was told, all looks are
+-- where the latest look is at a version that was reported, all looks are
 pub looks_told : (old told new : List Version) (looks : List Sight) → AreLooks old looks → IsPrefix old new → IsPrefix told new → latest_of looks ≤ length told → All (IsOf told) looks
 looks_told old told new looks are pre pre' low i d lt =
     let below = above_each looks 0 i d lt in

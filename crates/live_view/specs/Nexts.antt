@@ -5,6 +5,6 @@ use Rattle.live_view.specs.Versions.{version, drawn_by}
 use Rattle.live_view.specs.Steps.{ops_of}
 use Rattle.live_view.specs.Copies.{published, pending}
 
--- the images of what is published after the operations behind it, and the number of events
+-- the images of the published version with the operations after it, and the number of events
 abbrev pub next_of : Next → Version
 next_of next = version (drawn_by (published next.copies.now).version.images (ops_of (pending next.copies.now))) next.events

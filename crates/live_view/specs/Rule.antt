@@ -22,16 +22,16 @@ pub record IsBegun (front now : FrontData) : Type 0 where
 abbrev pub nothing : Known
 nothing = record { front = None; looks = [] }
 
--- what was met before begins the list of what is published
+-- what was met before begins the list of the published versions
 abbrev pub Fits : Shown → Known → Type 0
 Fits shown known = IfSome known.front (λ front. IsBegun front shown.front)
 
--- the rule: what is published ends its list, and what each reader and the writer met begins that list
+-- the rule: the published version ends its list, and what each reader and the writer met begins that list
 pub record Holds (shown : Shown) (views : List Known) : Type 0 where
   pub last : IsLast shown.version shown.front.versions
   pub begun : (seat : ℕ) (known : Known) → get_elem? views seat ≡ some known → Fits shown known
 
--- what is known once a value was met
+-- the facts once a value was met
 abbrev pub met : Known → Shown → Known
 met known shown = record known { front = Some shown.front }
 
@@ -54,6 +54,6 @@ meets known shown still after = Finds known shown × (after ≡ met known shown)
 abbrev pub publishes : Known → Shown → Shown → Known → Type 0
 publishes known shown next after = after ≡ met known next
 
--- a viewer knows what it was told
+-- a viewer knows what it heard
 abbrev pub informed : Known → Known → Known
 informed known told = record known { front = told.front }

@@ -12,7 +12,7 @@ use Rattle.live_view.specs.Fronts.{FrontData}
 use Rattle.live_view.specs.Looks.{AreLooks, latest_of}
 use Rattle.live_view.specs.Rule.{IsLast, IsBegun}
 
--- the writer: its view, the versions published, those behind them whose publishing found no memory, the images of the
+-- the writer: its view, the versions published, those after them whose publishing found no memory, the images of the
 -- last version published, the operations noted since, and how many more there is room for
 pub record WriterData : Type 0 where
   pub view : Book
@@ -59,7 +59,7 @@ pub record IsViewer (known : Known) (latest count : ℕ) : Type 0 where
   pub latest_is : latest ≡ latest_of known.looks
   pub counted : count ≡ min (length known.looks) (2 ^ 32 - 1)
 
--- what the type of the writer keeps: what is published ends its list, which all versions go on
+-- what the type of the writer keeps: the published version ends its list, which all versions go on
 pub record IsWriter (shown : Shown) (all : FrontData) : Type 0 where
   pub last : IsLast shown.version shown.front.versions
   pub begun : IsBegun shown.front all

@@ -25,6 +25,6 @@ ops_of [] = []
 ops_of (Draw op ∷ steps) = op ∷ ops_of steps
 ops_of (End mark ∷ steps) = ops_of steps
 
--- the value after some steps with an end behind them
+-- the value after some steps with an end after them
 abbrev pub ended_by : Shown → List Step → Mark → Shown
 ended_by shown steps mark = record { version = version (drawn_by shown.version.images (ops_of steps)) mark.events; front = mark.front }

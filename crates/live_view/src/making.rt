@@ -59,7 +59,7 @@ fn viewer<R: Wait>(rt: &R, copies: &mut Copies) -> Viewer
     Viewer::of(seat)
 }
 
-// Adds so many viewers.
+// Adds a given number of viewers.
 fn add_viewers<R: Wait>(rt: &R, copies: &mut Copies, all: &mut Vec<Viewer>, viewers: u32)
     requires known { view copies.old.desk.place ≡ met nothing (published copies.old) }
     requires first { (published copies.old).front.versions ≡ blank ∷ [] }
@@ -100,7 +100,7 @@ fn copies_of<R: Wait>(
     }
 }
 
-/// A view whose one version has no image and no event, with its writer and so many viewers.
+/// A view whose one version has no image and no event, with its writer and a given number of viewers.
 ///
 /// # Errors
 ///

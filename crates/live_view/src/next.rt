@@ -1,6 +1,6 @@
 use crate::rule::Copies;
 
-/// What the next version is made of: what is published, with the steps behind it, and a number of events.
+/// What the next version is made of: the published version, with the steps after it, and a number of events.
 #[derive(Drop)]
 pub struct Next<'a> {
     pub copies: &'a Copies,

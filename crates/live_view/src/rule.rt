@@ -8,7 +8,7 @@ use crossbeam_utils::rule::{Outcome, Protocol};
 use left_right::reader::{Reader, Reading};
 use left_right::writer::Writer;
 
-/// The rule of the live view: what is published is the last version of a list that only grows.
+/// The rule of the live view: the published version is the last version of a list that only grows.
 pub struct Newest;
 
 impl Protocol<Shown, Known> for Newest {
@@ -34,7 +34,7 @@ impl Outcome<Shown, Known> for Looks {
     ghost then = { looks };
 }
 
-// A viewer enters without a look, to learn what was told.
+// A viewer enters without a look, to learn what was reported.
 pub(crate) struct Meets;
 
 impl Outcome<Shown, Known> for Meets {
@@ -52,7 +52,7 @@ impl Outcome<Shown, Known> for Publishes {
     ghost then = { publishes };
 }
 
-// A new viewer is told of the view.
+// A new viewer hears of the view.
 pub(crate) struct Tells;
 
 impl Split<Known> for Tells {

@@ -8,7 +8,7 @@ pub struct Mark {
     pub front: Front,
 }
 
-/// What leads from one version to the next: operations, and a mark behind them.
+/// What leads from one version to the next: operations, and a mark after them.
 #[derive(Drop)]
 pub enum Step {
     Draw(Drawn),

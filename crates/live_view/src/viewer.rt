@@ -60,7 +60,7 @@ impl Model for Viewer {
         viewer.looks };
 }
 
-// Whether looks up to the latest are all at versions that were told, by their numbers.
+// Whether looks up to the latest are all at versions that were reported, by their numbers.
 fn are_told(latest: u64, told: u64) -> bool
     ensures { result ≡ (nat_lt told (2 ^ 64 - 1) && nat_le latest told) }
 {
@@ -108,8 +108,8 @@ impl Viewer {
 
     /// Takes in what the writer told, so that each later look is at the last version told or at a later one.
     ///
-    /// It answers whether every look before was at a version that was told. It enters once, which is no look, and waits
-    /// as `look` does.
+    /// It answers whether every look before was at a version that was reported. It enters once, which is no look, and
+    /// waits as `look` does.
     pub fn learn<R: Wait>(&mut self, rt: &R, told: Told) -> bool
         requires { told.view ≡ self.old.view }
         ensures view { self.new.view ≡ self.old.view }

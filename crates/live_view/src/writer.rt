@@ -66,7 +66,7 @@ impl ViewWriter {
         }
     }
 
-    /// Makes room for so many more operations.
+    /// Makes room for a given number of further operations.
     ///
     /// # Errors
     ///
@@ -97,7 +97,8 @@ impl ViewWriter {
     ///
     /// # Errors
     ///
-    /// `Memory`: what is published stays, and so do the operations noted. The version may stand among those that were tried.
+    /// `Memory`: the published version stays, and so do the operations noted. The version may stand among those that
+    /// were tried.
     pub fn publish<R: Wait>(&mut self, rt: &R, events: u32) -> Result<(), Memory>
         requires { IsLatest (self.old.versions ++ self.old.tried) events }
         ensures view { self.new.view ≡ self.old.view }

@@ -1,4 +1,4 @@
--- How lists of written members are told by numbers, so that they can be compared.
+-- How lists of written members are named by numbers, so that they can be compared.
 use Rattle.std.specs.Prelude.{◌≡◌, ℕ, List, Option, Some, None, refl}
 use Rattle.std.specs.Coded.{Coded, code_by, coded×, coded_ℕ, coded_list, coded_option}
 use Rattle.gpu_word.specs.Results.{Written, Write, Finish}

@@ -9,7 +9,7 @@ use atomic_table::Table;
 use gpu_word::Memory;
 use std::alloc::Global;
 
-/// The result words of so many places, all 0, with their writer and their reader, which have done nothing.
+/// The result words of a given number of places, all 0, with their writer and their reader, which have done nothing.
 ///
 /// # Errors
 ///

@@ -46,7 +46,7 @@ impl ResultReader {
         shared.load::<LoadsCount>(&mut self.seat, 0)
     }
 
-    // Loads a result, once so many finishes were counted.
+    // Loads a result, once the given number of finishes was counted.
     fn load_result<N: Asked>(&mut self, words: &ResultWords, place: u32, at_least: u32) -> u32
         requires table { words.now ≡ self.old.table }
         requires place { place < self.old.places }
@@ -63,8 +63,8 @@ impl ResultReader {
         found as u32
     }
 
-    /// Reads a result once at least so many finishes are counted: the last value written to its place by then, or a later
-    /// one. None is answered exactly where the number of finishes that this call loads is lower.
+    /// Reads a result once at least the given number of finishes is counted: the last value written to its place by
+    /// then, or a later one. None is answered exactly where the number of finishes that this call loads is lower.
     pub fn read(&mut self, words: &ResultWords, place: u32, at_least: u32) -> Option<u32>
         requires table { words.now ≡ self.old.table }
         requires place { place < self.old.places }

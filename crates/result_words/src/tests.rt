@@ -64,7 +64,7 @@ fn words_writers_and_readers_cross_threads(rt: HostRuntime) -> Result<(), Fail> 
     Ok(())
 }
 
-// Writes the number of each round to both places, and counts its finish behind that.
+// Writes the number of each round to both places, and counts its finish after that.
 fn write_all(writer: &mut ResultWriter, words: &ResultWords)
     requires table { words.now ≡ writer.old.table }
     requires places { writer.old.places ≡ 2 }
@@ -78,11 +78,11 @@ fn write_all(writer: &mut ResultWriter, words: &ResultWords)
     }
 }
 
-// A later read than that of round `found`, or of it again: the round in the second place, or
-// `None` where what is read is not what the writer wrote. The finish of round `found` may be still
-// to come, but that of the round before it was counted. Each value is the number of a round, of
-// the last one asked for or of a later one, and what is read of the first place, which is written
-// first, is no older than what was read of the second.
+// A later read than that of round `found`, or of it again. It is the round in the second place, or `None` where the
+// values are not what the writer wrote:
+// - the finish of round `found` may be still to come, but that of the round before it was counted
+// - each value is the number of a round, of the last one asked for or of a later one
+// - the first place is written first, so its value is no older than that of the second
 fn read_round(reader: &mut ResultReader, words: &ResultWords, found: u32) -> Option<u32>
     requires table { words.now ≡ reader.old.table }
     requires places { reader.old.places ≡ 2 }
@@ -107,9 +107,9 @@ fn read_round(reader: &mut ResultReader, words: &ResultWords, found: u32) -> Opt
     Some(second)
 }
 
-// How many rounds were read, and which was the last, or `None` where a read was wrong. It goes on
-// until there were enough reads and the last round was among them, or until there are no more
-// turns. What is read before the first round counts for nothing.
+// How many rounds were read, and which was the last, or `None` where a read was wrong:
+// - it goes on until there were enough reads and the last round was among them, or until there are no more turns
+// - a value read before the first round counts for nothing
 fn read_all(reader: &mut ResultReader, words: &ResultWords) -> Option<(u32, u32)>
     requires table { words.now ≡ reader.old.table }
     requires places { reader.old.places ≡ 2 }

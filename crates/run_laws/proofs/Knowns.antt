@@ -1,4 +1,4 @@
--- What each kind of event makes of what is known of its own stream.
+-- What each kind of event makes of the facts of its own stream.
 use Rattle.std.proofs.Common.{◌≡◌, ℕ, ◌+◌, List, ◌∷◌, refl, ap, ◌∙◌}
 use Rattle.gpu_plan.specs.Plans.{PlansData, plan_of}
 use Rattle.gpu_plan.specs.Passes.{greatest}

@@ -71,7 +71,7 @@ finish_obeys p h s n lawful legal open' may same =
       rule_12 = tt;
     }
 
--- a loss for want of memory, at any time while the stream is open
+-- a loss as out of memory, at any time while the stream is open
 pub memory_obeys : (p : PlansData) (h : List Event) (s : ℕ) → IsOpen p h s → Obeys p h (Lost s Memory [])
 memory_obeys p h s open' = record {
   rule_1 = tt;

@@ -16,12 +16,12 @@ use Rattle.gpu_journal.specs.declared.end.End.TheVariants.{Done}
 use Rattle.gpu_journal.specs.declared.event.Event.{Event}
 use Rattle.run_output.specs.Parts.{heads, streams, image_lines}
 
--- the line of each of n numbers from 1 on, behind a first line
+-- the line of each of n numbers from 1 on, after a first line
 behind_one : (f : ℕ → List ℕ) (head : List ℕ) (n i : ℕ) → 0 < i → i ≤ n → slice_index_or (head ∷ map f (range_with_len 1 n)) i [] ≡ f i
 behind_one f head n zero some within = absurd (omega arith)
 behind_one f head n (suc k) some within = get_or-map-range_with_len f 1 n k (suc k) [] (omega arith) (omega arith)
 
--- the line of each of n numbers from 0 on, behind a first line
+-- the line of each of n numbers from 0 on, after a first line
 behind_zero : (f : ℕ → List ℕ) (head : List ℕ) (n i : ℕ) → 0 < i → i ≤ n → slice_index_or (head ∷ map f (range_with_len 0 n)) i [] ≡ f (i - 1)
 behind_zero f head n zero some within = absurd (omega arith)
 behind_zero f head n (suc k) some within = get_or-map-range_with_len f 0 n k (suc k - 1) [] (omega arith) (omega arith)
@@ -69,7 +69,7 @@ pub row_within : (height y : ℕ) (found : Option Picture) → option_map (λ (p
 row_within height y None there lt = absurd (omega (arith, ap (λ (o : Option ℕ). unwrap_or o (height + 1)) there))
 row_within height y (Some picture) there lt = omega (arith, ap (λ (o : Option ℕ). unwrap_or o 0) there)
 
--- the line of a row, behind what is there
+-- the line of a row, after what is there
 pub row_at : (image height i : ℕ) (found : Option Picture) (old new : List ℕ) → option_map (λ (picture : Picture). picture.height) found ≡ Some height → 0 < i → i ≤ height
     → IfSome found (λ picture. new ≡ old ++ row_text (row_of picture (i - 1))) → new ≡ old ++ slice_index_or (image_lines image found) i []
 row_at image height i None old new there some within made = absurd (omega (arith, ap (λ (o : Option ℕ). unwrap_or o (height + 1)) there))
@@ -77,7 +77,7 @@ row_at image height i (Some picture) old new there some within made =
     made
     ∙ ap (λ (line : List ℕ). old ++ line) (sym (behind_zero (λ (y : ℕ). row_text (row_of picture y)) (head_text image picture.width picture.height) picture.height i some (omega (arith, ap (λ (o : Option ℕ). unwrap_or o 0) there))))
 
--- the own line of an image, behind what is there
+-- the own line of an image, after what is there
 pub image_at : (image height : ℕ) (found : Option Picture) (old new : List ℕ) → option_map (λ (picture : Picture). picture.height) found ≡ Some height
     → IfSome found (λ picture. new ≡ old ++ head_text image picture.width picture.height) → new ≡ old ++ slice_index_or (image_lines image found) 0 []
 image_at image height None old new there made = absurd (omega (arith, ap (λ (o : Option ℕ). unwrap_or o (height + 1)) there))

@@ -43,7 +43,7 @@ rises_few (x ∷ xs) most rises below =
 few_places : (areas : Areas) → IsLawfulAreas areas → places_of areas ≤ 69632
 few_places areas lawful = omega (arith, lawful.ring_most, lawful.memories.few)
 
--- words that are to be fetched are few, at places that are low
+-- words that must be fetched are few, at places that are low
 fetched_room : (words : List (ℕ × ℕ)) (facts : StreamFacts) → IsLawfulFacts facts → places_listed words ≡ fetched_places words facts → (length words ≤ 69632) × All (λ word. word.0 < 69632) words
 fetched_room words facts lawful listed =
     let few = few_places facts.areas lawful.areas in

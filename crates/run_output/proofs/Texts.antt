@@ -110,7 +110,7 @@ looks_at v (own ∷ more) (suc i) d lt =
 
 -- ---- the whole output
 
--- where the dumps are those that the run on one thread reads, and nobody has looked, the whole output has the lines of the dumps behind it
+-- where the dumps are those that the run on one thread reads, and nobody has looked, the whole output has the lines of the dumps after it
 pub serial_text : (run : OutputData) → run.dumps ≡ all_dumps run.report.plans run.report.past → run.looks ≡ [] → run_text run ≡ output run.report.plans (mark run.report.base) run.report.past ++ dump_lines run.report.plans run.report.past
 serial_text run are none =
     ap (λ (d : List (List (ℕ × ℕ × ℕ))). output run.report.plans (mark run.report.base) run.report.past ++ behind_text d run.looks) are

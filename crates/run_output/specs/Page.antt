@@ -1,4 +1,4 @@
--- What is gathered of a text before it goes to a sink.
+-- The text gathered before it goes to a sink.
 use Rattle.std.specs.Prelude.{ℕ, List, []}
 
 -- the bytes that are gathered, and at how many they go to the sink

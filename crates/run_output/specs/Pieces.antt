@@ -1,4 +1,4 @@
--- Texts that go to a sink, also in pieces: lines are gathered, and what is gathered is given away from time to time.
+-- Texts that go to a sink, also in pieces: lines are gathered, and given away from time to time.
 use Rattle.std.specs.Prelude.{◌≡◌, ℕ, ◌≤◌, List, ◌++◌, Option, Result, OnOk, OnErr}
 use Rattle.std.specs.Io.KnownBytes.{Appends}
 use Rattle.gpu_io.specs.Faults.{HasRisen}
@@ -15,14 +15,14 @@ pub record Adds {K T E : Type 0} (written : K → Option (List ℕ)) (faults : K
   pub fault : OnErr result (HasRisen (faults old) (faults new))
   pub later : faults old ≤ faults new
 
--- the text was put behind what was gathered: a first part of both was written, and the rest of both is gathered now
+-- the text was put after what was gathered: a first part of both was written, and the rest of both is gathered now
 pub record IsPut (written : Option (List ℕ)) (gathered : List ℕ) (written_then : Option (List ℕ))
     (gathered_then text : List ℕ) : Type 0 where
   pub given : List ℕ
   pub whole : given ++ gathered_then ≡ gathered ++ text
   pub appended : Appends written written_then given
 
--- a text was put behind what was gathered; after a fault a front of what was gathered and of the text was written
+-- a text was put after what was gathered; after a fault a front of what was gathered and of the text was written
 pub record Puts {K T E : Type 0} (written : K → Option (List ℕ)) (faults : K → ℕ) (old : K) (gathered : List ℕ)
     (new : K) (gathered_then : List ℕ) (result : Result T E) (text : List ℕ) : Type 0 where
   pub all : OnOk result (IsPut (written old) gathered (written new) gathered_then text)

@@ -21,12 +21,12 @@ pub record OutputData : Type 0 where
 abbrev pub behind_text : List (List (ℕ × ℕ × ℕ)) → List (Vec Look Global) → List ℕ
 behind_text dumps looks = concat (dump_texts 1 dumps) ++ concat (view_texts 1 looks)
 
--- the output of a run, and the lines behind it
+-- the output of a run, and the lines after it
 abbrev pub run_text : OutputData → List ℕ
 run_text run = output run.report.plans (mark run.report.base) run.report.past ++ behind_text run.dumps run.looks
 
--- the output of a run can be written: each event's line has room, the streams and the viewers are few, how the streams ended is told,
--- and the page is blank
+-- the output of a run can be written: each event's line has room, the streams and the viewers are few, how the streams
+-- ended is known, and the page is blank
 pub record IsReady (run : OutputData) (ends : List End) (page : PageData) : Type 0 where
   pub room : All HasRoom (reverse run.report.past)
   pub few : length run.dumps ≤ 16

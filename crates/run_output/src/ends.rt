@@ -37,7 +37,7 @@ fn note(ends: &mut [End], event: &Event)
     }
 }
 
-/// How each of so many streams ended, in one walk over the events from the oldest on.
+/// How each of a given number of streams ended, in one walk over the events from the oldest on.
 #[tactic(auto)]
 pub(crate) fn ends_of(alloc: Global, count: u32, events: &[Event]) -> Result<Vec<End>, Memory>
     ensures { IfOk result (λ ends. ends.items

@@ -1,4 +1,15 @@
 //! The output of a run, written to a sink line by line in big pieces.
+//!
+//! What the contracts say:
+//! - `RunOutput::make` takes all room that writing needs: that of the piece that is written at once, and of the longest
+//!   line.
+//! - `write` then adds exactly the output of the run, the lines of its dumps and those of its looks to a sink. Where the
+//!   sink fails, it adds a prefix of them.
+//! - `PictureOutput` does so with a text and images.
+//! - Nothing is written before 65,536 bytes are gathered, or all is.
+//!
+//! Notes:
+//! - The dumps of a `RunOutput` are those that it is given, so a run on threads can use it too.
 #![tactic(auto)]
 
 mod dump_lines;

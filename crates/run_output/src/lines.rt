@@ -14,7 +14,7 @@ pub(crate) trait Lines {
     fn count(&self) -> usize
         ensures { result ≡ length (lines self.now) };
 
-    /// Puts the line of this place, counted from 0, behind those that are there.
+    /// Puts the line of this place, counted from 0, after those that are there.
     fn make(&self, index: usize, sheet: &mut Sheet)
         requires fits { fits self.now }
         requires within { index < length (lines self.now) }

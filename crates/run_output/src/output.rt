@@ -118,7 +118,7 @@ fn put_looks<K: Sink>(page: &mut Page, sink: &mut K, looks: &[Vec<Look>]) -> Res
     Ok(())
 }
 
-// Puts the lines that stand behind the output of a run.
+// Puts the lines that stand after the output of a run.
 fn put_behind<K: Sink>(
     page: &mut Page,
     sink: &mut K,
@@ -214,7 +214,7 @@ fn put_run<K: Sink>(
     put_marks(page, sink, report)
 }
 
-// Puts the output of a run, and then the lines behind it.
+// Puts the output of a run, and then the lines after it.
 fn put_whole<K: Sink>(
     page: &mut Page,
     sink: &mut K,
@@ -234,7 +234,7 @@ fn put_whole<K: Sink>(
     put_behind(page, sink, dumps, looks)
 }
 
-/// Writes the output of a run and the lines behind it, by way of an empty page. After a fault a front of all stands.
+/// Writes the output of a run and the lines after it, by way of an empty page. After a fault a front of all stands.
 pub(crate) fn write_output<K: Sink>(
     page: &mut Page,
     sink: &mut K,

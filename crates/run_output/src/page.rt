@@ -28,7 +28,7 @@ fn give<K: Sink>(sheet: &mut Sheet, sink: &mut K) -> Result<(), Failed>
     done
 }
 
-// Gives a text to the sink, behind all that is gathered.
+// Gives a text to the sink, after all that is gathered.
 #[tactic(auto, using(crate::proofs::Pieces::puts_behind, crate::proofs::Pieces::failed_before))]
 fn pass<K: Sink>(sheet: &mut Sheet, text: &[u8], sink: &mut K) -> Result<(), Failed>
     ensures puts { Puts K.written K.faults sink.old sheet.old.bytes sink.new
@@ -60,7 +60,7 @@ fn settle<K: Sink>(sheet: &mut Sheet, sink: &mut K) -> Result<(), Failed>
 
 /// Lines that are gathered before they go to a sink, seen as the bytes that are gathered, and at how many they go.
 ///
-/// All memory is taken by `make`: there is room for the bytes at which they go, and for one longest line behind them.
+/// All memory is taken by `make`: there is room for the bytes at which they go, and for one longest line after them.
 #[derive(Drop)]
 pub(crate) struct Page {
     sheet: Sheet,
@@ -79,7 +79,7 @@ impl Model for Page {
 
 impl Page {
     /// A page without lines, which is given to a sink whenever it has 64 KiB or more. It has room for these, and for
-    /// one longest line behind them.
+    /// one longest line after them.
     pub(crate) fn make(alloc: Global) -> Result<Page, Memory>
         ensures { IfOk result (λ page. page ≡ blank_page) }
     {
@@ -94,7 +94,7 @@ impl Page {
         Ok(Page { sheet })
     }
 
-    /// Makes one of the lines behind those that are gathered, and gives all of them to the sink where they have as many
+    /// Makes one of the lines after those that are gathered, and gives all of them to the sink where they have as many
     /// bytes as the limit or more.
     #[tactic(auto, using(crate::proofs::Pieces::puts_more))]
     pub(crate) fn put<K: Sink, L: Lines>(
@@ -117,7 +117,7 @@ impl Page {
         settle(&mut self.sheet, sink)
     }
 
-    /// Puts a text behind the lines that are gathered. One that is too long for
+    /// Puts a text after the lines that are gathered. One that is too long for
     /// the room goes to the sink by itself.
     #[tactic(auto, using(crate::proofs::Pieces::puts_more))]
     pub(crate) fn put_text<K: Sink>(&mut self, sink: &mut K, text: &[u8]) -> Result<(), Failed>
@@ -128,7 +128,7 @@ impl Page {
             → sink.new ≡ sink.old }
         ensures limit { self.new.limit ≡ self.old.limit }
     {
-        // There is room for as many bytes as the limit leaves, and for those of a line behind them.
+        // There is room for as many bytes as the limit leaves, and for those of a line after them.
         let left = self.sheet.limit() - self.sheet.bytes().len();
         if text.len().saturating_sub(MOST_LINE) > left {
             return pass(&mut self.sheet, text, sink);
@@ -137,7 +137,7 @@ impl Page {
         settle(&mut self.sheet, sink)
     }
 
-    /// Puts lines behind those that are gathered. After a fault a front of all of them stands in the sink. Where all of them stay
+    /// Puts lines after those that are gathered. After a fault a front of all of them stands in the sink. Where all of them stay
     /// below the limit nothing is written.
     pub(crate) fn put_all<K: Sink, L: Lines>(
         &mut self,

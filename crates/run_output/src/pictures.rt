@@ -24,7 +24,7 @@ fn put_pictures<K: Sink>(
     put_images(page, sink, images)
 }
 
-// Writes a text and the lines of each image behind it, by way of an empty page.
+// Writes a text and the lines of each image after it, by way of an empty page.
 fn write_pictures<K: Sink>(
     page: &mut Page,
     sink: &mut K,
@@ -39,7 +39,7 @@ fn write_pictures<K: Sink>(
     page.give(sink)
 }
 
-/// A text and images behind it, with all memory that writing them takes, seen as the text of both.
+/// A text and images after it, with all memory that writing them takes, seen as the text of both.
 #[derive(Drop)]
 pub struct PictureOutput {
     head: Vec<u8>,

@@ -49,7 +49,7 @@ fn lines_are_gathered_before_they_are_written(rt: HostRuntime) -> Result<(), Fai
     assert!(rt; page.give(&mut sink).is_ok());
     assert_eq!(rt; sink.bytes(), b"close 1\nclose 2\nclose 3\n".as_slice());
 
-    // The sink counts its calls, and its second one fails: the lines are put by one, and what is left is given by the next.
+    // The sink counts its calls, and its second one fails: the lines are put by one, and the rest is given by the next.
     let Ok(mut page) = Page::within(rt.alloc(), 16) else {
         return Err(Fail::from("memory is ample"));
     };

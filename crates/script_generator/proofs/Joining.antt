@@ -8,11 +8,11 @@ use Rattle.std.specs.List.{flat_map}
 use Rattle.script_generator.specs.Draws.{drawn, below}
 use Rattle.script_generator.specs.Generator.{number_text, value_text, wait_words, clear_words, copy_words, upload_words, fence_words, block}
 
--- one text behind another that was written behind it
+-- one text after another that was written after it
 pub joined : (out one two text behind : List ℕ) → one ≡ out ++ text → two ≡ one ++ behind → two ≡ out ++ (text ++ behind)
 joined out one two text behind first second = second ∙ ap (λ texts. texts ++ behind) first ∙ append_assoc out text behind
 
--- six pieces that are written one after the other, and nothing behind them
+-- six pieces that are written one after the other, and nothing after them
 pub six_pieces : (out a b c d e f : List ℕ) → (((((out ++ a) ++ b) ++ c) ++ d) ++ e) ++ f ≡ out ++ (a ++ (b ++ (c ++ (d ++ (e ++ (f ++ []))))))
 six_pieces out a b c d e f = simp (append_assoc, append-nil)
 

@@ -1,11 +1,11 @@
 -- The draws of a generator of scripts.
 use Rattle.std.specs.Prelude.{ℕ, zero, suc, ◌+◌, ◌*◌, ◌/◌, ◌%◌, ◌^◌}
 
--- the state behind a draw, which is also what the draw gives
+-- the state after a draw, which is also what the draw gives
 abbrev pub drawn : ℕ → ℕ
 drawn state = (1664525 * state + 1013904223) % 2 ^ 32
 
--- the state behind so many draws
+-- the state after a given number of draws
 abbrev pub after_draws : ℕ → ℕ → ℕ
 after_draws zero state = state
 after_draws (suc count) state = after_draws count (drawn state)

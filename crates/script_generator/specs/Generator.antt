@@ -58,7 +58,7 @@ round_lines round words uploaded =
 unfoldable pub round_text : ℕ → ℕ → ℕ → List ℕ
 round_text stream round state = round_lines round (block stream round state) (after_draws 7 state)
 
--- the lines of so many rounds from one on, where the state before them is this
+-- the lines of a given number of rounds from one on, where the state before them is this
 unfoldable pub rounds : ℕ → ℕ → ℕ → ℕ → List ℕ
 rounds zero stream round state = []
 rounds (suc more) stream round state = round_text stream round state ++ rounds more stream (round + 1) (after_draws 7 state)
@@ -69,11 +69,11 @@ start_text priority stream =
     codes "stream" ++ number_text stream ++ codes " " ++ priority ++ codes " 64\nmemory 0 16\nput 0"
     ++ flat_map value_text (0x20400004 ∷ stream ∷ 16 ∷ 16 ∷ 28 ∷ []) ++ codes "\nflush 32\nfinish\n"
 
--- the lines of a stream with so many rounds
+-- the lines of a stream with a given number of rounds
 abbrev pub stream_lines : List ℕ → ℕ → ℕ → ℕ → List ℕ
 stream_lines priority size stream state = start_text priority stream ++ rounds size stream 1 state
 
--- the lines of streams with these priorities from one on, with so many rounds each
+-- the lines of streams with these priorities from one on, with a given number of rounds each
 unfoldable pub streams : List (List ℕ) → ℕ → ℕ → ℕ → List ℕ
 streams [] size stream state = []
 streams (priority ∷ priorities) size stream state = stream_lines priority size stream state ++ streams priorities size (stream + 1) (after_draws (7 * size) state)

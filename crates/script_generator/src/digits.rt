@@ -82,7 +82,7 @@ pub(crate) fn push_value(out: &mut Vec<u8>, value: u32) -> Result<(), AllocError
     Ok(())
 }
 
-/// Appends each value behind a space.
+/// Appends each value after a space.
 pub(crate) fn push_values(out: &mut Vec<u8>, values: &[u32]) -> Result<(), AllocError>
     ensures { OnOk result (out.new.items ≡ out.old.items ++ flat_map value_text values.now) }
 {

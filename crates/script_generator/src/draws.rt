@@ -1,7 +1,7 @@
 ghost use Rattle.std.specs.Prelude.{◌≡◌, ◌<◌};
 ghost use Rattle.script_generator.specs.Draws.{drawn, below};
 
-/// The state behind a draw, which is also what the draw gives.
+/// The state after a draw, which is also what the draw gives.
 pub(crate) fn drawn(state: u32) -> u32
     ensures { result ≡ drawn state }
 {

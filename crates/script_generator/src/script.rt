@@ -76,7 +76,7 @@ fn push_fence(out: &mut Vec<u8>, round: u32) -> Result<(), AllocError>
     Ok(())
 }
 
-// Appends the block of a round, and answers the state behind its draws.
+// Appends the block of a round, and answers the state after its draws.
 fn push_block(out: &mut Vec<u8>, stream: u32, round: u32, state: u32) -> Result<u32, AllocError>
     ensures text { OnOk result (out.new.items
         ≡ out.old.items ++ flat_map value_text (block stream round state)) }
@@ -111,7 +111,7 @@ fn push_half(out: &mut Vec<u8>, half: u32) -> Result<(), AllocError>
     Ok(())
 }
 
-// Appends the lines of a round, and answers the state behind its draws. The block is put into one half of the ring, and the
+// Appends the lines of a round, and answers the state after its draws. The block is put into one half of the ring, and the
 // flush ends at the other.
 fn push_round(out: &mut Vec<u8>, stream: u32, round: u32, state: u32) -> Result<u32, AllocError>
     ensures text { OnOk result (out.new.items ≡ out.old.items ++ round_text stream round state) }
@@ -129,7 +129,7 @@ fn push_round(out: &mut Vec<u8>, stream: u32, round: u32, state: u32) -> Result<
     Ok(uploaded)
 }
 
-// Appends the lines of so many rounds, and answers the state behind them.
+// Appends the lines of a given number of rounds, and answers the state after them.
 fn push_rounds(out: &mut Vec<u8>, size: u32, stream: u32, state: u32) -> Result<u32, AllocError>
     requires { size ≤ 2000 }
     ensures text { OnOk result (out.new.items ≡ out.old.items ++ rounds size stream 1 state) }
@@ -158,7 +158,7 @@ fn push_start(out: &mut Vec<u8>, priority: &[u8], stream: u32) -> Result<(), All
     out.extend_from_slice(b"\nflush 32\nfinish\n")
 }
 
-// Appends the lines of a stream, and answers the state behind them.
+// Appends the lines of a stream, and answers the state after them.
 fn push_stream(
     out: &mut Vec<u8>,
     priority: &[u8],

@@ -1,4 +1,4 @@
--- Words in pairs and in triples are told by their count.
+-- Words in pairs and in triples are known by their count.
 use Rattle.std.proofs.Common.{◌≡◌, ◌%◌, ℕ, eqb, List, [], ◌∷◌, length, refl, ap, ◌∙◌, arith}
 use Rattle.script_lines.specs.Said.{are_pairs, are_triples}
 

@@ -63,7 +63,7 @@ fences_stay true names total words keeps =
     sym (triples_moved now total (λ n. n) keeps names words (keeps_all now) ∙ not_shown (triples_of now words))
 fences_stay false names total words keeps = refl
 
--- words behind `flush` say the same where more names are mentioned
+-- words after `flush` say the same where more names are mentioned
 pub flush_stays : (version : ℕ) (names total : List Name) (words : List (List ℕ)) → Keeps (mentioned_behind version names words) total → flush_said version (mentioned_behind version names words) words ≡ flush_said version total words
 unfolding flush_said mentioned_behind
 flush_stays version names total [] keeps = refl

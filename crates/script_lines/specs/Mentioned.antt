@@ -31,7 +31,7 @@ mentioned_by names (n ∷ i ∷ r ∷ words) = mentioned_by (with_fence names (f
 abbrev pub mentioned_of : ℕ → List Name → List (List ℕ) → List Name
 mentioned_of version names words = if version == 2 then mentioned_by names words else names
 
--- the names with those that the words behind `flush` mention: a put and fences
+-- the names with those that the words after `flush` mention: a put and fences
 unfoldable pub mentioned_behind : ℕ → List Name → List (List ℕ) → List Name
 mentioned_behind version names [] = names
 mentioned_behind version names (p ∷ words) = mentioned_of version names words

@@ -8,7 +8,7 @@ use Rattle.gpu_cmd.specs.declared.name.Name.{Name}
 abbrev pub is_name : Name → Name → Bool
 is_name a b = a.namespace == b.namespace && a.id == b.id
 
--- the names with one more behind them, unless it is among them
+-- the names with one more after them, unless it is among them
 abbrev pub with_name : List Name → Name → List Name
 with_name names name = if list_any (is_name name) names then names else names ++ name ∷ []
 

@@ -21,6 +21,6 @@ unfoldable pub named_in : List Name → List (List (List ℕ)) → List Name
 named_in names [] = names
 named_in names (line ∷ lines) = named_in (named_on names line) lines
 
--- the names that fences may speak of: in version 2 those of all stream lines, whether they stand before or behind
+-- the names that fences may speak of: in version 2 those of all stream lines, whether they stand before or after
 abbrev pub names_of : ℕ → List (List (List ℕ)) → List Name
 names_of version lines = if version == 2 then named_in [] lines else []

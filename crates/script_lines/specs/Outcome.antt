@@ -7,7 +7,7 @@ use Rattle.script_lines.specs.declared.fault.LineError.TheVariants as errors
 use Rattle.script_lines.specs.declared.fault.ScriptFault.{ScriptFault}
 use Rattle.script_lines.specs.declared.fault.ScriptFault.TheVariants as faults
 
--- the kind is told with the line's number
+-- the kind stands with the line's number
 abbrev pub at_line : {A : Type 0} → ℕ → Result A Kind → Result A (ℕ × Kind)
 at_line number (Ok x) = Ok x
 at_line number (Err kind) = Err (number, kind)

@@ -21,17 +21,17 @@ keyword_of word =
 abbrev pub priority_of : List ℕ → Option Priority
 priority_of word = if bytes_eq word (codes "high") then Some High else (if bytes_eq word (codes "normal") then Some Normal else (if bytes_eq word (codes "low") then Some Low else None))
 
--- behind `finish` and `close`: nothing
+-- after `finish` and `close`: nothing
 unfoldable pub none_said : List (List ℕ) → Result (Unit {0}) Kind
 none_said [] = Ok tt
 none_said _ = Err Word
 
--- behind `token`: one number
+-- after `token`: one number
 unfoldable pub one_said : List (List ℕ) → Result ℕ Kind
 one_said (n ∷ []) = or_error Number (decimal_of n)
 one_said _ = Err Word
 
--- behind `memory`, `results` and `dump`: two numbers
+-- after `memory`, `results` and `dump`: two numbers
 unfoldable pub two_said : List (List ℕ) → Result (ℕ × ℕ) Kind
 two_said (m ∷ n ∷ []) = do
   first ← or_error Number (decimal_of m)
@@ -39,7 +39,7 @@ two_said (m ∷ n ∷ []) = do
   Ok (first, second)
 two_said _ = Err Word
 
--- behind `stream` in version 1: the stream's number, a priority and the ring's length; stream S has the name (0, S)
+-- after `stream` in version 1: the stream's number, a priority and the ring's length; stream S has the name (0, S)
 unfoldable pub numbered_said : List (List ℕ) → Result (Name × Priority × ℕ) Kind
 numbered_said (s ∷ p ∷ r ∷ []) = do
   priority ← or_error Word (priority_of p)
@@ -48,7 +48,7 @@ numbered_said (s ∷ p ∷ r ∷ []) = do
   Ok (record { namespace = 0; id = stream }, priority, ring)
 numbered_said _ = Err Word
 
--- behind `stream` in version 2: the two parts of a name, a priority and the ring's length
+-- after `stream` in version 2: the two parts of a name, a priority and the ring's length
 unfoldable pub named_said : List (List ℕ) → Result (Name × Priority × ℕ) Kind
 named_said (n ∷ i ∷ p ∷ r ∷ []) = do
   priority ← or_error Word (priority_of p)
@@ -58,11 +58,11 @@ named_said (n ∷ i ∷ p ∷ r ∷ []) = do
   Ok (record { namespace = namespace; id = id }, priority, ring)
 named_said _ = Err Word
 
--- behind `stream`, by the version: the stream's name, its priority and its ring's length
+-- after `stream`, by the version: the stream's name, its priority and its ring's length
 abbrev pub stream_said : ℕ → List (List ℕ) → Result (Name × Priority × ℕ) Kind
 stream_said version words = if version == 2 then named_said words else numbered_said words
 
--- behind `put`: a place and one or more values
+-- after `put`: a place and one or more values
 unfoldable pub put_said : List (List ℕ) → Result (ℕ × List ℕ) Kind
 put_said (p ∷ v ∷ vs) = do
   place ← or_error Number (decimal_of p)
@@ -70,7 +70,7 @@ put_said (p ∷ v ∷ vs) = do
   Ok (place, map value_of (v ∷ vs))
 put_said _ = Err Word
 
--- behind `fill`: a memory, and then as behind `put`
+-- after `fill`: a memory, and then as after `put`
 unfoldable pub fill_said : List (List ℕ) → Result (ℕ × ℕ × List ℕ) Kind
 fill_said (m ∷ p ∷ v ∷ vs) = do
   memory ← or_error Number (decimal_of m)
@@ -78,14 +78,14 @@ fill_said (m ∷ p ∷ v ∷ vs) = do
   Ok (memory, said.0, said.1)
 fill_said _ = Err Word
 
--- behind `put`, but for what the values are: a place, and one or more words
+-- after `put`, but for what the values are: a place, and one or more words
 unfoldable pub put_begun : List (List ℕ) → Result (ℕ × List (List ℕ)) Kind
 put_begun (p ∷ v ∷ vs) = do
   place ← or_error Number (decimal_of p)
   Ok (place, v ∷ vs)
 put_begun _ = Err Word
 
--- behind `fill`, but for what the values are: a memory, and then as behind `put`
+-- after `fill`, but for what the values are: a memory, and then as after `put`
 unfoldable pub fill_begun : List (List ℕ) → Result (ℕ × ℕ × List (List ℕ)) Kind
 fill_begun (m ∷ p ∷ v ∷ vs) = do
   memory ← or_error Number (decimal_of m)
@@ -142,7 +142,7 @@ are_fences version words = if version == 2 then are_triples words else are_pairs
 abbrev pub fences_of : ℕ → List Name → List (List ℕ) → Result (List (ℕ × ℕ)) Kind
 fences_of version names words = if version == 2 then triples_of names words else pairs_of words
 
--- behind `flush`: a put and fences
+-- after `flush`: a put and fences
 unfoldable pub flush_said : ℕ → List Name → List (List ℕ) → Result (ℕ × List (ℕ × ℕ)) Kind
 flush_said version names [] = Err Word
 flush_said version names (p ∷ words) = do

@@ -23,7 +23,7 @@ fn count_words(words: Words<'_>) -> usize
     count
 }
 
-// Room is made for so many.
+// Room is made for a given number.
 fn pairs_of(alloc: Global, count: usize, words: Words<'_>) -> Result<Vec<(u32, u64)>, LineError>
     ensures { Gives (λ pairs. pairs.items) result (pairs_of (words_of words.entry.rest.now)) }
 {
@@ -55,7 +55,8 @@ fn fence_said(n: &[u8], i: &[u8], r: &[u8]) -> Result<(Name, u64), LineError>
     Ok((Name { namespace, id }, release))
 }
 
-// Each name is put behind those mentioned before, and a fence has its number among them. Room is made for so many fences.
+// Each name is put after those mentioned before, and a fence has its number among them. Room is made for a given number
+// of fences.
 fn triples_of(
     alloc: Global,
     count: usize,
@@ -122,8 +123,8 @@ fn fences_of(
     }
 }
 
-/// The words behind `flush`: a put and fences. In version 2 a fence has the number of its name among those mentioned, of
-/// which the new ones are put behind the others.
+/// The words after `flush`: a put and fences. In version 2 a fence has the number of its name among those mentioned, of
+/// which the new ones are put after the others.
 #[tactic(auto, unfolding(crate::specs::Said::flush_said, crate::specs::Mentioned::mentioned_behind))]
 pub fn flush_said(
     alloc: Global,

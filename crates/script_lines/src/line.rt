@@ -44,7 +44,7 @@ pub(crate) fn long_decimal_at(word: &[u8]) -> Result<u64, LineError>
     }
 }
 
-/// The words behind `finish` and `close`: there is none.
+/// The words after `finish` and `close`: there is none.
 #[tactic(auto, unfolding(crate::specs::Said::none_said))]
 pub fn none_said(mut words: Words<'_>) -> Result<(), LineError>
     ensures { Gives (λ said. tt) result (none_said (words_left words.entry)) }
@@ -55,7 +55,7 @@ pub fn none_said(mut words: Words<'_>) -> Result<(), LineError>
     }
 }
 
-/// The word behind `token`.
+/// The word after `token`.
 #[tactic(auto, unfolding(crate::specs::Said::one_said))]
 pub fn one_said(mut words: Words<'_>) -> Result<u32, LineError>
     ensures { Gives (λ said. said) result (one_said (words_left words.entry)) }
@@ -66,7 +66,7 @@ pub fn one_said(mut words: Words<'_>) -> Result<u32, LineError>
     decimal_at(n)
 }
 
-/// The words behind `memory`, `results` and `dump`.
+/// The words after `memory`, `results` and `dump`.
 #[tactic(auto, unfolding(crate::specs::Said::two_said))]
 pub fn two_said(mut words: Words<'_>) -> Result<(u32, u32), LineError>
     ensures { Gives (λ said. said) result (two_said (words_left words.entry)) }
@@ -79,7 +79,7 @@ pub fn two_said(mut words: Words<'_>) -> Result<(u32, u32), LineError>
     Ok((first, second))
 }
 
-// The words behind `stream` in version 1: stream S has the name (0, S).
+// The words after `stream` in version 1: stream S has the name (0, S).
 #[tactic(auto, unfolding(crate::specs::Said::numbered_said))]
 fn numbered_said(mut words: Words<'_>) -> Result<(Name, Priority, u32), LineError>
     ensures { Gives (λ said. said) result (numbered_said (words_left words.entry)) }
@@ -100,7 +100,7 @@ fn numbered_said(mut words: Words<'_>) -> Result<(Name, Priority, u32), LineErro
     Ok((name, priority, ring))
 }
 
-// The words behind `stream` in version 2.
+// The words after `stream` in version 2.
 #[tactic(auto, unfolding(crate::specs::Said::named_said))]
 fn named_said(mut words: Words<'_>) -> Result<(Name, Priority, u32), LineError>
     ensures { Gives (λ said. said) result (named_said (words_left words.entry)) }
@@ -120,7 +120,7 @@ fn named_said(mut words: Words<'_>) -> Result<(Name, Priority, u32), LineError>
     Ok((Name { namespace, id }, priority, ring))
 }
 
-/// The words behind `stream`, by the version.
+/// The words after `stream`, by the version.
 pub fn stream_said(version: u32, words: Words<'_>) -> Result<(Name, Priority, u32), LineError>
     ensures { Gives (λ said. said) result (stream_said version (words_left words.entry)) }
 {
@@ -144,7 +144,7 @@ fn count_values(values: Values<'_>) -> Option<usize>
     Some(count)
 }
 
-/// What a put line says: a place, and words that are values, so many.
+/// What a put line says: a place, and a given number of words that are values.
 #[derive(Clone, Copy, Debug)]
 pub struct Putting<'a> {
     pub place: u32,
@@ -152,7 +152,7 @@ pub struct Putting<'a> {
     pub count: usize,
 }
 
-/// The words behind `put`, but for what the values are: a place, and one or more words that are not read yet.
+/// The words after `put`, but for what the values are: a place, and one or more words that are not read yet.
 #[tactic(auto, using(crate::proofs::Puts::put_without_value, crate::proofs::Puts::put_with_place), unfolding(crate::specs::Said::put_begun))]
 pub fn put_begun<'a>(words: Words<'a>) -> Result<(u32, Values<'a>), LineError>
     ensures { Gives begun_shown result (put_begun (words_left words.entry)) }
@@ -169,7 +169,7 @@ pub fn put_begun<'a>(words: Words<'a>) -> Result<(u32, Values<'a>), LineError>
     }
 }
 
-/// The words behind `put`.
+/// The words after `put`.
 #[tactic(auto, using(crate::proofs::Puts::put_said_is))]
 pub fn put_said<'a>(words: Words<'a>) -> Result<Putting<'a>, LineError>
     ensures said { Gives put_shown result (put_said (words_left words.entry)) }
@@ -187,7 +187,7 @@ pub fn put_said<'a>(words: Words<'a>) -> Result<Putting<'a>, LineError>
     }
 }
 
-/// The words behind `fill`, but for what the values are: a memory, and what a put line begins with.
+/// The words after `fill`, but for what the values are: a memory, and what a put line begins with.
 #[tactic(auto, unfolding(crate::specs::Said::fill_begun))]
 pub fn fill_begun<'a>(words: Words<'a>) -> Result<(u32, u32, Values<'a>), LineError>
     ensures { Gives fill_begun_shown result (fill_begun (words_left words.entry)) }
@@ -206,7 +206,7 @@ pub fn fill_begun<'a>(words: Words<'a>) -> Result<(u32, u32, Values<'a>), LineEr
     Ok((memory, place, values))
 }
 
-/// The words behind `fill`: a memory, and what a put line says.
+/// The words after `fill`: a memory, and what a put line says.
 #[tactic(auto, unfolding(crate::specs::Said::fill_said))]
 pub fn fill_said<'a>(mut words: Words<'a>) -> Result<(u32, Putting<'a>), LineError>
     ensures said { Gives fill_shown result (fill_said (words_left words.entry)) }

@@ -44,7 +44,7 @@ impl Names {
         self.set.as_slice()
     }
 
-    /// The number of a name, counted from 1 in the order of the names. It is put behind them where it is not among them.
+    /// The number of a name, counted from 1 in the order of the names. It is put after them where it is not among them.
     ///
     /// # Errors
     ///

@@ -28,7 +28,7 @@ split_found p xs end e =
     let f = cond_some (ltb (position_or_len p xs) (length xs)) (position_or_len p xs) end e in
     slice_split_first p xs 0 (ltb-true _ _ f.0) ∙ ap (λ n. take n xs ∷ slice_split p (drop (n + 1) xs)) f.1
 
--- the first place that passes, from what is known of the places up to it
+-- the first place that passes, from the facts of the places up to it
 pub found_at : (p : ℕ → Bool) (xs : List ℕ) (i : ℕ) → i < length xs → ((k : ℕ) → k < i → p (get_or xs k 0) ≡ false) → p (get_or xs i 0) ≡ true → position p xs ≡ Some i
 found_at p xs i lt before here =
     let at : position_or_len p xs ≡ i = position_or_len_is p xs i 0 (omega arith) before (λ within. here) in
@@ -54,7 +54,7 @@ none_passes p xs e =
     let far : length xs ≤ position_or_len p xs = ltb-false _ _ (not_found (ltb (position_or_len p xs) (length xs)) (position_or_len p xs) e) in
     slice_split_none p xs (λ k d lt. fails_before_first p xs k d (omega arith))
 
--- a piece with pieces behind it is a line
+-- a piece with pieces after it is a line
 line_first : (piece : List ℕ) (text : List ℕ) → without_empty_last (piece ∷ slice_split ends_line text) ≡ piece ∷ without_empty_last (slice_split ends_line text)
 line_first piece text = let r = split_is_cons ends_line text in rw r.2 refl
 

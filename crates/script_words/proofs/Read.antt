@@ -1,4 +1,4 @@
--- A number that a line begins with, read up to the blank behind it.
+-- A number that a line begins with, read up to the blank after it.
 use Rattle.std.proofs.Common.{◌≡◌, ℕ, zero, suc, ◌+◌, ◌*◌, ◌^◌, ◌<◌, ◌≤◌, Bool, true, false, not, eqb, List, [], ◌∷◌, length, get_or, take, drop, Option, Some, None, refl, sym, ap, subst, ◌∙◌, arith}
 use Rattle.std.specs.Prelude.{position, map, ◌==◌, nat_lt, nat_le}
 use Rattle.std.specs.List.{list_all, position_or_len}
@@ -95,7 +95,7 @@ unfolding number_of
 short_says radix value word some short all is small =
     rw (lt-ltb 0 (length word) some, le-leb (length word) 8 short, all, lt-ltb (digits_value radix word) (2 ^ 32) small) (ap (λ (n : ℕ). Some n) is)
 
--- what is known of the first eight bytes holds of the line
+-- the facts of the first eight bytes hold of the line
 module _ (line front : List ℕ) (count : ℕ) (first : front ≡ take 8 line) (few : count ≤ length front) where
   few_of : count ≤ 8
   few_of = omega (arith, length-take 8 line, ap length first)
@@ -138,6 +138,6 @@ longer radix limit value word says =
 pub short_decimal : (line rest : List ℕ) (number : ℕ) → IsShortNumber 10 line number rest → IsFirstRead decimal_of line (Some number) rest
 short_decimal line rest number r = record { word = r.word; begins = r.begins; says = longer 10 (2 ^ 32) number r.word r.says }
 
--- what the first word says as a value, and what the words behind it say
+-- what the first word says as a value, and what the words after it say
 pub read_on : (line rest : List ℕ) (said : Option ℕ) → IsFirstRead hex_of line said rest → map hex_of (words_of line) ≡ said ∷ map hex_of (words_of rest)
 read_on line rest said r = rw (r.begins, r.says) refl

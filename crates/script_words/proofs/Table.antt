@@ -6,7 +6,7 @@ use Rattle.script_words.specs.declared.digit.TheConstants.{VALUES}
 -- ---- of any kind of digit
 
 module _ (digit : ℕ → ℕ) where
-  -- the values of so many bytes from one on
+  -- the values of a given number of bytes from one on
   unfoldable pub values : ℕ → ℕ → List ℕ
   values first zero = []
   values first (suc n) = digit first ∷ values (first + 1) n

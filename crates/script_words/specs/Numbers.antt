@@ -12,11 +12,11 @@ are_digits radix word = list_all (λ digit. is_digit digit radix) word
 abbrev pub digits_said : ℕ → List ℕ → Option ℕ
 digits_said radix word = if are_digits radix word then Some (digits_value radix word) else None
 
--- a word of at least one byte, and at most so many
+-- a word of at least one byte, and at most a given number
 abbrev pub is_short : ℕ → List ℕ → Bool
 is_short most word = nat_lt 0 (length word) && nat_le (length word) most
 
--- one to so many digits of a base, with a value below the limit
+-- one to a given number of digits of a base, with a value below the limit
 abbrev pub is_number : ℕ → ℕ → ℕ → List ℕ → Bool
 is_number radix most limit word =
     is_short most word && are_digits radix word && nat_lt (digits_value radix word) limit

@@ -1,4 +1,4 @@
--- What stands first on a line or in a text, and what behind it.
+-- What stands first on a line or in a text, and what after it.
 use Rattle.std.specs.Prelude.{◌≡◌, ℕ, ◌^◌, Option, Some, List, [], ◌∷◌, MatchOption}
 use Rattle.std.specs.Borrow.{Bor}
 use Rattle.script_words.specs.Text.{words_of}
@@ -13,14 +13,14 @@ abbrev pub CutsFirst : (List ℕ → List (List ℕ)) → List ℕ → Option (B
 CutsFirst pieces bytes result =
     MatchOption result (pieces bytes ≡ []) (λ cut. BeginsWith pieces bytes cut.0.now cut.1.now)
 
--- the first word of a line, read in some way, says this, and these bytes have the words behind it
+-- the first word of a line, read in some way, says this, and these bytes have the words after it
 pub record IsFirstRead {X : Type 0} (read : List ℕ → X) (line : List ℕ) (said : X)
     (rest : List ℕ) : Type 0 where
   pub word : List ℕ
   pub begins : BeginsWith words_of line word rest
   pub says : said ≡ read word
 
--- what the first word says, and what has the words behind it; nothing where there is no word
+-- what the first word says, and what has the words after it; nothing where there is no word
 abbrev pub ReadsFirst : {X : Type 0} → (List ℕ → X) → List ℕ → Option (X × Bor (List ℕ)) → Type 0
 ReadsFirst read line result =
     MatchOption result (words_of line ≡ []) (λ first. IsFirstRead read line first.0 first.1.now)

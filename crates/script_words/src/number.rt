@@ -52,7 +52,7 @@ pub fn decimal_u64(word: &[u8]) -> Option<u64>
     Some(value as u64)
 }
 
-// The number below 2^32 that a word of one to so many digits of a base says.
+// The number below 2^32 that a word of one to a given number of digits of a base says.
 #[inline(always)]
 #[tactic(auto, unfolding(crate::specs::Numbers::number_of))]
 fn number_u32(word: &[u8], radix: u32, most: usize) -> Option<u32>

@@ -46,7 +46,7 @@ fn leading_digits(bytes: &[u8], radix: u32) -> (u32, usize)
     (value, bytes.len())
 }
 
-// What stands behind a first word of so many bytes, where it ends there.
+// What stands after a first word of a given number of bytes, where it ends there.
 #[tactic(auto, using(crate::proofs::Read::ends_word, crate::proofs::Read::cuts_word))]
 #[inline(always)]
 fn behind_word(line: &[u8], count: usize) -> Option<&[u8]>
@@ -65,7 +65,7 @@ fn behind_word(line: &[u8], count: usize) -> Option<&[u8]>
     Some(rest)
 }
 
-// The number that the first word says, and what stands behind it, where a line begins with a word of one to eight digits.
+// The number that the first word says, and what stands after it, where a line begins with a word of one to eight digits.
 #[inline(always)]
 fn short_number(line: &[u8], radix: u32) -> Option<(u32, &[u8])>
     requires two { 2 ≤ radix }
@@ -96,7 +96,7 @@ fn first_value_word(line: &[u8]) -> Option<(Option<u32>, &[u8])>
     Some((hex_u32(word), rest))
 }
 
-/// What the first word of a line says as a decimal number of 32 bits, and what stands behind that word.
+/// What the first word of a line says as a decimal number of 32 bits, and what stands after that word.
 ///
 /// The bytes of a short number are read once, and not first for the word's end.
 #[inline]
@@ -109,7 +109,7 @@ pub fn first_decimal(line: &[u8]) -> Option<(Option<u32>, &[u8])>
     }
 }
 
-/// What the first word of a line says as a value, and what stands behind that word.
+/// What the first word of a line says as a value, and what stands after that word.
 #[inline]
 pub fn first_value(line: &[u8]) -> Option<(Option<u32>, &[u8])>
     ensures { ReadsFirst hex_of line.now result }

@@ -47,7 +47,7 @@ fn word_end(line: &[u8]) -> Option<usize>
     line.iter().position(|byte| is_blank(*byte))
 }
 
-/// What stands before a byte and behind it.
+/// What stands before a byte and after it.
 pub fn cut_at(bytes: &[u8], at: usize) -> (&[u8], &[u8])
     requires { at < length bytes.now }
     ensures before { result.0.now ≡ take at bytes.now }
@@ -58,7 +58,7 @@ pub fn cut_at(bytes: &[u8], at: usize) -> (&[u8], &[u8])
     (front, rest)
 }
 
-// The first line of a text and what stands behind it.
+// The first line of a text and what stands after it.
 #[tactic(auto, using(crate::proofs::Cuts::lines_found, crate::proofs::Cuts::lines_last, crate::proofs::Cuts::lines_none))]
 fn first_line(text: &[u8]) -> Option<(&[u8], &[u8])>
     ensures { CutsFirst lines_of text.now result }
@@ -72,7 +72,7 @@ fn first_line(text: &[u8]) -> Option<(&[u8], &[u8])>
     }
 }
 
-// The first word of a line and what stands behind it.
+// The first word of a line and what stands after it.
 #[tactic(auto, using(crate::proofs::Cuts::words_found, crate::proofs::Cuts::words_skip, crate::proofs::Cuts::words_last, crate::proofs::Cuts::words_none))]
 pub(crate) fn first_word(line: &[u8]) -> Option<(&[u8], &[u8])>
     ensures { CutsFirst words_of line.now result }

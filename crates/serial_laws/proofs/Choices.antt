@@ -41,12 +41,12 @@ run_is p h s P ends goes = by (eqb (facts_at p h s).get (facts_at p h s).put) re
     by true e = ends e
     by false e = goes e (verdict_at p h s (next_words p h s)) refl
 
--- what a verdict makes of a command is no loss for want of memory
+-- what a verdict makes of a command is no loss as out of memory
 pub judged_wants : (s : ℕ) (words : List (ℕ × ℕ)) (answer : Result Command CmdError) → wants_memory (judged_event s words answer) ≡ false
 judged_wants s words (Ok command) = refl
 judged_wants s words (Err error) = refl
 
--- no event that follows is a loss for want of memory
+-- no event that follows is a loss as out of memory
 next_wants : (p : PlansData) (h : List Event) (e : Event) → Kind p h e → wants_memory e ≡ false
 next_wants p h e (orders_it s x q) = ap wants_memory q
 next_wants p h e (closes_it s x y q) = ap wants_memory q

@@ -15,7 +15,7 @@ use Rattle.gpu_journal.specs.Facts.{reach}
 use Rattle.gpu_journal.specs.Serial.{begins_round, count}
 use Rattle.serial_laws.proofs.Others.{known_own, known_other}
 
--- the bound of a client by what is known of its stream
+-- the bound of a client by the facts of its stream
 abbrev bound_by : PlansData → ℕ → Known → ℕ
 bound_by p s k = bound (plan_of p s).actions k.finished k.tokens
 

@@ -97,7 +97,7 @@ fits_waited actions place k x f = record {
 fits_released : (actions : List Action) (place : ℕ → ℕ) (k : Known) (x : Standing) (r : ℕ) → Fits actions place k x → Fits actions place k (record x { release = r })
 fits_released actions place k x r f = record { its_left = f.its_left; gone_left = f.gone_left; fewer = f.fewer; few = f.few; placed = f.placed }
 
--- what is known beside the flushes does not count
+-- the facts beside the flushes do not count
 fits_known : (actions : List Action) (place : ℕ → ℕ) (k l : Known) (x : Standing) → l.ordered ≡ k.ordered → l.finished ≡ k.finished → Fits actions place k x → Fits actions place l x
 fits_known actions place k l x o d f = record {
   its_left = λ q. ap (λ n. n + length x.left) d ∙ f.its_left q ∙ sym o;

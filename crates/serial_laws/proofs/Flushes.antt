@@ -18,7 +18,7 @@ flushes_grow (x ∷ xs) zero m h = omega arith
 flushes_grow (x ∷ xs) (suc k) zero h = absurd (omega arith)
 flushes_grow (x ∷ xs) (suc k) (suc m) h = let r = flushes_grow xs k m (omega arith) in omega arith
 
--- behind the end there is no flush
+-- after the end there is no flush
 pub flushes_end : (xs : List Action) (k : ℕ) → length xs ≤ k → flushes (take k xs) ≡ flushes xs
 flushes_end [] zero h = refl
 flushes_end [] (suc k) h = refl
@@ -107,7 +107,7 @@ flushes_before_close (x ∷ []) zero e h = let is : x ≡ Close = cc in ap (λ (
 flushes_before_close (x ∷ y ∷ xs) zero e h = absurd (omega arith)
 flushes_before_close (x ∷ xs) (suc k) e h = let r = flushes_before_close xs k e (omega arith) in ap (λ n. flush_count x + n) r
 
--- before the place of a flush stand no more flushes than its number among them, and behind it there is an action
+-- before the place of a flush stand no more flushes than its number among them, and after it there is an action
 pub flushes_before : (xs : List Action) (j c : ℕ) → slice_get (flush_places xs) j ≡ Some c → (flushes (take c xs) ≤ j) × (c < length xs)
 flushes_before xs j c e =
     let less = flush_of_place xs j c e in

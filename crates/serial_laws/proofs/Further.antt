@@ -1,4 +1,4 @@
--- After every legal history that is not complete some event is legal that is no loss for want of memory.
+-- After every legal history that is not complete some event is legal that is no loss as out of memory.
 use Rattle.std.proofs.Common.{◌≡◌, ℕ, ◌+◌, ◌≤◌, ◌<◌, ◌⊎◌, inl, inr, Bool, true, false, Option, Some, None, List, ◌∷◌, length, refl, arith, ⊎_elim}
 use Rattle.std.proofs.lemmas.Bool.{cases_lt}
 use Rattle.std.specs.Prelude.{slice_get}

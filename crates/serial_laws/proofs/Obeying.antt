@@ -241,7 +241,7 @@ obeys_run p h s legal played can =
     run_is p h s (Obeys p h) (λ e. obeys_finish p h s can (omega (arith, below, most)) (eqb-true (facts_at p h s).get (facts_at p h s).put e))
     (λ e answer q. obeys_judged p h s (count p h s) can (omega (arith, below)) most (eqb-false (facts_at p h s).get (facts_at p h s).put e) answer q)
 
--- a stream that can run, and whose client can have come to its flush, has a legal event, which is no loss for want of memory
+-- a stream that can run, and whose client can have come to its flush, has a legal event, which is no loss as out of memory
 pub runs_on : (p : PlansData) (h : List Event) (s : ℕ) → CanRun p h s → flush_of p h s ≤ reach p h s → (e : Event) × (wants_memory e ≡ false) × Obeys p h e
 runs_on p h s can reached = by (eqb (facts_at p h s).get (facts_at p h s).put) refl
   where

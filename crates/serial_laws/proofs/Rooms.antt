@@ -92,7 +92,7 @@ gap_most ring get put g = by (nat_lt put ring) refl (nat_le get put) refl
     by true e false f = let lt : put < get = grind (arith, nat_tests) in omega arith
     by false e b f = omega arith
 
--- the place behind some entries that do not go past the end of a ring
+-- the place after some entries that do not go past the end of a ring
 pub moved_place : (entries size ring get : ℕ) → get ≡ entries % ring → get + size < ring → (entries + size) % ring ≡ get + size
 moved_place entries size ring get e h =
     let split : entries / ring * ring + entries % ring ≡ entries = div-add-mod' entries ring in

@@ -10,7 +10,7 @@ use Rattle.gpu_journal.specs.Waits.{left_of, IsOpen}
 use Rattle.gpu_journal.specs.Facts.{reach}
 use Rattle.gpu_journal.specs.Legal.{MayClose}
 
--- the event is a loss for want of memory
+-- the event is a loss as out of memory
 abbrev pub wants_memory : Event → Bool
 wants_memory (Lost s Memory words) = true
 wants_memory _ = false

@@ -13,7 +13,7 @@ use Rattle.serial_laws.specs.Going.{wants_memory, IsIdle, CanGoOn}
 abbrev pub PlayedIsLegal : Type 0
 PlayedIsLegal = (p : PlansData) (h : List Event) → AreLawfulPlans p → IsPlayed p h → IsLegal p h
 
--- and it loses no stream for want of memory
+-- and it loses no stream as out of memory
 abbrev pub PlayedWantsNoMemory : Type 0
 PlayedWantsNoMemory = (p : PlansData) (h : List Event) → IsPlayed p h → All (λ event. wants_memory event ≡ false) h
 
@@ -41,7 +41,7 @@ SerialIsLegal = (p : PlansData) → AreLawfulPlans p → IsLegal p (serial p)
 abbrev pub SerialIsComplete : Type 0
 SerialIsComplete = (p : PlansData) → AreLawfulPlans p → IsComplete p (serial p)
 
--- and it loses no stream for want of memory
+-- and it loses no stream as out of memory
 abbrev pub SerialWantsNoMemory : Type 0
 SerialWantsNoMemory = (p : PlansData) → AreLawfulPlans p → All (λ event. wants_memory event ≡ false) (serial p)
 
@@ -49,6 +49,6 @@ SerialWantsNoMemory = (p : PlansData) → AreLawfulPlans p → All (λ event. wa
 abbrev pub UnfinishedGoesOn : Type 0
 UnfinishedGoesOn = (p : PlansData) (h : List Event) → AreLawfulPlans p → IsLegal p h → IsIdle p h → (IsComplete p h → ⊥) → CanGoOn p h
 
--- after every legal history that is not complete some event is legal that is no loss for want of memory
+-- after every legal history that is not complete some event is legal that is no loss as out of memory
 abbrev pub UnfinishedHasEvent : Type 0
 UnfinishedHasEvent = (p : PlansData) (h : List Event) → AreLawfulPlans p → IsLegal p h → (IsComplete p h → ⊥) → (e : Event) × (wants_memory e ≡ false) × IsLegal p (e ∷ h)

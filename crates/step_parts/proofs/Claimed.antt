@@ -61,7 +61,7 @@ tells p areas words state command claim said is =
     subst (Tells p command (effect areas words state)) (sym is)
     (subst (λ (e : Effect). Tells p command e (claim_of p command)) (sym (effect_is areas words state command (sym said))) (by_command p areas words state command))
 
--- what its stream wants memory for, a command wants it for
+-- what its stream needs memory for, a command needs it for
 pub taken_wanted : (command : Command) → IsTrue (takes_memory command) → IsTrue (wants_memory command)
 taken_wanted (CreateImage image width height) taken = refl
 taken_wanted (WaitToken stream low high) taken = refl

@@ -1,4 +1,4 @@
--- What a command may want memory for, and what its step asks.
+-- What a command may need memory for, and what its step asks.
 use Rattle.std.specs.Prelude.{Bool, true}
 use Rattle.gpu_cmd.specs.declared.command.Command.{Command}
 use Rattle.gpu_cmd.specs.declared.command.Command.TheVariants.{CreateImage, WaitToken, WaitSyncToken}
@@ -12,7 +12,7 @@ use Rattle.stream_state.specs.Accepted.{takes_memory}
 use Rattle.step_parts.specs.declared.claim.Claim.{Claim}
 use Rattle.step_parts.specs.declared.claim.Claim.TheVariants.{Nothing, Image, Wait}
 
--- what a command asks of the images and of the waits that may want memory there: to make an image, or to judge a wait
+-- what a command asks of the images and of the waits that may need memory there: to make an image, or to judge a wait
 abbrev pub claim_of : PlansData → Command → Claim
 claim_of p (CreateImage image width height) = Image (Create image width height)
 claim_of p (WaitToken stream low high) = Wait stream (joined low high)
@@ -20,7 +20,7 @@ claim_of p (WaitSyncToken namespace id_low id_high low high) =
     Wait (number_of p.plans (record { namespace = namespace; id = joined id_low id_high })) (joined low high)
 claim_of p _ = Nothing
 
--- a step of the command may want memory: for the state of its stream, for an image that it makes, or for a wait
+-- a step of the command may need memory: for the state of its stream, for an image that it makes, or for a wait
 abbrev pub wants_memory : Command → Bool
 wants_memory (CreateImage image width height) = true
 wants_memory (WaitToken stream low high) = true

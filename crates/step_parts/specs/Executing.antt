@@ -1,4 +1,4 @@
--- A step: what it finds, what is told of it, and what it leaves.
+-- A step: what it finds, the report of it, and what it leaves.
 use Rattle.std.specs.Prelude.{◌≡◌, ℕ, ◌<◌, ◌≤◌, Bool, List, length}
 use Rattle.std.specs.List.{All}
 use Rattle.gpu_cmd.specs.declared.areas.Areas.{Areas}
@@ -52,9 +52,11 @@ pub record Asks (taken : Taken) (before after : State) (asked : Effect) : Type 0
   pub state : after ≡ stepped (areas_of taken) taken.words.now before
   pub few : total after.errors ≤ 1048576
 
--- what is told of a step on these words, in this state of its stream and on these images, where `keeps` says which waits are
--- kept: what it asked for, how that was answered, whether its wait was kept, what it writes, in result places of its stream, and
--- that an upload brings a texel for each of its rectangle
+-- the report of a step on these words, in this state of its stream and on these images, where `keeps` says which waits
+-- are kept:
+-- - what it asked for, how that was answered, and whether its wait was kept
+-- - what it writes, in result places of its stream
+-- - that an upload brings a texel for each of its rectangle
 pub record IsToldOf (areas : Areas) (words : List (ℕ × ℕ)) (state : State) (images : Pictures) (keeps : Effect → Bool) (acted : Acted) : Type 0 where
   pub effect : acted.effect ≡ effect areas words state
   pub answer : acted.answer ≡ (drawn_by acted.effect images).answer
@@ -63,7 +65,7 @@ pub record IsToldOf (areas : Areas) (words : List (ℕ × ℕ)) (state : State) 
   pub places : All (λ write. write.0 < words_in areas.results) (writes_told acted.effect)
   pub texels : BringsItsTexels acted.effect
 
--- what was taken is executed: what is told of that, what it draws, the state that it leaves its stream, and its sync event, for
+-- what was taken is executed: the report of that, what it draws, the state that it leaves its stream, and its sync event, for
 -- every list of sync events that the core stood for
 pub record Executes (taken : Taken) (old new : Scene) (before after : State) (acted : Acted) : Type 0 where
   pub told : IsToldOf (areas_of taken) taken.words.now before old.images (keeps taken.plans.now old.sync taken.stream) acted

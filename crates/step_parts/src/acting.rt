@@ -94,7 +94,7 @@ fn follow(scene: &mut Scene, stream: u32, effect: &Effect) -> Answer
     }
 }
 
-// Executes a command that wants memory for the state of its stream at most, so the stream steps first.
+// Executes a command that needs memory for the state of its stream at most, so the stream steps first.
 fn step_first(
     scene: &mut Scene,
     state: &mut StreamState,
@@ -120,7 +120,7 @@ fn step_first(
 /// Executes a command of a stream that passed all checks, on the images, on the order numbers and waits, and on the state of its
 /// stream, which has an unprocessed number.
 ///
-/// All memory is wanted before anything changes, so after `Memory` all three are as they were. It comes only for commands that
+/// All memory is taken before anything changes, so after `Memory` all three are as they were. It comes only for commands that
 /// make an image or a wait, or that keep, read or hand out bytes.
 pub fn act(scene: &mut Scene, state: &mut StreamState, taken: &Taken<'_>) -> Result<Acted, Memory>
     requires ready { IsReady taken.now scene.old.sync state.old }

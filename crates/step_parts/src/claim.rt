@@ -1,4 +1,4 @@
-//! What a command asks that may want memory outside its stream's state.
+//! What a command asks that may need memory outside its stream's state.
 ghost use Rattle.std.specs.Prelude.{◌≡◌};
 ghost use Rattle.step_parts.specs.Claims.{claim_of};
 
@@ -7,7 +7,7 @@ use gpu_plan::Plans;
 use gpu_store::Op;
 use stream_state::joined;
 
-/// What a command asks of the images and of the waits that may want memory there.
+/// What a command asks of the images and of the waits that may need memory there.
 #[derive(Debug, Drop)]
 pub enum Claim {
     /// Nothing.

@@ -51,7 +51,7 @@ by_index : (P : ℕ → Type 0) (places : List ℕ) → ((j : ℕ) → j < lengt
 by_index P [] h = tt
 by_index P (place ∷ places) h = (h zero (omega arith), by_index P places (λ j lt. h (suc j) (omega arith)))
 
--- words at rising places are what is found at these places
+-- words at rising places are the values at these places
 values_kept : (words : List (ℕ × ℕ)) → Rises (places_listed words) → map (value_in words) (places_listed words) ≡ values_of words
 values_kept [] h = refl
 values_kept (word ∷ words) h =

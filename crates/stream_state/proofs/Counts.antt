@@ -14,7 +14,7 @@ use Rattle.gpu_cmd.specs.Lawful.{IsLawfulAreas}
 use Rattle.gpu_cmd.specs.Ranges.{texel_bytes}
 use Rattle.gpu_store.specs.Conversion.{texel_of, texels_of, first_texels}
 
--- so many bytes of words
+-- a given number of bytes of words
 pub bytes_counted : (words : List ℕ) (from count : ℕ) → from + count ≤ 4 * length words → length (take count (drop from (bytes_of words))) ≡ count
 bytes_counted words from count h =
     let all : length (bytes_of words) ≡ 4 * length words = length-bytes_of words in

@@ -1,4 +1,4 @@
--- What is found among blocks, and what a block of the right size keeps.
+-- What a search among blocks finds, and what a block of the right size keeps.
 use Rattle.std.proofs.Common.{◌≡◌, ℕ, zero, suc, true, Some, List, [], ◌∷◌, length, refl, ap, ◌∙◌, arith}
 use Rattle.std.specs.Prelude.{◌==◌}
 use Rattle.std.proofs.lemmas.Bool.Decides.{nat_tests}

@@ -11,7 +11,7 @@ use Rattle.stream_state.specs.Writes.{Writes, with_write, last_written, end_of, 
 
 -- ---- values after writes
 
--- a place behind all that is written keeps its value
+-- a place after all that is written keeps its value
 pub last_past : (writes : Writes) (place before : ℕ) → end_of writes ≤ place → last_written writes place before ≡ before
 last_past [] place before h = refl
 last_past (write ∷ writes) place before h =
@@ -28,7 +28,7 @@ map_agrees : (f g : ℕ → ℕ) (from count : ℕ) → ((k : ℕ) → f k ≡ g
 map_agrees f g from zero same = refl
 map_agrees f g from (suc count) same = let first = same from in let rest = map_agrees f g (from + 1) count same in cc
 
--- zeros behind the values are not seen
+-- zeros after the values are not seen
 zeros_behind : (values : List ℕ) (count k : ℕ) → get_or (values ++ replicate count 0) k 0 ≡ get_or values k 0
 zeros_behind [] zero k = refl
 zeros_behind [] (suc count) zero = refl
@@ -65,7 +65,7 @@ one_done (write ∷ writes) values zero k place value h e p =
     at_place false here = let other : k ≢ place = grind (arith, nat_tests) in grind (arith, common_steps)
 one_done (write ∷ writes) values (suc i) k place value h e p = one_done writes values i k place value (omega arith) e p
 
--- what is left of the writes ends no later
+-- the rest of the writes ends no later
 pub left_ends : (writes : Writes) (i : ℕ) → end_of (drop (suc i) writes) ≤ end_of (drop i writes)
 left_ends [] zero = omega arith
 left_ends [] (suc i) = omega arith
@@ -80,7 +80,7 @@ next_ends (write ∷ writes) (suc i) place value h e = next_ends writes i place 
 
 -- ---- one more write in its order
 
--- it goes behind a write at a lower place
+-- it goes after a write at a lower place
 pub goes_on : (write : ℕ × ℕ) (writes : Writes) (i : ℕ) (here : ℕ × ℕ) → i < length writes → get_or writes i here ≡ here → here.0 < write.0
     → take i writes ++ with_write write (drop i writes) ≡ take (suc i) writes ++ with_write write (drop (suc i) writes)
 goes_on write [] i here h e l = absurd (omega arith)

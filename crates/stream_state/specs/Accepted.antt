@@ -20,7 +20,7 @@ pub record IsAccepted (areas : Areas) (words : List (ℕ × ℕ)) (state : State
   pub copy : IsCopy words (facts_of areas put state) (Ok command)
   pub sized : size ≡ size_of (value_in words (facts_of areas put state).get)
 
--- the transfer words hold so many bytes from an offset on
+-- the transfer words hold a given number of bytes from an offset on
 pub record HasTransfer (words : List (ℕ × ℕ)) (offset count : ℕ) : Type 0 where
   pub some : 0 < length words
   pub ring : ring_words_in words ≤ length words
@@ -39,7 +39,7 @@ abbrev pub BringsItsTexels : Effect → Type 0
 BringsItsTexels (Pixels op) = HasItsTexels op
 BringsItsTexels _ = Unit {0}
 
--- a step of the command may want memory; no other ever does
+-- a step of the command may need memory; no other ever does
 abbrev pub takes_memory : Command → Bool
 takes_memory (SetBucketSize bucket size) = true
 takes_memory (SetBucketData bucket offset size memory memory_offset) = true

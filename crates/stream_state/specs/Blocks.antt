@@ -18,15 +18,15 @@ block_of blocks number = unwrap_or (slice_get blocks number) None
 abbrev pub bytes_in : Blocks → ℕ → List ℕ
 bytes_in blocks number = unwrap_or (block_of blocks number) []
 
--- so many bytes from an offset on
+-- a given number of bytes from an offset on
 abbrev pub part : List ℕ → ℕ → ℕ → List ℕ
 part bytes offset count = take count (drop offset bytes)
 
--- the block is there and has so many bytes from an offset on
+-- the block is there and has a given number of bytes from an offset on
 abbrev pub has_range : Blocks → ℕ → ℕ → ℕ → Bool
 has_range blocks number offset count = option_map_or (λ bytes. nat_le (offset + count) (length bytes)) (block_of blocks number) false
 
--- so many zero bytes
+-- a given number of zero bytes
 abbrev pub zeros : ℕ → List ℕ
 zeros size = replicate size 0
 

@@ -41,7 +41,7 @@ ring_words_in words = ring_words_of (id_of (header_in words)) (size_of (header_i
 unfoldable pub command_in : List (ℕ × ℕ) → Command
 command_in words = option_map_or (λ row. row.command (argument (take (ring_words_in words) (values_of words)))) (row_of (id_of (header_in words))) Noop
 
--- so many bytes of the transfer words, which begin with the word that the offset lies in
+-- a given number of bytes of the transfer words, which begin with the word that the offset lies in
 unfoldable pub transfer_bytes : List (ℕ × ℕ) → ℕ → ℕ → List ℕ
 transfer_bytes words offset count = take count (drop (offset % 4) (bytes_of (drop (ring_words_in words) (values_of words))))
 
@@ -166,7 +166,7 @@ acted areas command words state = record state {
   results = results_after areas command state;
 }
 
--- the state with a command of this size and so many words counted
+-- the state with a command of this size and a given number of words counted
 abbrev pub moved_on : ℕ → ℕ → State → State
 moved_on size words state = record state { entries = state.entries + size; fetched = state.fetched + words }
 

@@ -12,7 +12,7 @@ use Rattle.stream_state.specs.Blocks.{block_of, has_range}
 use Rattle.stream_state.specs.State.{State}
 
 -- check 11: the bucket is there for each command that has one and does not make it, and so is the buffer; a buffer that
--- is to be made is not there
+-- a command makes is not there
 abbrev pub has_block : Command → State → Bool
 has_block (SetBucketData bucket offset size memory memory_offset) state = is_some (block_of state.buckets bucket)
 has_block (SetBucketDataImmediate bucket offset size) state = is_some (block_of state.buckets bucket)

@@ -32,7 +32,7 @@ abbrev pub last_written : Writes → ℕ → ℕ → ℕ
 last_written [] place before = before
 last_written (write ∷ writes) place before = last_written writes place (if write.0 == place then write.1 else before)
 
--- the place behind the greatest that is written
+-- the place after the greatest that is written
 abbrev pub end_of : Writes → ℕ
 end_of [] = 0
 end_of (write ∷ writes) = max (write.0 + 1) (end_of writes)

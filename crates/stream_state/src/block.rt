@@ -25,7 +25,7 @@ impl Model for Block {
 }
 
 impl Block {
-    /// A block of so many zero bytes.
+    /// A block of a given number of zero bytes.
     pub fn make(alloc: Global, size: u32) -> Result<Block, Memory>
         requires { size ≤ MOST_BYTES }
         ensures { IfOk result (λ block. block ≡ zeros size) }

@@ -24,7 +24,7 @@ impl Model for Blocks {
     ghost view = { λ blocks. blocks.blocks };
 }
 
-// So many bytes from an offset on.
+// A given number of bytes from an offset on.
 fn part(bytes: &[u8], offset: usize, count: usize) -> &[u8]
     requires { offset + count ≤ length bytes.now }
     ensures bytes { result.now ≡ part bytes.now offset count }
@@ -71,7 +71,7 @@ impl Blocks {
         }
     }
 
-    /// So many bytes of a block from an offset on.
+    /// A given number of bytes of a block from an offset on.
     pub fn part(&self, number: u32, offset: u32, count: u128) -> &[u8]
         requires { IsTrue (has_range self.now number offset count) }
         ensures bytes { result.now ≡ part (bytes_in self.now number) offset count }
@@ -81,7 +81,7 @@ impl Blocks {
         part(self.all(number), offset as usize, count as usize)
     }
 
-    /// Whether a block is there and has so many bytes from an offset on.
+    /// Whether a block is there and has a given number of bytes from an offset on.
     pub fn has_range(&self, number: u32, offset: u32, count: u128) -> bool
         requires { count < 2 ^ 67 }
         ensures { result ≡ has_range self.now number offset count }
@@ -92,7 +92,7 @@ impl Blocks {
         }
     }
 
-    /// Makes a block of so many zero bytes.
+    /// Makes a block of a given number of zero bytes.
     pub fn create(&mut self, number: u32, size: u32) -> Result<(), Memory>
         requires number { number < 16 }
         requires size { size ≤ 262144 }

@@ -7,7 +7,7 @@ use gpu_store::Op;
 pub enum Effect {
     /// Nothing.
     Nothing,
-    /// The client is told this token.
+    /// The client hears of this token.
     Token(u32),
     /// The stream's release count is raised to this release, if it is below.
     Release(u64),

@@ -4,7 +4,7 @@ ghost use Rattle.stream_state.specs.State.{first_state};
 use crate::state::StreamState;
 use std::alloc::{AllocError, Global};
 
-/// The states of so many streams before any step.
+/// The states of a given number of streams before any step.
 pub fn first_states(alloc: Global, streams: u32) -> Result<Vec<StreamState>, AllocError>
     ensures { IfOk result (λ states. states.items ≡ replicate streams first_state) }
 {

@@ -18,7 +18,7 @@ pub fn results_are_the_last_written()
     ensures there { WritesAreThere }
 {}
 
-/// The law of effects: what a step does to the token, the release count and the result places is told by its effect. The
+/// The law of effects: what a step does to the token, the release count and the result places stands in its effect. The
 /// token is the last one, and the release count never falls.
 pub fn effects_tell_all()
     ensures tell { EffectsTell }

@@ -19,7 +19,7 @@ impl Model for Results {
     ghost view = { λ results. results.values.items };
 }
 
-// The place behind the greatest that is written.
+// The place after the greatest that is written.
 fn end_of(writes: &[(u32, u32)]) -> usize
     ensures { result ≡ end_of writes.now }
 {

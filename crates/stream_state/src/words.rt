@@ -13,7 +13,7 @@ const WORD_BYTES: u32 = 4;
 /// The ring words before the data entries of SetBucketDataImmediate: the header and three arguments.
 const WORDS_BEFORE_DATA: usize = 4;
 
-// So many bytes from an offset on of values.
+// A given number of bytes from an offset on of values.
 #[tactic(auto, using(crate::proofs::Counts::bytes_counted))]
 fn some_bytes(alloc: Global, values: &[u32], from: usize, count: usize) -> Result<Vec<u8>, Memory>
     requires { from + count ≤ 4 * length values.now }
@@ -37,7 +37,7 @@ fn ring_words(words: &[(u32, u32)]) -> usize
     }
 }
 
-/// So many bytes of the transfer words of a step, which begin with the word that the offset lies in.
+/// A given number of bytes of the transfer words of a step, which begin with the word that the offset lies in.
 #[tactic(auto, unfolding(crate::specs::Steps::transfer_bytes))]
 pub fn transfer_bytes(
     alloc: Global,

@@ -23,9 +23,9 @@ const FEW: usize = 256;
 /// The pending waits: their records, with a line by release and one by order number for each
 /// target.
 ///
-/// A wait that ends leaves its slot, while its entries may stay in the lines: what comes out of a
-/// line is looked up in the records, and is let go where it leads to no wait that is to end. The
-/// count of entries only tells when it pays to make the lines anew: no clause rests on it.
+/// A wait that ends leaves its slot, while its entries may stay in the lines:
+/// - what comes out of a line is looked up in the records, and is let go where it leads to no wait that must end
+/// - the count of entries only tells when it pays to make the lines anew: no clause rests on it
 #[derive(Drop)]
 pub struct Queues {
     all: Records,
@@ -171,7 +171,7 @@ impl Queues {
         Ok(())
     }
 
-    /// Puts a wait behind all waits of its number and of lower ones.
+    /// Puts a wait after all waits of its number and of lower ones.
     pub fn insert(&mut self, wait: Wait) -> Result<(), AllocError>
         requires { GoesLast wait self.old }
         ensures ok { OnOk result (self.new ≡ placed wait self.old) }
@@ -200,7 +200,7 @@ impl Queues {
         self.all.has_of(order)
     }
 
-    /// Takes a wait out, if there is one that is to be taken.
+    /// Takes a wait out, if there is one that must be taken.
     fn pop(&mut self, which: Which) -> Option<Wait>
         ensures taken { IfSome result (λ w. takes which w ≡ true) }
         ensures member { IfSome result (λ w. has self.old w ≡ true) }

@@ -8,7 +8,7 @@ use Rattle.verify_input.specs.Parts.{words_on, is_end, before, behind}
 use Rattle.verify_input.specs.Cuts.{IsFirstLine}
 use Rattle.verify_input.proofs.Wholes.{Starts, starts}
 
--- so many lines of a text end no part, and this is behind them
+-- a given number of lines of a text ends no part, and this is after them
 pub record IsOn (border : Border) (text rest : List ℕ) (count : ℕ) : Type 0 where
   pub front : List ℕ
   pub done : List (List ℕ)

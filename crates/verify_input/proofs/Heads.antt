@@ -85,7 +85,7 @@ other_behind (line ∷ done) heads lines k other =
     let next : suc (length done) + k ≡ suc (length done + k) = omega arith in
     subst (λ k. IsFirstOther (line ∷ (done ++ heads)) (line ∷ (done ++ lines)) k) (sym next) (refl, other_behind done heads lines k other)
 
--- further lines behind the first that is another
+-- further lines after the first that is another
 other_before : (line : List ℕ) (heads lines : List (List ℕ)) → IsFirstOther (line ∷ []) lines 0 → IsFirstOther (line ∷ heads) lines 0
 other_before line heads [] other = tt
 other_before line heads (first ∷ lines) other = other
@@ -113,7 +113,7 @@ other_early heads text k other = omega (arith, other_within heads (whole_lines t
 abbrev pub line_of : PlansData → ℕ → List ℕ
 line_of p s = name_text s (plan_of p s).name
 
--- the head line and the name lines of so many streams are read, and this is behind them
+-- the head line and the name lines of a given number of streams are read, and this is after them
 pub record IsHeaded (p : PlansData) (text rest : List ℕ) (index : ℕ) : Type 0 where
   pub done : List (List ℕ)
   pub head : head_of p ≡ done ++ map (line_of p) (range_with_len (1 + index) (length p.plans - index))
@@ -186,7 +186,7 @@ name_here p s name some e = by (slice_get p.plans (s - 1)) refl e
 pub headless : (p : PlansData) → p.version ≢ 2 → head_of p ≡ []
 headless p other = rw (ne_eqb p.version 2 other) refl
 
--- behind the head
+-- after the head
 pub bad_behind_head : (p : PlansData) (text rest : List ℕ) (k : ℕ) → whole_lines text ≡ head_of p ++ whole_lines rest → IsFirstBad (whole_lines rest) k → IsFirstOther (head_of p) (whole_lines text) (length (head_of p) + k)
 bad_behind_head p text rest k lines bad =
     let all = other_behind (head_of p) [] (whole_lines rest) k bad in

@@ -1,4 +1,4 @@
--- What is found of an input, by what is found of its parts.
+-- The verdict on an input, by the verdict on its parts.
 use Rattle.std.proofs.Common.{◌≡◌, ℕ, ◌+◌, List, length, Option, Some, None, MatchOption, Bor, Result, Ok, Err, sym, ap, subst, ◌∙◌}
 use Rattle.std.specs.Prelude.{IfOk}
 use Rattle.std.specs.List.{concat}
@@ -17,7 +17,7 @@ use Rattle.verify_input.proofs.Wholes.{concat_whole}
 pub script_is : (input part : List ℕ) → whole_lines part ≡ script_part input → script_of part ≡ script_in input
 script_is input part e = ap script_of (sym (concat_whole part) ∙ ap concat e)
 
--- the text behind the line `journal`
+-- the text after the line `journal`
 pub text_there : (input : List ℕ) (rest : Option (Bor (List ℕ))) (text : Bor (List ℕ)) → rest ≡ Some text
     → MatchOption rest (behind Script (whole_lines input) ≡ None) (λ text. behind Script (whole_lines input) ≡ Some (whole_lines text.now)) → behind Script (whole_lines input) ≡ Some (whole_lines text.now)
 text_there input None text is found = absurd (cc)

@@ -53,7 +53,7 @@ not_told heads text k events other told =
     let bad = none_other heads (whole_lines (journal_text events)) k (subst (λ (text : List (List ℕ)). IsFirstOther heads text k) told.lines other) in
     refused_is_no_journal (journal_text events) bad.0 events bad.1 (record { is = refl; written = told.written })
 
--- ---- one list of events alone is told
+-- ---- one list of events alone is known
 
 same_plans : (input : List ℕ) (p q : PlansData) → script_in input ≡ Ok p → script_in input ≡ Ok q → p ≡ q
 same_plans input p q one other = cc

@@ -44,7 +44,7 @@ last_whole [] some none = absurd (omega arith)
 last_whole (b ∷ []) some none = rw (All-head (λ byte. ends_line byte ≡ false) b [] none) refl
 last_whole (b ∷ c ∷ text) some none = rw (All-head (λ byte. ends_line byte ≡ false) b (c ∷ text) none, last_whole (c ∷ text) (omega arith) (All-tail (λ byte. ends_line byte ≡ false) b (c ∷ text) none)) refl
 
--- what is left of a line without its line feed
+-- the rest of a line without its line feed
 kept_all : (line : List ℕ) → HasNoFeed line → filter (λ byte. not (ends_line byte)) line ≡ line
 kept_all [] none = refl
 kept_all (b ∷ line) none = rw (All-head (λ byte. ends_line byte ≡ false) b line none, kept_all line (All-tail (λ byte. ends_line byte ≡ false) b line none)) refl

@@ -2,7 +2,7 @@
 use Rattle.std.specs.Prelude.{◌≡◌, ℕ, ◌<◌, ◌⊎◌, List, [], ◌∷◌, ◌++◌, length}
 use Rattle.journal_reader.specs.Reading.{HasNoFeed}
 
--- the line, without its line feed, is the first of the text, and this stands behind it; the last line may have no line feed
+-- the line, without its line feed, is the first of the text, and this stands after it; the last line may have no line feed
 abbrev pub IsFirstLine : List ℕ → List ℕ → List ℕ → Type 0
 IsFirstLine text line rest = HasNoFeed line × ((text ≡ line ++ 10 ∷ rest) ⊎ ((text ≡ line) × (rest ≡ []) × (0 < length line)))
 

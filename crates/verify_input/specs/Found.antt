@@ -1,4 +1,4 @@
--- What is found of an input.
+-- The verdict on an input.
 use Rattle.std.specs.Prelude.{◌≡◌, ◌≢◌, ℕ, zero, suc, ◌+◌, ◌==◌, List, [], ◌∷◌, ◌++◌, length, map, reverse, Option, Some, None, Result, Ok, Err, if◌then◌else◌}
 use Rattle.std.specs.List.{All, concat}
 use Rattle.gpu_store.specs.Images.{Pictures}
@@ -38,8 +38,8 @@ pub record Records (input : List ℕ) (p : PlansData) (events : List Event) : Ty
   pub there : journal_part input ≡ Some text
   pub told : TellsBehind (head_of p) text events
 
--- the line behind so many others is the first that is not as it has to be: it is missing or another than that of the
--- head, or no event's
+-- the line after a given number of others is the first that is not as it has to be: it is missing or another than that
+-- of the head, or no event's
 abbrev pub IsFirstOther : List (List ℕ) → List (List ℕ) → ℕ → Type 0
 IsFirstOther [] lines k = IsFirstBad lines k
 IsFirstOther (head ∷ heads) [] zero = Unit {0}
@@ -52,8 +52,8 @@ abbrev pub IsOtherAt : List (List ℕ) → List (List ℕ) → JournalFault → 
 IsOtherAt heads lines (faults.Refused line) = (k : ℕ) × (line ≡ k + 1) × IsFirstOther heads lines k
 IsOtherAt heads lines faults.Memory = Unit {0}
 
--- behind so many lines of a script there is no line `journal`, and this one would be the next; or the journal text behind
--- that line has this one as the first that is not as it has to be
+-- after a given number of lines of a script there is no line `journal`, and this one would be the next; or the journal
+-- text after that line has this one as the first that is not as it has to be
 abbrev pub LacksText : PlansData → ℕ → Option (List (List ℕ)) → ℕ → Type 0
 LacksText p count None line = line ≡ count + 1
 LacksText p count (Some text) line = (k : ℕ) × (line ≡ count + 1 + (k + 1)) × IsFirstOther (head_of p) text k
@@ -74,11 +74,11 @@ BreaksRule input event rule = (p : PlansData) × (events : List Event) × Record
 abbrev pub IsCutShort : List ℕ → Type 0
 IsCutShort input = (p : PlansData) × (events : List Event) × Records input p events × IsUnfinished p (reverse events)
 
--- the journal is a legal and complete history of the script, of so many events, and leaves these images
+-- the journal is a legal and complete history of the script, of a given number of events, and leaves these images
 abbrev pub IsRight : List ℕ → Pictures → ℕ → Type 0
 IsRight input images count = (p : PlansData) × (events : List Event) × Records input p events × IsWhole p (reverse events) × (images ≡ replay p (reverse events)) × (count ≡ length events)
 
--- what is found of an input
+-- the verdict on an input
 abbrev pub Finds : List ℕ → Finding → Type 0
 Finds input (Refused line kind) = IsNoScript input line kind
 Finds input (NoJournal line) = HasNoJournal input line

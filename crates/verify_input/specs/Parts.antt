@@ -1,4 +1,4 @@
--- The parts of an input: a script, a line `journal`, and a journal text, behind which the rest of an output may stand.
+-- The parts of an input: a script, a line `journal`, and a journal text, after which the rest of an output may stand.
 use Rattle.std.specs.Prelude.{ℕ, Bool, not, false, List, [], ◌∷◌, filter, Option, Some, None, codes, bytes_eq, if◌then◌else◌}
 use Rattle.std.specs.List.{list_any}
 use Rattle.script_words.specs.Text.{ends_line, words_of}
@@ -15,7 +15,7 @@ abbrev pub is_journal : List (List ℕ) → Bool
 is_journal (word ∷ []) = bytes_eq word (codes "journal")
 is_journal _ = false
 
--- the first words of what stands behind a journal in an output
+-- the first words of what stands after a journal in an output
 abbrev pub part_words : List (List ℕ)
 part_words = codes "image" ∷ codes "stream" ∷ codes "mark" ∷ codes "dump" ∷ codes "view" ∷ []
 
@@ -34,7 +34,7 @@ abbrev pub before : Border → List (List ℕ) → List (List ℕ)
 before border [] = []
 before border (line ∷ lines) = if is_end border (words_on line) then [] else line ∷ before border lines
 
--- the lines behind the one that ends this part, if there is one
+-- the lines after the one that ends this part, if there is one
 abbrev pub behind : Border → List (List ℕ) → Option (List (List ℕ))
 behind border [] = None
 behind border (line ∷ lines) = if is_end border (words_on line) then Some lines else behind border lines

@@ -13,11 +13,11 @@ pub(crate) struct Cut<'a> {
     pub(crate) part: &'a [u8],
     /// How many lines these are.
     pub(crate) lines: u32,
-    /// What stands behind the line.
+    /// What stands after the line.
     pub(crate) rest: Option<&'a [u8]>,
 }
 
-// The first line, without its line feed, and what stands behind it.
+// The first line, without its line feed, and what stands after it.
 fn first_line(text: &[u8]) -> Option<(&[u8], &[u8])>
     ensures { MatchOption result (text.now ≡ []) (λ cut. IsFirstLine text.now cut.0.now cut.1.now) }
 {

@@ -15,7 +15,7 @@ use journal_reader::JournalFault;
 use journal_verify::{Verdict, verify};
 use std::alloc::Global;
 
-// What is found of events.
+// The verdict on events.
 fn judge(alloc: Global, plans: &Plans, events: &[Event]) -> Result<Finding, Memory>
     requires { length events.now < 2 ^ 32 }
     ensures { IfOk result (λ finding. FindsOf plans.now events.now finding) }
@@ -30,7 +30,7 @@ fn judge(alloc: Global, plans: &Plans, events: &[Event]) -> Result<Finding, Memo
     }
 }
 
-// What is found of the text behind a line `journal`, before which stand so many lines of a script.
+// The verdict on the text after a line `journal`, before which stand a given number of lines of a script.
 fn examine_journal(alloc: Global, plans: &Plans, lines: u32, text: &[u8]) -> Result<Finding, Memory>
     requires { lines + 1 + length text.now ≤ 16777216 }
     ensures { IfOk result (λ finding. FindsIn plans.now lines
@@ -46,8 +46,8 @@ fn examine_journal(alloc: Global, plans: &Plans, lines: u32, text: &[u8]) -> Res
     }
 }
 
-/// What is found of an input of at most 16,777,216 bytes: a script, a line whose only word is `journal`, and a journal
-/// text, behind which the rest of an output may stand.
+/// The verdict on an input of at most 16,777,216 bytes: a script, a line whose only word is `journal`, and a journal
+/// text, after which the rest of an output may stand.
 ///
 /// The script is looked at first, then the whole journal text, and then its events. No other finding would hold.
 pub fn examine(alloc: Global, input: &[u8]) -> Result<Finding, Memory>

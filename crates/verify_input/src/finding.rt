@@ -1,7 +1,7 @@
 use gpu_plan::Kind;
 use gpu_store::Images;
 
-/// What is found of an input: a script, a line `journal`, and a journal text.
+/// The verdict on an input: a script, a line `journal`, and a journal text.
 #[derive(Drop)]
 pub enum Finding {
     /// This line of the input is the first bad one of the script, and this the first kind of what is wrong with it.
@@ -12,6 +12,6 @@ pub enum Finding {
     No { event: u32, rule: u32 },
     /// The events are a legal history of the script, and not a complete one.
     NotComplete,
-    /// So many events are a legal and complete history of the script, and leave these images.
+    /// This number of events is a legal and complete history of the script, and leaves these images.
     Yes { images: Images, events: u32 },
 }

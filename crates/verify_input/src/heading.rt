@@ -8,7 +8,7 @@ use gpu_plan::Plans;
 use journal_reader::{JournalFault, read_journal};
 use std::alloc::Global;
 
-// What stands behind a line, if that is the first of a text.
+// What stands after a line, if that is the first of a text.
 fn behind_line<'a>(text: &'a [u8], line: &[u8]) -> Option<&'a [u8]>
     requires { IsLine line.now }
     ensures lines { MatchOption result (IsFirstOther (line.now ∷ []) (whole_lines text.now) 0)
@@ -19,7 +19,7 @@ fn behind_line<'a>(text: &'a [u8], line: &[u8]) -> Option<&'a [u8]>
     text.strip_prefix(line)
 }
 
-// What stands behind the head of a journal text, and how many lines the head has.
+// What stands after the head of a journal text, and how many lines the head has.
 fn behind_head<'a>(
     alloc: Global,
     plans: &Plans,

@@ -15,12 +15,12 @@ kind_of Closed = 2
 abbrev pub mark : ℕ → Ending → ℕ
 mark base e = (base + 4 * e.order + kind_of e.how) % 2 ^ 32
 
--- one ending more was told, where it is known which
+-- one ending more was reported, where it is known which
 abbrev pub told_one_more : Option (List Ending) → Ending → Option (List Ending)
 told_one_more told ending = option_map (λ endings. endings ++ ending ∷ []) told
 
--- what is seen of hooks: the base of their marks, the marks so far, for how many more there is room, and the endings that
--- the callback was told, where it tells them
+-- what is seen of hooks: the base of their marks, the marks so far, for how many more there is room, and the endings
+-- that the callback got, where it tells them
 pub record Marks : Type 0 where
   pub base : ℕ
   pub marks : List ℕ

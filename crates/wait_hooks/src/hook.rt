@@ -8,13 +8,13 @@ use sync_core::Ending;
 
 /// A callback for the end of a wait, which is stored and called once for each.
 ///
-/// Contracts see the base of its marks, and the endings that it was told, where it tells them. It may do whatever it likes
+/// Contracts see the base of its marks, and the endings that it got, where it tells them. It may do whatever it likes
 /// beside answering the mark.
 pub trait Hook: Drop {
     // The base of the marks.
     ghost base: { Self → ℕ };
 
-    // The endings that it was told, in order, where it tells them.
+    // The endings that it got, in order, where it tells them.
     ghost told: { Self → Option (List Ending) } = { λ hook. None };
 
     /// The base of the marks.

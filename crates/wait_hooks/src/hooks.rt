@@ -9,8 +9,8 @@ use sync_core::Ending;
 
 /// The marks that a stored callback gave, in order.
 ///
-/// Contracts see the base of the marks, the marks, for how many more there is room, and the endings that the callback was
-/// told, where it tells them.
+/// Contracts see the base of the marks, the marks, for how many more there is room, and the endings that the callback
+/// got, where it tells them.
 #[derive(Drop)]
 pub struct Hooks<H: Hook> {
     hook: H,
@@ -58,7 +58,7 @@ impl<H: Hook> Hooks<H> {
         self.spare
     }
 
-    /// Takes room for so many more marks.
+    /// Takes room for a given number of further marks.
     pub fn reserve(&mut self, more: usize) -> Result<(), Memory>
         ensures ok { OnOk result (self.new ≡ record self.old { spare = self.old.spare + more }) }
         ensures err { OnErr result (self.new ≡ self.old) }
@@ -75,7 +75,7 @@ impl<H: Hook> Hooks<H> {
     pub fn ended(&mut self, ending: Ending) -> u32
         requires room { 0 < self.old.spare }
         ensures mark { result ≡ mark self.old.base ending }
-        // It is told once, and nothing else is.
+        // It is reported once, and nothing else is.
         ensures told { self.new.told ≡ told_one_more self.old.told ending }
         ensures marks { self.new.marks ≡ self.old.marks ++ result ∷ [] }
         ensures spare { self.new.spare ≡ self.old.spare - 1 }
@@ -94,7 +94,7 @@ impl<H: Hook> Hooks<H> {
         self.marks.as_slice()
     }
 
-    /// The callback, which is told no more, and the marks of the endings given, in order.
+    /// The callback, which hears no more, and the marks of the endings given, in order.
     pub fn into_marks(self) -> (H, Vec<u32>)
         ensures base { H.base result.0 ≡ self.base }
         ensures told { H.told result.0 ≡ self.told }

@@ -72,7 +72,7 @@ finished_more law xs k finished tokens passing = law xs k finished (finished + 1
 stands_at_first : BoundIsFirst → (xs : List Action) (finished : ℕ) (tokens : List ℕ) → passes xs 0 finished tokens ≡ false → bound xs finished tokens ≡ 0
 stands_at_first law xs finished tokens stops = law xs 0 finished tokens (λ k lt. absurd (omega (arith, lt))) stops
 
--- what may have been put since a first flush may have been put since the action behind it
+-- what may have been put since a first flush may have been put since the action after it
 behind_first : MayHoldBehindFlush → (xs : List Action) (put most place value : ℕ) → MayHold (actions.Flush put [] ∷ xs) 0 (suc most) place value → MayHold (actions.Flush put [] ∷ xs) 1 (suc most) place value
 behind_first law xs put most place value may = law (actions.Flush put [] ∷ xs) 0 put (suc most) place value [] refl (omega arith) may
 
@@ -149,7 +149,7 @@ no_two law streams h w v among also follows back =
 
 -- ---- texts
 
--- a number and the next one are told apart
+-- a number and the next one differ
 next_differs : DifferentNumbers → (n : ℕ) → number_text n ≡ number_text (n + 1) → ⊥
 next_differs law n same = let equal = law n (n + 1) same in omega (arith, equal)
 
@@ -162,15 +162,15 @@ no_dump apart others event behind other stream place index value same = both_way
 
 -- ---- histories
 
--- a legal history after which every legal event is a loss for want of memory is complete, or at least not incomplete
+-- a legal history after which every legal event is a loss as out of memory is complete, or at least not incomplete
 stuck_complete : UnfinishedHasEvent → (p : PlansData) (h : List Event) → AreLawfulPlans p → IsLegal p h → ((e : Event) → IsLegal p (e ∷ h) → wants_memory e ≡ true) → (IsComplete p h → ⊥) → ⊥
 stuck_complete law p h lawful legal stuck unfinished = let more = law p h lawful legal unfinished in both_ways (wants_memory more.0) more.1 (stuck more.0 more.2)
 
--- some legal event alone would say less: wherever a stream is open, its loss for want of memory is legal
+-- some legal event alone would say less: wherever a stream is open, its loss as out of memory is legal
 loss_is_legal : (p : PlansData) (h : List Event) (s : ℕ) → IsLegal p h → IsOpen p h s → IsLegal p (events.Lost s Memory [] ∷ h)
 loss_is_legal p h s legal open' = (record { rule_1 = tt; rule_2 = tt; rule_3 = tt; rule_4 = tt; rule_5 = tt; rule_6 = tt; rule_7 = tt; rule_8 = tt; rule_9 = tt; rule_10 = tt; rule_11 = (open', refl); rule_12 = tt }, legal)
 
--- no serial history ends with a loss for want of memory
+-- no serial history ends with a loss as out of memory
 no_memory : SerialWantsNoMemory → (p : PlansData) (s : ℕ) (h : List Event) → AreLawfulPlans p → serial p ≡ events.Lost s Memory [] ∷ h → ⊥
 no_memory law p s h lawful ends =
     let none : wants_memory (events.Lost s Memory []) ≡ false = All-head (λ event. wants_memory event ≡ false) (events.Lost s Memory []) h (subst (All (λ event. wants_memory event ≡ false)) ends (law p lawful)) in
@@ -214,7 +214,7 @@ same_runs law legal lawful text other p q mark is its same =
     law p q mark mark (serial p) (serial q) (of_script AreLawfulPlans (script_of text) p (lawful text) is) (of_script AreLawfulPlans (script_of other) q (lawful other) its)
     (of_script (λ p. IsLegal p (serial p)) (script_of text) p (legal text) is) (of_script (λ p. IsLegal p (serial p)) (script_of other) q (legal other) its) same
 
--- nor does it hang on what is told of dumps, or on the looks of viewers
+-- nor does it hang on what is said of dumps, or on the looks of viewers
 same_looked : SameThreadedRunIsSameHistory → (p : PlansData) (mark : Ending → ℕ) (g h : List Event) (dumps : List ℕ) (viewer events sum : ℕ) → AreLawfulPlans p → IsLegal p g → IsLegal p h → AreDumpLines p g dumps → AreDumpLines p h []
     → output p mark g ++ (dumps ++ []) ≡ output p mark h ++ ([] ++ (view_text viewer events sum ++ [])) → g ≡ h
 same_looked law p mark g h dumps viewer events sum lawful legal also told none same = law p p mark mark g h dumps [] [] ((viewer, events, sum) ∷ []) lawful lawful legal also told none same
@@ -233,7 +233,7 @@ own_wait w =
     and_from _ _ (eq-eqb w.stream w.stream refl) (and_from _ _ (eq-eqb w.order w.order refl) (and_from _ _ (eq-eqb w.target w.target refl) (eq-eqb w.release w.release refl))) in
     ap (λ (b : Bool). length (cond b (w ∷ []) [])) same
 
--- a number whose one wait was kept is not run before an ending is told
+-- a number whose one wait was kept is not run before an ending is reported
 not_before : RunsAfterEndings → (p : PlansData) (g : List Event) (w : Wait) (words : List (ℕ × ℕ)) → kept_in p g ≡ w ∷ [] → endings_in p g ≡ [] → first_order (left_of p g w.stream) ≡ Some w.order → IsLegal p (events.Step w.stream words ∷ g) → ⊥
 not_before law p g w words kept none first legal =
     let same = law p g (events.Step w.stream words) legal w.order first w.target w.release in
@@ -246,7 +246,7 @@ told_once : FinishedHaveEnded → (p : PlansData) (later g : List Event) (w : Wa
     → length (filter (is_end w.stream w.order w.target w.release) (endings_in p (later ++ events.Finish w.stream w.order ∷ g))) ≡ 1
 told_once law p later g w legal kept = law p later g w.stream w.order legal w.target w.release ∙ ap (λ (ws : List Wait). length (filter (is_wait w.stream w.order w.target w.release) ws)) kept ∙ own_wait w
 
--- where a wait is told to have ended by close, its target was closed
+-- where a wait is said to have ended by close, its target was closed
 has_close : EndingsHaveCauses → (p : PlansData) (h : List Event) (ending : Ending) → endings_in p h ≡ ending ∷ [] → ending.how ≡ how.Closed → (later before : List Event) × (later ++ events.Close ending.target ∷ before ≡ h)
 has_close law p h ending are closed =
     let cause = All-head (HasCause p h) ending [] (subst (All (HasCause p h)) are (law p h)) in
@@ -265,7 +265,7 @@ has_release law p h ending are released =
     let after = subst (λ (t : ℕ). cause.wait.release ≤ (standing_of p (cause.event ∷ cause.before) t).release) target ends.1 in
     (cause.later, cause.event ∷ cause.before, cause.whole, subst (λ (r : ℕ). r ≤ (standing_of p (cause.event ∷ cause.before) ending.target).release) release after)
 
--- no run of a script leaves a wait behind
+-- no run of a script leaves a wait after
 none_left_waiting : CompleteWaitsForNone → ScriptsRunLegally → ScriptsRunToTheEnd → (text : List ℕ) (p : PlansData) → script_of text ≡ Ok p → pending_in p (serial p) ≡ []
 none_left_waiting law legal complete text p is = law p (serial p) (of_script (λ p. IsLegal p (serial p)) (script_of text) p (legal text) is) (of_script (λ p. IsComplete p (serial p)) (script_of text) p (complete text) is)
 

@@ -1,4 +1,4 @@
--- A stream is closed where its client stands at its close, whatever it has not run; its dumps are told.
+-- A stream is closed where its client stands at its close, whatever it has not run; its dumps are reported.
 use Rattle.std.proofs.Common.{◌≡◌, refl, Ok}
 use Rattle.std.specs.Prelude.{codes}
 use Rattle.gpu_cmd.specs.Checks.{headed, checked, decoded}

@@ -1,4 +1,5 @@
--- A close may come while a kept wait of its stream's first number is pending: that wait is gone, and no ending is told.
+-- A close may come while a kept wait of its stream's first number is pending: that wait is gone, and no ending is
+-- reported.
 use Rattle.std.proofs.Common.{◌≡◌, ℕ, List, [], ◌∷◌, Result, Ok, Err, refl}
 use Rattle.std.specs.Prelude.{codes}
 use Rattle.script_lines.specs.declared.fault.Kind.{Kind}

@@ -100,7 +100,7 @@ abbrev plans_in : Result PlansData (ℕ × Kind) → PlansData
 plans_in (Ok plans) = plans
 plans_in (Err wrong) = record { version = 0; plans = [] }
 
--- its two dumps stand before and behind the second value
+-- its two dumps stand before and after the second value
 abbrev two_dumps : PlansData
 two_dumps = plans_in (script_of (codes "gpu-script 1\nstream 1 normal 64\nresults 0 1\nput 0 00400003 0 6 00a00007 0 0 0 0 0 0\nflush 10\ndump 0 0\nput 10 00400003 0 7 00a00007 0 0 0 0 0 0\nflush 20\ndump 0 0\n"))
 
@@ -117,7 +117,7 @@ second_value = refl
 only_second : (value : ℕ) → MayDump two_dumps (serial two_dumps) 1 (23, 0) value → value ≡ 7
 only_second value may = one_alone value 7 (values two_dumps (serial two_dumps) 1 (23, 0)) (told_is two_dumps (serial two_dumps) 1 (23, 0) value may) (ap (list_all (λ v. v == 7)) second_value)
 
--- a script whose first stream is lost behind its dump
+-- a script whose first stream is lost after its dump
 abbrev lost_dump : PlansData
 lost_dump = plans_in (script_of (codes "gpu-script 1\nstream 1 low 16\nresults 0 1\nput 0 00400003 0 6 00a00007 0 0 0 0 0 0\nflush 10\ndump 0 0\nput 10 ffe00001\nflush 11\nstream 2 normal 16\nresults 0 1\nput 0 00400003 0 7 00a00007 0 0 0 0 0 0\nflush 10 1 1\ndump 0 0\n"))
 

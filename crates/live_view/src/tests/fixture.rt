@@ -18,7 +18,7 @@ pub(super) fn pair<R: Wait>(rt: &R, alloc: Global) -> Result<(ViewWriter, Option
     Ok((writer, viewers.pop()))
 }
 
-/// An image of so many texels.
+/// An image of a given number of texels.
 pub(super) fn create(width: u32, height: u32) -> Op
     ensures { HasItsTexels result }
 {

@@ -35,7 +35,7 @@ fn begin<R: Wait>(rt: &R, writer: &mut ViewWriter) -> bool
     noted(writer, create(SIDE, SIDE)) && shown(rt, writer, 0)
 }
 
-// Publishes all versions behind that.
+// Publishes all versions after that.
 fn publish_all<R: Wait>(rt: &R, writer: &mut ViewWriter) -> bool
     requires { IsLatest (writer.old.versions ++ writer.old.tried) 0 }
 {

@@ -9,7 +9,7 @@ use Rattle.live_view.specs.Rule.{IsLast, IsBegun}
 use Rattle.live_view.proofs.Stepping.{ended, ops_end}
 use Rattle.live_view.proofs.copies.end_version.Goals as goal
 
--- the same value with an end behind its steps leads to the version
+-- the same value with an end after its steps leads to the version
 leads : (old now : Shown) (steps more : List Step) (mark : Mark) → now ≡ old → more ≡ steps ++ End mark ∷ [] → fold after now more ≡ ended_by old steps mark
 leads old now steps more mark same is = ap (λ (l : List Step). fold after now l) is ∙ ap (λ (s : Shown). fold after s (steps ++ End mark ∷ [])) same ∙ ended steps mark old
 

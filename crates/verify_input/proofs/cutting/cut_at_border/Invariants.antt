@@ -2,7 +2,7 @@ use Rattle.std.proofs.Common.{length}
 use Rattle.verify_input.proofs.Borders.{IsOn}
 use Rattle.verify_input.proofs.cutting.cut_at_border.Given as goal
 
--- so many lines are gone through, none of which ends the part
+-- a given number of lines is gone through, none of which ends the part
 abbrev pub invariant-loop-line : goal.invariant-loop-line
 invariant-loop-line l = IsOn l.border l.text l.rest l.lines
 

@@ -1,4 +1,4 @@
--- The values after growth are as before, with zeros behind, which the writes do not see.
+-- The values after growth are as before, with zeros after, which the writes do not see.
 use Rattle.std.proofs.Common.{◌++◌, ◌-◌, length, replicate, ap, ◌∙◌}
 use Rattle.stream_state.specs.Writes.{end_of, after_writes}
 use Rattle.stream_state.proofs.Writings.{after_growth, grown_enough}
