@@ -1,4 +1,5 @@
-"""Tools that show what the program printed: pictures, a timeline, a log, a comparison, and what a verdict means.
+"""Tools that show an output: pictures, a timeline, a log, a comparison, and causes of verdicts.
 
-They stand beside the proved program. They read its output, and claim nothing that it does not print.
+They stand beside the proved program. They read its output, and claim nothing that it does not
+print.
 """

@@ -1,18 +1,20 @@
 """Commands by their words, for people to read: the names and arguments of the table.
 
-Nothing is judged here. Words that are no command are told as what they are.
+Nothing is judged here. Words that are no command are shown as they are.
 """
 
 from collections.abc import Iterable
 from functools import lru_cache
 from typing import NamedTuple
 
-from .output import words_of
+from zorvleid.output import words_of
+
 from .plain import counted
 from .table import BYTES_OF_FORMAT, ERRORS, FORMATS, NOOP, TABLE, WIDE
 
-__all__ = ["BYTES_OF_FORMAT", "ERRORS", "FORMATS", "NOOP", "TABLE", "WIDE", "Command", "decode", "entries_wanted", "place_of",
-           "sentence", "told"]
+__all__ = ["BYTES_OF_FORMAT", "ERRORS", "FORMATS", "NOOP", "TABLE", "WIDE", "Command", "Words",
+           "decode", "entries_wanted",
+           "place_of", "read", "sentence", "told"]
 
 
 class Command(NamedTuple):
@@ -22,8 +24,8 @@ class Command(NamedTuple):
     name: str
     size: int
     values: dict[str, int]  # its arguments by their names
-    data: int  # how many entries of data stand behind the arguments
-    transfer: int  # how many words of a memory stand behind the entries
+    data: int  # how many entries of data follow the arguments
+    transfer: int  # how many words of a memory follow the entries
 
 
 def entries_wanted(number: int, size: int) -> int:
@@ -46,7 +48,27 @@ def decode(words: Iterable[tuple[int, int]]) -> Command:
             break
         found[field] = entries[at] + (entries[at + 1] << 32 if wide else 0)
         at += 1 + wide
-    return Command(number, name, size, found, len(entries) - at, max(0, len(values) - 1 - len(entries)))
+    return Command(
+        number, name, size, found, len(entries) - at, max(0, len(values) - 1 - len(entries))
+    )
+
+
+Words = list[tuple[int, int]]
+SHORT, KNOWN = 256, 8192  # the number of short texts that are kept
+
+
+def parse(words: str) -> tuple[Words, Command]:
+    """The words of a line, and their command."""
+    found = words_of(words)
+    return found, decode(found)
+
+
+parse_short = lru_cache(KNOWN)(parse)
+
+
+def read(words: str) -> tuple[Words, Command]:
+    """The same as `parse`, where short texts that come again are read once."""
+    return parse_short(words) if len(words) <= SHORT else parse(words)
 
 
 def place_of(command: Command, field: str) -> int:
@@ -81,8 +103,7 @@ def sentence(command: Command) -> str:
     return f"{command.name}: " + ", ".join(parts) if parts else command.name
 
 
-@lru_cache(maxsize=8192)
 def told(words: str) -> tuple[str, str]:
     """The name of a command, and its sentence, by its words as they are printed."""
-    command = decode(words_of(words))
+    _, command = read(words)
     return command.name, sentence(command)

@@ -1,12 +1,13 @@
-"""Two outputs of one script beside each other: where their journals part, and which images and ends differ."""
+"""Two outputs of one script beside each other: where journals part, and other images and ends."""
 
 from collections.abc import Iterator, Sequence
 from dataclasses import dataclass
 from typing import NamedTuple
 
+from zorvleid.output import Event, Image, Output, StreamEnd
+
 from . import log, page
 from .history import History
-from .output import Event, Image, Output, Stream
 from .plain import counted
 
 CHANNELS = 4  # bytes of a texel
@@ -17,7 +18,7 @@ class NotOfOneScript(Exception):
 
 
 class Parting(NamedTuple):
-    """Where two rows of events part: how many are the same, and the event behind them in each, or None at its end."""
+    """Where two rows of events part: the length of the same prefix, and the next event of each."""
 
     same: int
     first: int | None
@@ -30,7 +31,10 @@ class Parting(NamedTuple):
 
 @dataclass(frozen=True)
 class ImageDifference:
-    """An image that is not the same in both. Where both have it in one size, its texels differ in so many places."""
+    """An image that is not the same in both.
+
+    Where both have it in one size, some of its texels differ.
+    """
 
     number: int
     first: Image | None
@@ -38,7 +42,11 @@ class ImageDifference:
 
     @property
     def is_of_one_size(self) -> bool:
-        return self.first is not None and self.second is not None and self.first[1:3] == self.second[1:3]
+        return (
+            self.first is not None
+            and self.second is not None
+            and self.first[1:3] == self.second[1:3]
+        )
 
     def places(self) -> list[int]:
         """The texels that differ, counted row after row."""
@@ -47,23 +55,33 @@ class ImageDifference:
         one, other = self.first.texels, self.second.texels
         if one == other:
             return []
-        return [at // CHANNELS for at in range(0, len(one), CHANNELS) if one[at:at + CHANNELS] != other[at:at + CHANNELS]]
+        return [at // CHANNELS
+                for at in range(0, len(one), CHANNELS)
+                if one[at:at + CHANNELS] != other[at:at + CHANNELS]]
 
     def sentence(self) -> str:
         """How the image differs, in words."""
         if self.first is None or self.second is None:
             return f"only in {'B' if self.first is None else 'A'}"
         if not self.is_of_one_size:
-            return f"{self.first.width} by {self.first.height} in A, {self.second.width} by {self.second.height} in B"
+            return (
+                f"{self.first.width} by {self.first.height} in A, {self.second.width} by "
+                f"{self.second.height} in B"
+            )
         places, count = self.places(), self.first.width * self.first.height
         x, y = places[0] % self.first.width, places[0] // self.first.width
-        values = [image.texels[CHANNELS * places[0]:][:CHANNELS].hex() for image in (self.first, self.second)]
-        how_many = f"{counted(len(places), 'texel')} of {count:,} {'differs' if len(places) == 1 else 'differ'}"
+        values = [image.texels[CHANNELS * places[0]:][:CHANNELS].hex()
+                  for image in (self.first, self.second)]
+        how_many = (
+            f"{counted(len(places), 'texel')} of {count:,} "
+            f"{'differs' if len(places) == 1 else 'differ'}"
+        )
         return f"{how_many}, first at {x}, {y}: {values[0]} in A, {values[1]} in B"
 
 
 def parting(first: Sequence[object], second: Sequence[object]) -> Parting:
-    same = next((at for at, (one, other) in enumerate(zip(first, second)) if one != other), min(len(first), len(second)))
+    same = next((at for at, (one, other) in enumerate(zip(first, second)) if one != other),
+                min(len(first), len(second)))
     return Parting(same, same if same < len(first) else None, same if same < len(second) else None)
 
 
@@ -79,7 +97,9 @@ class Comparison:
         self.first, self.second = first, second
         self.outputs = (first.output, second.output)
         if len(first.lanes) != len(second.lanes) or first.output.names != second.output.names:
-            raise NotOfOneScript("refused: the outputs are of two scripts: their streams are not the same")
+            raise NotOfOneScript(
+                "refused: the outputs are of two scripts: their streams are not the same"
+            )
         self.whole = parting(*([event.text for event in output.events] for output in self.outputs))
         self.places = tuple(places_of(history) for history in (first, second))
         self.streams = [self.parting_of(number) for number in range(len(first.lanes))]
@@ -91,18 +111,26 @@ class Comparison:
                          for output, places in zip(self.outputs, self.places)))
 
     def differing_ends(self) -> Iterator[str]:
-        """What differs of the streams' lines, the waits that ended, and the dumps."""
+        """The differences of the streams' lines, the waits that ended, and the dumps."""
         for one, other in zip(self.outputs[0].streams, self.outputs[1].streams):
             if (one.end, one.counts) != (other.end, other.counts):
                 yield f"stream {one.number}: " + difference_of(sides(one), sides(other))
         waits = [ended_waits(history) for history in (self.first, self.second)]
         for key in dict.fromkeys([*waits[0], *waits[1]]):
             if waits[0].get(key) != waits[1].get(key):
-                yield f"{key}: {waits[0].get(key, 'no wait')} in A, {waits[1].get(key, 'no wait')} in B"
-        dumps = [dict(dump.rsplit(" ", 1) for dump in output.dumps) for output in self.outputs]
+                yield (
+                    f"{key}: {waits[0].get(key, 'no wait')} in A, {waits[1].get(key, 'no wait')} "
+                    "in B"
+                )
+        dumps = [{f"dump {dump.stream} {dump.action} {dump.place}": f"{dump.value:08x}"
+                  for dump in output.dumps}
+                 for output in self.outputs]
         for key in dict.fromkeys([*dumps[0], *dumps[1]]):
             if dumps[0].get(key) != dumps[1].get(key):
-                yield f"{key}: {dumps[0].get(key, 'no value')} in A, {dumps[1].get(key, 'no value')} in B"
+                yield (
+                    f"{key}: {dumps[0].get(key, 'no value')} in A, {dumps[1].get(key, 'no value')} "
+                    "in B"
+                )
 
     @property
     def is_same(self) -> bool:
@@ -128,17 +156,21 @@ def image_differences(first: Output, second: Output) -> Iterator[ImageDifference
 COUNTS = ("entries", "release", "token", "words", "errors 0501", "errors 0502", "errors 0505")
 
 
-def sides(stream: Stream) -> dict[str, str]:
-    """What the line of a stream says, by name."""
+def sides(stream: StreamEnd) -> dict[str, str]:
+    """The values of the line of a stream, by name."""
     return {"end": page.end_of(stream), **dict(zip(COUNTS, map(str, stream.counts)))}
 
 
 def difference_of(one: dict[str, str], other: dict[str, str]) -> str:
-    return ", ".join(f"{name} {one[name]} in A and {other[name]} in B" for name in one if one[name] != other[name])
+    return ", ".join(f"{name} {one[name]} in A and {other[name]} in B"
+                     for name in one if one[name] != other[name])
 
 
 def ended_waits(history: History) -> dict[str, str]:
-    """How each wait that ended did so, by who waited for what. A number is told as that of its stream."""
+    """How each wait ended, by its stream and its target.
+
+    A number stands for its stream.
+    """
     found: dict[str, str] = {}
     numbers = {bar.number: at for lane in range(1, len(history.lanes) + 1)
                for at, bar in enumerate((bar for bar in history.bars if bar.stream == lane), 1)}
@@ -157,7 +189,7 @@ def event_line(history: History, place: int | None) -> str:
 
 
 def lines(comparison: Comparison) -> Iterator[str]:
-    """What differs, line by line."""
+    """The differences, line by line."""
     if comparison.is_same:
         yield "the two outputs say the same"
         return
@@ -172,11 +204,19 @@ def lines(comparison: Comparison) -> Iterator[str]:
         if found.is_none:
             yield f"stream {number + 1}: the same, {counted(len(places[0]), 'event')}"
             continue
-        yield f"stream {number + 1}: its first {counted(found.same, 'event')} are the same, and then"
-        yield from told(both, [at if at is None else side[at] for side, at in zip(places, found[1:])])
+        yield (
+            f"stream {number + 1}: its first {counted(found.same, 'event')} are the same, and then"
+        )
+        yield from told(
+            both, [at if at is None else side[at] for side, at in zip(places, found[1:])]
+        )
     differing = {difference.number: difference for difference in comparison.images}
-    for number in sorted({image.number for output in comparison.outputs for image in output.images}):
-        yield f"image {number}: {differing[number].sentence() if number in differing else 'the same'}"
+    for number in sorted(
+        {image.number for output in comparison.outputs for image in output.images}
+    ):
+        yield (
+            f"image {number}: {differing[number].sentence() if number in differing else 'the same'}"
+        )
     yield from comparison.ends
 
 

@@ -1,16 +1,18 @@
-"""What an answer of `verify` means: the event that breaks a rule, what is left to do, or the line that is no journal's.
+"""The cause of an answer of `verify`: a bad event, missing events, or a line of no journal.
 
-The answer is the program's. What is said beside it is worked out here anew from the script and the journal, and proves
+The answer is the program's. The cause is found anew from the script and the journal, and proves
 nothing.
 """
 
 import re
 import subprocess
 import sys
+from collections.abc import Iterable, Iterator
 from pathlib import Path
 
+from zorvleid.output import HEAD, NO_LINE_FEED, Event, Lines, read_event
+
 from . import commands, due, rules
-from .output import HEAD, NO_LINE_FEED, Lines, read_event
 from .script import BLANKS, Script
 from .standing import Stand, Standing
 
@@ -21,21 +23,29 @@ EVENT_FORMS = "order S N C, step S I:V .., finish S N, lost S CODE I:V .., lost 
 
 
 class Input:
-    """The parts of an input of `verify`: a script, the line `journal`, and the events of a journal."""
+    """The parts of an input of `verify`: a script, the line `journal`, and the journal's events."""
 
-    def __init__(self, data):
+    def __init__(self, data: bytes) -> None:
         self.lines = Lines(data).lines
-        words = (BLANKS.split(line.removesuffix(NO_LINE_FEED).strip(" \t\r")) for line in self.lines)
-        self.journal = next((number for number, found in enumerate(words, 1) if found == ["journal"]), None)
-        self.script = Script(line.removesuffix(NO_LINE_FEED) for line in self.lines[:(self.journal or 1) - 1])
-        self.heads = []
+        words = (
+            BLANKS.split(line.removesuffix(NO_LINE_FEED).strip(" \t\r")) for line in self.lines
+        )
+        self.journal = next(
+            (number for number, found in enumerate(words, 1) if found == ["journal"]), None
+        )
+        self.script = Script(
+            line.removesuffix(NO_LINE_FEED) for line in self.lines[: (self.journal or 1) - 1]
+        )
+        self.heads: list[str] = []
         if self.script.version == 2:
             names = enumerate((plan.name for plan in self.script.plans), 1)
-            self.heads = [HEAD, *(f"name {number} {space} {name}" for number, (space, name) in names)]
+            self.heads = [HEAD,
+                          *(f"name {number} {space} {name}" for number, (space, name) in names)]
         first = (self.journal or 0) + len(self.heads)
         self.events = self.read_events(first) if self.journal else []
 
-    def read_events(self, first):
+    def read_events(self, first: int) -> list[Event]:
+        """The events from a line on, up to one that is no event's."""
         events = []
         for number, line in enumerate(self.lines[first:], first + 1):
             event = read_event(line, number)
@@ -44,20 +54,20 @@ class Input:
             events.append(event)
         return events
 
-    def text(self, line):
+    def text(self, line: int) -> str | None:
         return self.lines[line - 1].removesuffix(NO_LINE_FEED) if line <= len(self.lines) else None
 
 
-def standing_of(given, count):
-    """How things stand after so many events of a legal journal."""
+def standing_of(given: Input, count: int) -> Standing:
+    """The state after some events of a legal journal."""
     standing = Standing([Stand(plan) for plan in given.script.plans], given.script.names)
     for event in given.events[:count]:
         standing.take(event)
     return standing
 
 
-def on_no(given, number, rule):
-    """What the rule is, which event breaks it, and what it would have wanted."""
+def on_no(given: Input, number: int, rule: int) -> Iterator[str]:
+    """The rule, the event that breaks it, and the events that it allows."""
     event = given.events[number - 1]
     of_events, sentence = rules.table().get(rule, ("", "see docs/FORMATS.md"))
     yield f"event {number} of the journal, line {event.line} of the input, breaks rule {rule}:"
@@ -71,8 +81,8 @@ def on_no(given, number, rule):
         yield f"wanted: {line}"
 
 
-def on_not_complete(given):
-    """What is left to do, stream by stream."""
+def on_not_complete(given: Input) -> Iterator[str]:
+    """The missing events, stream by stream."""
     standing = standing_of(given, len(given.events))
     count = len(given.events)
     yield f"the journal is legal up to its end, event {count}, and something is left to do:"
@@ -81,14 +91,19 @@ def on_not_complete(given):
         yield f"stream {number}: " + ("; ".join(left) if left else "nothing")
 
 
-def on_no_journal(given, line):
-    """The line that is no journal's, and what could stand there."""
+def on_no_journal(given: Input, line: int) -> Iterator[str]:
+    """The line of no journal, and the lines that could replace it."""
     if given.journal is None:
-        yield "the input has no line whose only word is `journal`: behind the script has to come such a line, and the journal"
+        yield (
+            "the input has no line whose only word is `journal`: behind the script has to come "
+            "such a line, and the journal"
+        )
         return
     text = given.text(line)
     ended = text is None or not given.lines[line - 1].endswith(NO_LINE_FEED)
-    fault = " is missing" if text is None else " is no line of a journal:" if ended else " has no line feed at its end:"
+    fault = " is no line of a journal:" if ended else " has no line feed at its end:"
+    if text is None:
+        fault = " is missing"
     yield f"line {line} of the input{fault}"
     if text is not None:
         yield f"    {text}"
@@ -97,10 +112,13 @@ def on_no_journal(given, line):
         yield f"wanted: {given.heads[place]}"
     else:
         yield f"wanted: a line of an event: {EVENT_FORMS}"
-        yield "    with one space between words, no leading zeros, eight small digits in a value, and a line feed at the end"
+        yield (
+            "    with one space between words, no leading zeros, eight small digits in a value, "
+            "and a line feed at the end"
+        )
 
 
-def meaning(status, said, data):
+def meaning(status: int, said: str, data: bytes) -> Iterable[str]:
     """The lines that say what an answer means; none where it needs no words."""
     given = Input(data)
     if status == NO and (found := re.fullmatch(r"no: event (\d+) rule (\d+)", said)):
@@ -112,14 +130,16 @@ def meaning(status, said, data):
     return ()
 
 
-def printable(text):
+def printable(text: str) -> str:
     return "".join(char if char.isprintable() else f"\\x{ord(char):02x}" for char in text)
 
 
-def explain(data, program=None):
+def explain(data: bytes, program: Path | None = None) -> int:
     """Runs `verify`, passes on what it writes, adds what it means, and answers its status."""
     try:
-        ran = subprocess.run([program or WRAPPER, "verify"], input=data, capture_output=True, check=False)
+        ran = subprocess.run(
+            [program or WRAPPER, "verify"], input=data, capture_output=True, check=False
+        )
     except OSError as error:
         print(f"the program does not start: {error.strerror}", file=sys.stderr)
         return 126

@@ -1,8 +1,8 @@
 """Files that are whole or not there, whatever their names lead to.
 
-`write_all` looks at all names first. A regular file, also one behind links, is written beside its
-place, and takes it once all files are written. What is no regular file, as a device or a pipe, is
-written as it stands, and `-` is standard output.
+`write_all` looks at all names first. It writes a regular file, also one at the end of links, beside
+its place; the file takes its place once all files are written. It writes anything else, as a device
+or a pipe, directly. `-` is standard output.
 """
 
 import errno
@@ -12,6 +12,7 @@ from collections.abc import Iterable
 from contextlib import suppress
 from dataclasses import dataclass
 from pathlib import Path
+from typing import BinaryIO
 
 STANDARD_OUTPUT = "-"
 LINKS_AT_MOST = 40
@@ -37,7 +38,7 @@ class Target:
 
     @property
     def status(self) -> os.stat_result | None:
-        """What stands there already."""
+        """The thing that the name leads to."""
         with suppress(OSError):
             return os.stat(self.place)
         return None
@@ -51,7 +52,7 @@ class Target:
 
     @property
     def identity(self) -> object:
-        """What two names of one file have in common."""
+        """The thing that two names of one file have in common."""
         status = self.status
         return (status.st_dev, status.st_ino) if status else self.place
 
@@ -63,7 +64,7 @@ def descriptor_of(path: Path) -> int | None:
 
 
 def target_of(name: str | Path) -> Target:
-    """What a name leads to, by its links: the last of them may be one to an open descriptor."""
+    """The thing at the end of a name's links; the last link may be to an open descriptor."""
     text = str(name)
     if not text:
         raise WrongName("the name of a file is empty")
@@ -84,7 +85,7 @@ def target_of(name: str | Path) -> Target:
 
 
 def targets_of(names: Iterable[str | Path]) -> list[Target]:
-    """What names lead to, each to a file of its own."""
+    """The things that names lead to, each to a file of its own."""
     targets: dict[object, Target] = {}
     for target in map(target_of, names):
         if (other := targets.get(target.identity)) is not None:
@@ -94,25 +95,33 @@ def targets_of(names: Iterable[str | Path]) -> list[Target]:
     return list(targets.values())
 
 
-def write_beside(target: Target, data: bytes, part: Path) -> None:
+Data = bytes | Iterable[bytes]  # of a file: all of it, or its parts in order
+
+
+def write_data(file: BinaryIO, data: Data) -> None:
+    """Writes bytes, or parts of them as they come."""
+    file.writelines([data] if isinstance(data, bytes) else data)
+
+
+def write_beside(target: Target, data: Data, part: Path) -> None:
     """Writes the bytes of a target to a new file, with the rights of the old one."""
     status = target.status
     if status and not os.access(target.place, os.W_OK):
         raise OSError(errno.EACCES, os.strerror(errno.EACCES))
     with part.open("xb") as file:
-        file.write(data)
+        write_data(file, data)
         if status:
             os.fchmod(file.fileno(), stat.S_IMODE(status.st_mode))
 
 
-def write_in_place(place: int | Path, data: bytes) -> None:
-    """Writes bytes into what stands there."""
+def write_in_place(place: int | Path, data: Data) -> None:
+    """Writes bytes into the thing at this place."""
     descriptor = os.dup(place) if isinstance(place, int) else os.open(place, os.O_WRONLY)
     with open(descriptor, "wb") as file:
-        file.write(data)
+        write_data(file, data)
 
 
-def write_all(files: Iterable[tuple[str | Path, bytes]]) -> None:
+def write_all(files: Iterable[tuple[str | Path, Data]]) -> None:
     """Writes files, given by their names, or none of them."""
     files = list(files)
     targets = targets_of(name for name, _ in files)

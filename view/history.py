@@ -1,14 +1,16 @@
-"""What the lines of an output say together: what each event did, which number it belongs to, and which event ended which wait.
+"""The facts of an output as a whole: what each event did, its number, and the waits that it ended.
 
-Each order number is a bar, from its order to its finish, its loss or the close of its stream. Bars of one stream may lie
-over each other, since a client may flush again before the service comes to it; so each has a row, the first that is free.
+Each order number is a bar, from its order to its finish, its loss or the close of its stream. Bars
+of one stream may overlap, since a client may flush again before the service has finished. So each
+has a row, the first free one.
 """
 
 from bisect import bisect_right
 from collections.abc import Callable, Iterable
 
+from zorvleid.output import Event, Image, Output, OutputRefused, StreamEnd
+
 from .images import Picture
-from .output import Event, Image, Mark, Output, Refused, Stream
 from .plain import counted
 from .script import Script
 from .sources import NoScript
@@ -42,12 +44,14 @@ def standing_of(output: Output, script: Script | None = None) -> Standing:
     if script is None:
         return Standing([Stand(None, ring) for ring in rings(output)], names, output.marks)
     if script.names != names:
-        raise NoScript("refused: the script is of another run: its streams are not those of the output")
+        raise NoScript(
+            "refused: the script is of another run: its streams are not those of the output"
+        )
     return Standing([Stand(plan) for plan in script.plans], names)
 
 
 def images_after(output: Output, count: int) -> list[Image]:
-    """The images as they were after so many events."""
+    """The images after `count` events."""
     standing = standing_of(output)
     for event in output.events[:count]:
         standing.take(event)
@@ -56,9 +60,9 @@ def images_after(output: Output, count: int) -> list[Image]:
 
 
 class History:
-    """The bars, the waits, what each event did, and the bar of each event, or None where an event has none.
+    """The bars, the waits, what each event did, and the bar of each event or None.
 
-    `watch` is called after each event, with what it did and how things stand then.
+    `watch` is called after each event, with what it did and the state then.
     """
 
     def __init__(self, output: Output, script: Script | None = None,
@@ -87,19 +91,20 @@ class History:
         return self.standing.bars
 
     def match_marks(self) -> list[Wait]:
-        """The waits that ended, each with its mark, or Refused where the marks are not those of the journal."""
+        """The waits that ended, each with its mark; OutputRefused for other marks."""
         ended = self.standing.waits.ended
         for mark, wait in zip(self.output.marks, ended):
             if (mark.stream, mark.number, mark.target, mark.release, mark.how) != \
                     (wait.stream, wait.number, wait.target, wait.release, wait.how):
-                raise Refused(mark.line, "no event ends such a wait here")
+                raise OutputRefused(mark.line, "no event ends such a wait here")
             if mark.value != (BASE + 4 * mark.number + ENDINGS[mark.how]) % 2**32:
-                raise Refused(mark.line, "the mark is not that of the wait")
+                raise OutputRefused(mark.line, "the mark is not that of the wait")
             wait.mark, wait.lets = mark, self.lets(wait)
         if len(self.output.marks) > len(ended):
-            raise Refused(self.output.marks[len(ended)].line, "no event ends such a wait")
+            raise OutputRefused(self.output.marks[len(ended)].line, "no event ends such a wait")
         if len(ended) > len(self.output.marks):
-            raise Refused(self.output.events[ended[len(self.output.marks)].made].line, "a wait of this event ended without a mark")
+            raise OutputRefused(self.output.events[ended[len(self.output.marks)].made].line,
+                                "a wait of this event ended without a mark")
         return ended
 
     def lets(self, wait: Wait) -> int:
@@ -116,7 +121,7 @@ class History:
         return [wait for wait in self.deeds[place].waits if wait.made == place]
 
     def text(self, place: int) -> str:
-        """What an event did, in words."""
+        """The work of an event, in words."""
         event, deed = self.output.events[place], self.deeds[place]
         if event.kind != "order":
             return deed.text
@@ -126,16 +131,20 @@ class History:
             parts.append(f"up to PUT {bar.put}")
         waits = self.waits_made(place)
         parts += [f"waits for {wait}" for wait in waits if wait.how != "dropped"]
-        parts += [f"the fence on {wait} is dropped: {wait.why}" for wait in waits if wait.how == "dropped"]
+        parts += [
+            f"the fence on {wait} is dropped: {wait.why}" for wait in waits if wait.how == "dropped"
+        ]
         return "; ".join(parts).replace("; up to", ", up to", 1)
 
 
-def check_end(stream: Stream, stand: Stand) -> None:
+def check_end(stream: StreamEnd, stand: Stand) -> None:
     wanted = CODES[stream.end] if stream.end in CODES else stream.end.partition(" ")[2]
     if (stand.gone and (stand.gone.code or "close") or "") != wanted:
-        raise Refused(stream.line, "the journal tells another end of the stream")
+        raise OutputRefused(stream.line, "the journal tells another end of the stream")
     if stand.open:
-        raise Refused(stream.line, f"the number {stand.open[0].number} of the stream is not finished")
+        raise OutputRefused(
+            stream.line, f"the number {stand.open[0].number} of the stream is not finished"
+        )
 
 
 # --- What the journal does not give ---
@@ -149,11 +158,19 @@ def differences(history: History) -> Iterable[str]:
         if not is_same(printed.get(number), replayed.get(number)):
             yield f"image {number} of the output is not the one that its journal gives"
     for stream, stand in zip(history.output.streams, history.lanes):
-        counts = (stand.entries, stand.release, stand.last_token, stand.fetched, *stand.errors.values())
+        counts = (stand.entries, stand.release, stand.last_token, stand.fetched,
+                  *stand.errors.values())
         for name, told, found in zip(COUNTS, stream.counts, counts):
             if told != found:
-                yield f"line {stream.line} of the output has {name} {told}, and its journal gives {found}"
+                yield (
+                    f"line {stream.line} of the output has {name} {told}, and its journal gives "
+                    f"{found}"
+                )
 
 
 def is_same(image: Image | None, picture: Picture | None) -> bool:
-    return image is not None and picture is not None and image[1:] == (picture.width, picture.height, bytes(picture.texels))
+    return (
+        image is not None
+        and picture is not None
+        and image[1:] == (picture.width, picture.height, bytes(picture.texels))
+    )

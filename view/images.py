@@ -1,4 +1,4 @@
-"""Images as the commands of a journal change them: the table of image operations of docs/FORMATS.md, carried out."""
+"""Images as the commands of a journal change them, by the table of docs/FORMATS.md."""
 
 from dataclasses import dataclass, field
 from functools import lru_cache
@@ -22,7 +22,8 @@ class Picture:
     def rows(self, x: int, y: int, w: int, h: int) -> list[bytes]:
         """The rows of a rectangle inside the image."""
         first = 4 * (y * self.width + x)
-        return [bytes(self.texels[at:at + 4 * w]) for at in range(first, first + 4 * self.width * h, 4 * self.width)]
+        return [bytes(self.texels[at:at + 4 * w])
+                for at in range(first, first + 4 * self.width * h, 4 * self.width)]
 
     def put(self, x: int, y: int, w: int, rows: list[bytes]) -> None:
         at = 4 * (y * self.width + x)
@@ -35,9 +36,9 @@ class Picture:
 
 
 class Written(NamedTuple):
-    """A rectangle that an event wrote: its texels row after row, or one texel where it has no other.
+    """A rectangle that an event wrote: its texels row after row, or one texel for all.
 
-    A new image is a whole rectangle, and one that was taken away has none.
+    A new image is a whole rectangle. A deleted one has none.
     """
 
     image: int
@@ -88,7 +89,10 @@ def size_of(picture: Picture) -> str:
 
 @dataclass(eq=False)
 class Images:
-    """All images, by their numbers. Each operation answers what it wrote, or raises Failed and changes nothing."""
+    """All images, by their numbers.
+
+    Each operation answers what it wrote, or raises Failed and changes nothing.
+    """
 
     pictures: dict[int, Picture] = field(default_factory=dict)
 
@@ -100,7 +104,9 @@ class Images:
     def inside(self, image: int, x: int, y: int, w: int, h: int, role: str = "") -> Picture:
         picture = self.there(image, role)
         if not picture.has(x, y, w, h):
-            raise Failed(OUTSIDE, f"{rectangle(x, y, w, h)} is not inside image {image}{role or ','} which is {size_of(picture)}")
+            raise Failed(OUTSIDE,
+                         f"{rectangle(x, y, w, h)} is not inside image {image}{role or ','} which "
+                         f"is {size_of(picture)}")
         return picture
 
     def create(self, image: int, width: int, height: int) -> Written:
@@ -108,9 +114,13 @@ class Images:
             raise Failed(NO_IMAGE, f"image {image} is there already")
         if not (1 <= width <= SIDE_AT_MOST and 1 <= height <= SIDE_AT_MOST):
             raise Failed(OUTSIDE, f"a side of {width} by {height} is 0 or above {SIDE_AT_MOST:,}")
-        whole = width * height + sum(picture.width * picture.height for picture in self.pictures.values())
+        whole = width * height + sum(
+            picture.width * picture.height for picture in self.pictures.values()
+        )
         if whole > TEXELS_AT_MOST:
-            raise Failed(NO_ROOM, f"all images together would have {whole:,} texels, more than {TEXELS_AT_MOST:,}")
+            raise Failed(NO_ROOM,
+                         f"all images together would have {whole:,} texels, more than "
+                         f"{TEXELS_AT_MOST:,}")
         self.pictures[image] = Picture(width, height, bytearray(4 * width * height))
         return Written(image, 0, 0, width, height, bytes(4), "made")
 
@@ -120,7 +130,7 @@ class Images:
         return Written(image, 0, 0, 0, 0, b"", "gone")
 
     def write(self, image: int, x: int, y: int, w: int, h: int, texels: bytes) -> Written:
-        """Sets a rectangle, which the caller has found inside, from its texels or from the one texel of it all."""
+        """Sets a rectangle, which the caller has checked, from its texels or from one for all."""
         picture = self.pictures[image]
         if len(texels) == 4:
             rows = [texels * w] * h
@@ -130,7 +140,9 @@ class Images:
         picture.put(x, y, w, rows)
         return Written(image, x, y, w, h, texels)
 
-    def copy(self, source: int, source_x: int, source_y: int, target: int, x: int, y: int, w: int, h: int) -> Written:
+    def copy(
+        self, source: int, source_x: int, source_y: int, target: int, x: int, y: int, w: int, h: int
+    ) -> Written:
         taken = self.there(source, ", the source,")
         self.there(target, ", the target,")
         self.inside(source, source_x, source_y, w, h, ", the source,")

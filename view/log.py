@@ -9,13 +9,16 @@ from . import commands
 from .history import History
 from .waits import Wait
 
-MANY = 20_000  # events; a longer log tells on a terminal how far it is
+MANY = 20_000  # events; a longer log shows its progress on a terminal
 EVERY = 5_000
 
 
 @dataclass(frozen=True)
 class Choice:
-    """Which events are told. Of the marks it is enough to have one, and what is empty asks for nothing."""
+    """The choice of events.
+
+    One of the marks is enough. An empty field asks for nothing.
+    """
 
     streams: frozenset[int] = frozenset()
     orders: frozenset[int] = frozenset()
@@ -33,13 +36,13 @@ class Choice:
 
 
 def what(history: History, place: int) -> str:
-    """What an event is and what it did, in words."""
+    """The kind and the work of an event, in words."""
     event, deed = history.output.events[place], history.deeds[place]
     if event.kind == "step" and deed.command is not None:
         return f"{commands.sentence(deed.command)}; {history.text(place)}"
     if event.kind == "lost":
         is_known = deed.command is not None and deed.command.id in commands.TABLE
-        at = f" at {commands.sentence(deed.command)}" if deed.command is not None and is_known else ""
+        at = f" at {commands.sentence(deed.command)}" if deed.command and is_known else ""
         return f"lost by {deed.error}{at}; {history.text(place)}"
     return f"{event.kind}: {history.text(place)}"
 
@@ -48,12 +51,17 @@ def line(history: History, place: int) -> str:
     bar = history.bar_of[place]
     order = f"order {bar.number}" if bar else "no order"
     wide = len(str(len(history.output.events)))
-    return f"{place + 1:>{wide}}  stream {history.output.events[place].stream}  {order}  {what(history, place)}"
+    return (
+        f"{place + 1:>{wide}}  stream {history.output.events[place].stream}  {order}  "
+        f"{what(history, place)}"
+    )
 
 
 def told_wait(wait: Wait) -> dict[str, object]:
-    return {"stream": wait.stream, "order": wait.number, "target": wait.target, "release": wait.release, "by": wait.by,
-            "made": wait.made + 1, "how": wait.how, "why": wait.why, "ended": wait.ended + 1 if wait.ended >= 0 else None}
+    return {"stream": wait.stream, "order": wait.number, "target": wait.target,
+            "release": wait.release, "by": wait.by,
+            "made": wait.made + 1, "how": wait.how, "why": wait.why,
+            "ended": wait.ended + 1 if wait.ended >= 0 else None}
 
 
 def record(history: History, place: int) -> dict[str, object]:
@@ -62,11 +70,14 @@ def record(history: History, place: int) -> dict[str, object]:
     told: dict[str, object] = {"event": place + 1, "line": event.line, "stream": event.stream,
                                "order": bar.number if bar else None, "kind": event.kind}
     if deed.command is not None:
-        told |= {"command": deed.command.name, "size": deed.command.size, "arguments": deed.command.values}
+        told |= {"command": deed.command.name, "size": deed.command.size,
+                 "arguments": deed.command.values}
     if event.kind == "order":
         told["actions"] = event.actions
-    told |= {"text": event.text, "what": what(history, place), "result": deed.mark or "done", "error": deed.error or None,
-             "waits": [told_wait(wait) for wait in history.waits_made(place)], "ended": [told_wait(wait) for wait in deed.ended]}
+    told |= {"text": event.text, "what": what(history, place), "result": deed.mark or "done",
+             "error": deed.error or None,
+             "waits": [told_wait(wait) for wait in history.waits_made(place)],
+             "ended": [told_wait(wait) for wait in deed.ended]}
     return told
 
 

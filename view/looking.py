@@ -1,4 +1,4 @@
-"""The tools `log` and `compare` as they are called: their words, what they read, and what they write."""
+"""The tools `log` and `compare` as they are called: their words, their inputs, their outputs."""
 
 import argparse
 import difflib
@@ -20,7 +20,7 @@ def number(text: str) -> int:
 
 
 def command_name(text: str) -> str:
-    """The name of a command as the table has it, however it is spelled in capitals and small letters."""
+    """The name of a command as the table has it, from capitals or small letters."""
     if text.lower() not in NAMES:
         near = difflib.get_close_matches(text.lower(), NAMES, 1, 0)
         raise argparse.ArgumentTypeError(f"no command {text!r}; did you mean {NAMES[near[0]]!r}?")
@@ -28,23 +28,31 @@ def command_name(text: str) -> str:
 
 
 def add_script(tool: argparse.ArgumentParser) -> None:
-    tool.add_argument("--script", metavar="FILE", help="the script of the run, which tells PUT and all fences")
+    tool.add_argument(
+        "--script", metavar="FILE", help="the script of the run, which tells PUT and all fences"
+    )
 
 
 def add_tools(tools: Any) -> None:
     """Adds the words of both tools."""
-    tool = tools.add_parser("log", allow_abbrev=False, help="write the events of an output in words, one a line")
+    tool = tools.add_parser(
+        "log", allow_abbrev=False, help="write the events of an output in words, one a line"
+    )
     tool.add_argument("output", metavar="OUTPUT", nargs="?", default=sources.STANDARD_INPUT)
     tool.add_argument("--json", action="store_true", help="as JSON, an object a line")
-    tool.add_argument("--stream", metavar="S", type=number, action="append", default=[], help="those of stream S alone")
-    tool.add_argument("--order", metavar="N", type=number, action="append", default=[], help="those of order number N alone")
+    tool.add_argument("--stream", metavar="S", type=number, action="append", default=[],
+                      help="those of stream S alone")
+    tool.add_argument("--order", metavar="N", type=number, action="append", default=[],
+                      help="those of order number N alone")
     tool.add_argument("--command", metavar="NAME", type=command_name, action="append", default=[],
                       help="steps and losses of this command alone")
     for mark, what in (("failed", "image commands that changed nothing"), ("lost", "losses"),
                        ("waits", "what made, dropped or ended a wait")):
         tool.add_argument(f"--{mark}", action="store_true", help=f"{what} alone")
     add_script(tool)
-    tool = tools.add_parser("compare", allow_abbrev=False, help="say where two outputs of one script differ")
+    tool = tools.add_parser(
+        "compare", allow_abbrev=False, help="say where two outputs of one script differ"
+    )
     tool.add_argument("first", metavar="A")
     tool.add_argument("second", metavar="B")
     tool.add_argument("--page", metavar="FILE", help="both and the difference as one HTML file")
@@ -56,7 +64,9 @@ def run_log(asked: argparse.Namespace) -> int:
     progress = log.Progress(len(output.events))
     history = History(output, sources.read_script(asked.script), lambda *_: progress.step())
     marks = frozenset(mark for mark in ("failed", "lost", "waits") if getattr(asked, mark))
-    choice = log.Choice(frozenset(asked.stream), frozenset(asked.order), frozenset(asked.command), marks)
+    choice = log.Choice(
+        frozenset(asked.stream), frozenset(asked.order), frozenset(asked.command), marks
+    )
     progress.end()
     write_lines(log.lines(history, choice, asked.json))
     note(history)

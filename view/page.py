@@ -1,16 +1,17 @@
-"""A history as one HTML file that needs no network: its parts lie in `pages`, and what they show is put into it as data.
+"""A history as one HTML file that needs no network: the parts of `pages`, and data.
 
-All facts come from the replay of the journal. The page looks up what it shows: it replays nothing, and sets texels only where a
-difference says so.
+All facts come from the replay of the journal. The page looks up what it shows: it replays nothing,
+and sets texels only where a difference says so.
 """
 
 import base64
 import json
 from collections.abc import Iterable
 
+from zorvleid.output import Event, Output, StreamEnd
+
 from . import commands, files, log
 from .history import History
-from .output import Event, Output, Stream
 from .plain import counted
 from .script import Script
 from .standing import Stand, Standing
@@ -20,17 +21,19 @@ from .working import Deed
 
 TEXEL_BYTES_AT_MOST = 48 << 20  # as text in the page they are 64 MiB
 SCRIPTS = ("data.js", "chart.js", "images.js", "words.js", "moving.js")
-CHANGING = ("SetToken", "InsertFence", "SetBucketSize", "CreateBuffer", "DeleteBuffer")  # commands that change what is noted
+# commands that change a noted value
+CHANGING = ("SetToken", "InsertFence", "SetBucketSize", "CreateBuffer", "DeleteBuffer")
 NAMING = ("image", "source", "target")  # the arguments that name images
 
 
 class Recorder:
-    """What is kept while the journal is replayed: where get stands, what changes of a stream, and what is written of images."""
+    """The facts of a replay: the places of get, the changes of a stream, the writes to images."""
 
     def __init__(self, texel_bytes_at_most: int = TEXEL_BYTES_AT_MOST) -> None:
         self.gets: list[int] = []
         self.changes: dict[tuple[int, str], tuple[list[int], list[int]]] = {}
-        self.writes: list[list[int]] = []  # event, image, x, y, w, h, and where its texels are: their first byte and how many
+        # event, image, x, y, w, h, and where its texels are: their first byte and how many
+        self.writes: list[list[int]] = []
         self.texels = bytearray()
         self.at_most = texel_bytes_at_most
         self.left_out: list[int] = []  # the events whose texels there is no room for
@@ -49,7 +52,8 @@ class Recorder:
                 at, data = -1, b""
             self.texels += data
             kind = ("wrote", "made", "gone").index(written.kind)
-            self.writes.append([place, written.image, written.x, written.y, written.w, written.h, at, len(data), kind])
+            self.writes.append([place, written.image, written.x, written.y, written.w, written.h,
+                                at, len(data), kind])
 
     def note(self, stream: int, stand: Stand, place: int) -> None:
         self.change(stream, "release", stand.release, place)
@@ -63,14 +67,14 @@ class Recorder:
                     self.change(stream, key, -1, place)
 
     def change(self, stream: int, key: str, value: int, place: int) -> None:
-        """Keeps a value where it is another than before; each is 0 or not there at the beginning."""
+        """Keeps a changed value; each is 0 or missing at the beginning."""
         places, values = self.changes.setdefault((stream, key), ([], []))
         if (values[-1] if values else 0 if key == "release" else None) != value:
             places.append(place)
             values.append(value)
 
 
-def end_of(stream: Stream) -> str:
+def end_of(stream: StreamEnd) -> str:
     """How a stream ended, with the name of its error."""
     code = stream.end.removeprefix("lost ")
     return f"{stream.end} ({commands.ERRORS[code]})" if code in commands.ERRORS else stream.end
@@ -83,7 +87,8 @@ def marked(history: History, mark: str) -> list[int]:
 def summary(history: History) -> str:
     closed = sum(lane.gone is not None and lane.gone.kind == "close" for lane in history.lanes)
     parts = [counted(len(history.lanes), "stream"), counted(len(history.bars), "order number"),
-             counted(len(history.output.events), "event"), counted(len(history.waits), "wait") + " that ended"]
+             counted(len(history.output.events), "event"),
+             counted(len(history.waits), "wait") + " that ended"]
     parts += [counted(closed, "stream") + " closed"] if closed else []
     return ", ".join(parts)
 
@@ -100,7 +105,8 @@ def named_images(history: History) -> dict[int, list[int]]:
 
 def wait_of(wait: Wait) -> list[object]:
     text = wait.mark.text if wait.mark else wait.why
-    return [wait.stream - 1, wait.number, wait.target, str(wait.release), wait.by, wait.made, wait.ended, wait.how, wait.lets, text]
+    return [wait.stream - 1, wait.number, wait.target, str(wait.release), wait.by, wait.made,
+            wait.ended, wait.how, wait.lets, text]
 
 
 def table(values: Iterable[str]) -> tuple[list[str], list[int]]:
@@ -111,29 +117,33 @@ def table(values: Iterable[str]) -> tuple[list[str], list[int]]:
 
 
 def data(history: History, recorder: Recorder) -> dict[str, object]:
-    """What the page shows. Places in the journal count from 0 here."""
+    """The data of the page. Places in the journal count from 0 here."""
     output = history.output
     names, name_of = table(deed.command.name if deed.command else event.kind
                            for event, deed in zip(output.events, history.deeds))
     hows, how_of = table(ending_of(bar) for bar in history.bars)
     return {
-        "streams": [{"name": name_of_stream(output, stream.number), "end": end_of(stream), "rows": lane.rows}
+        "streams": [{"name": name_of_stream(output, stream.number), "end": end_of(stream),
+                     "rows": lane.rows}
                     for stream, lane in zip(output.streams, history.lanes)],
         "line": output.events[0].line if output.events else 0,
         "texts": [event.text for event in output.events],
         "notes": [log.what(history, place) for place in range(len(output.events))],
-        "names": names, "nameOf": name_of, "streamOf": [event.stream - 1 for event in output.events],
+        "names": names, "nameOf": name_of,
+        "streamOf": [event.stream - 1 for event in output.events],
         "kinds": "".join(event.kind[0] for event in output.events),
         "barOf": [bar.number - 1 if bar else -1 for bar in history.bar_of],
         "hows": hows,
-        "bars": [[bar.stream - 1, bar.begin, -1 if bar.first is None else bar.first, bar.end, how, bar.row,
-                  -1 if bar.put is None else bar.put, bar.pauses] for bar, how in zip(history.bars, how_of)],
+        "bars": [[bar.stream - 1, bar.begin, -1 if bar.first is None else bar.first, bar.end, how,
+                  bar.row, -1 if bar.put is None else bar.put, bar.pauses]
+                 for bar, how in zip(history.bars, how_of)],
         "waits": [wait_of(wait) for wait in history.standing.waits.all],
         "marks": {mark: marked(history, mark) for mark in ("failed", "dropped", "lost")},
         "gets": recorder.gets,
         "changes": [[stream - 1, key, *kept] for (stream, key), kept in recorder.changes.items()],
         "writes": recorder.writes, "named": named_images(history),
-        "leftOut": recorder.left_out[:1] + recorder.left_out[-1:] + [len(recorder.left_out)] if recorder.left_out else [],
+        "leftOut": (recorder.left_out[:1] + recorder.left_out[-1:] + [len(recorder.left_out)]
+                    if recorder.left_out else []),
         "remarks": history.notes,
     }
 
@@ -153,7 +163,9 @@ def filled(page: str, parts: dict[str, str]) -> str:
     return "".join(told)
 
 
-def text(output: Output, script: Script | None = None, texel_bytes_at_most: int = TEXEL_BYTES_AT_MOST) -> str:
+def text(
+    output: Output, script: Script | None = None, texel_bytes_at_most: int = TEXEL_BYTES_AT_MOST
+) -> str:
     recorder = Recorder(texel_bytes_at_most)
     return text_of(History(output, script, recorder), recorder)
 

@@ -1,13 +1,14 @@
-"""The images of an output as PNG files, with exactly the texels that are printed, and a sheet that shows them all."""
+"""The images of an output as PNG files of exactly the printed texels, and a sheet of all."""
 
 from collections.abc import Iterable, Sequence
 from html import escape
 from pathlib import Path
 
+from zorvleid.output import Image, Output, OutputRefused
+
 from . import files
 from .history import History, images_after
 from .log import what
-from .output import Image, Output, Refused
 from .page import NAMING
 from .plain import counted
 from .png import png
@@ -41,16 +42,20 @@ def size_of(image: Image) -> str:
 
 
 def figure(image: Image, failed: int) -> str:
-    """One image on the sheet, which shows its texels large enough to be seen, and how many commands on it failed."""
+    """One image on the sheet, large enough for its texels to be seen, and its failed commands."""
     grown = max(1, 160 // max(image.width, image.height))
-    mark = f'<br><span class="failed">{counted(failed, "command")} on it failed</span>' if failed else ""
-    return (f'<figure><div class="ground"><img src="{name_of(image)}" width="{image.width * grown}" '
-            f'height="{image.height * grown}" alt="image {image.number}, {size_of(image)} texels"></div>'
-            f"<figcaption><b>image {image.number}</b><br>{size_of(image)}{mark}</figcaption></figure>")
+    mark = ""
+    if failed:
+        mark = f'<br><span class="failed">{counted(failed, "command")} on it failed</span>'
+    return (
+        f'<figure><div class="ground"><img src="{name_of(image)}" width="{image.width * grown}" '
+        f'height="{image.height * grown}" '
+        f'alt="image {image.number}, {size_of(image)} texels"></div>'
+        f"<figcaption><b>image {image.number}</b><br>{size_of(image)}{mark}</figcaption></figure>")
 
 
 class Marks:
-    """The commands of an output that failed, the waits that were dropped, and the losses, up to an event."""
+    """The failed commands, the dropped waits and the losses of an output up to an event."""
 
     def __init__(self, output: Output, count: int) -> None:
         self.why_none = ""
@@ -61,7 +66,7 @@ class Marks:
             return
         try:
             history = History(output)
-        except Refused as refused:
+        except OutputRefused as refused:
             self.why_none = f"What its commands did is not told: {refused}."
             return
         for place, deed in enumerate(history.deeds[:count]):
@@ -74,41 +79,57 @@ class Marks:
                 self.on[image] = self.on.get(image, 0) + 1
 
     def sentence(self) -> str:
-        names = {"failed": ("command failed", "commands failed"), "dropped": ("wait was dropped", "waits were dropped"),
+        names = {"failed": ("command failed", "commands failed"),
+                 "dropped": ("wait was dropped", "waits were dropped"),
                  "lost": ("stream was lost", "streams were lost")}
-        return ", ".join(counted(self.count[mark], *names[mark]) for mark in names if self.count[mark])
+        return ", ".join(
+            counted(self.count[mark], *names[mark]) for mark in names if self.count[mark]
+        )
 
     def items(self) -> str:
         if not self.lines:
             return ""
         rest = len(self.lines) - MARKS_TOLD
-        items = [escape(line) for line in self.lines[:MARKS_TOLD]] + ([f"and {rest:,} more"] if rest > 0 else [])
-        return "<h2>Failed commands and losses</h2><ul>" + "".join(f"<li>{item}</li>" for item in items) + "</ul>"
+        items = [escape(line) for line in self.lines[:MARKS_TOLD]] + (
+            [f"and {rest:,} more"] if rest > 0 else []
+        )
+        return (
+            "<h2>Failed commands and losses</h2><ul>"
+            + "".join(f"<li>{item}</li>" for item in items)
+            + "</ul>"
+        )
 
 
 def sheet(images: Sequence[Image], scale: int, marks: Marks, of: str = "The output has") -> str:
     count = "no image" if not images else counted(len(images), "image")
-    repeated = f"; the files repeat each texel {scale} times in both directions" if images and scale > 1 else ""
-    told = f" {marks.sentence()}." if marks.sentence() else f" {marks.why_none}" if marks.why_none else ""
+    repeated = told = ""
+    if images and scale > 1:
+        repeated = f"; the files repeat each texel {scale} times in both directions"
+    if sentence := marks.sentence():
+        told = f" {sentence}."
+    elif marks.why_none:
+        told = f" {marks.why_none}"
     page = files.part_of_page("sheet.html")
     page = page.replace("{{summary}}", escape(f"{of} {count}{repeated}.{told}"))
-    page = page.replace("{{figures}}", "\n".join(figure(image, marks.on.get(image.number, 0)) for image in images))
+    page = page.replace(
+        "{{figures}}", "\n".join(figure(image, marks.on.get(image.number, 0)) for image in images)
+    )
     return page.replace("{{marks}}", marks.items())
 
 
 def images_of(output: Output, at: int | None) -> tuple[Iterable[Image], int, str]:
-    """The images to draw, the number of events behind them, and how the sheet begins to tell of them."""
+    """The images to draw, the number of events before them, and the first words of the sheet."""
     if at is None:
         return output.images, len(output.events), "The output has"
     if output.is_verdict:
-        raise Refused(1, "the output of verify has no journal")
+        raise OutputRefused(1, "the output of verify has no journal")
     if at > len(output.events):
         raise NoEvent(f"--at {at}: the output has {counted(len(output.events), 'event')}")
     return images_after(output, at), at, f"After event {at:,} of {len(output.events):,} the run has"
 
 
 def write(output: Output, folder: Path, scale: int = 1, at: int | None = None) -> None:
-    """Writes the pictures of an output and the sheet into a folder: those at its end, or those after an event."""
+    """Writes the pictures of an output and the sheet to a folder, at its end or after an event."""
     found, count, of = images_of(output, at)
     images = list(found)
     made = [(Path(folder) / name_of(image), picture(image, scale)) for image in images]

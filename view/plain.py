@@ -4,7 +4,7 @@ from collections.abc import Iterable
 
 
 def counted(number: int, one: str, more: str | None = None) -> str:
-    """So many of a thing."""
+    """A number of things."""
     return f"1 {one}" if number == 1 else f"{number:,} {more or one + 's'}"
 
 

@@ -6,13 +6,14 @@ DOCUMENT = Path(__file__).resolve().parent.parent / "docs" / "FORMATS.md"
 HEAD = "| Rule | Of which events | What it says |"
 
 
-def table():
-    """Each rule's events and its sentence, by its number; an empty table where the document is missing."""
+def table() -> dict[int, tuple[str, str]]:
+    """Each rule's events and its sentence, by its number; empty where the document is missing."""
     try:
         lines = iter(DOCUMENT.read_text(encoding="utf-8").splitlines())
     except OSError:
         return {}
-    rules, events, before = {}, "", ""
+    rules: dict[int, tuple[str, str]] = {}
+    events, before = "", ""
     for line in lines:
         if line == HEAD:
             break

@@ -1,23 +1,34 @@
-"""What a lawful script says: the streams and their actions. Scripts that may be unlawful are not read here."""
+"""A lawful script: the streams and their actions.
+
+Scripts that may be unlawful are not read here.
+"""
 
 import re
 from collections.abc import Iterable
+from dataclasses import dataclass, field
 
 BLANKS = re.compile(r"[ \t\r]+")
 Target = int | tuple[int, int]  # a stream by its number, or by its name
 
 
+@dataclass(eq=False)
 class Plan:
-    """What one stream of a script does. Places are those of its ring and of its transfer memories behind it."""
+    """The actions of one stream of a script.
 
-    def __init__(self, name: tuple[int, int], ring: int) -> None:
-        self.name, self.ring = name, ring
-        self.memories: dict[int, tuple[int, int]] = {}  # by number: the first place and the number of words
-        self.results: dict[int, tuple[int, int]] = {}  # the same of result memories, whose places count on their own
-        self.words = 0  # of all transfer memories
-        self.actions: list[tuple[str, int, int]] = []  # (kind, argument, argument)
-        self.flushes: list[int] = []  # how many actions stand before each flush
-        self.fences: dict[int, list[tuple[Target, int]]] = {}  # of a flush that has some, by its action
+    Places are those of its ring and of the transfer memories after it.
+    """
+
+    name: tuple[int, int]
+    ring: int
+    # by number: the first place and the number of words
+    memories: dict[int, tuple[int, int]] = field(default_factory=dict)
+    # the same of result memories, with places of their own
+    results: dict[int, tuple[int, int]] = field(default_factory=dict)
+    words: int = 0  # of all transfer memories
+    actions: list[tuple[str, int, int]] = field(default_factory=list)  # (kind, argument, argument)
+    flushes: list[int] = field(default_factory=list)  # how many actions stand before each flush
+    # of a flush that has some, by its action
+    fences: dict[int, list[tuple[Target, int]]] = field(default_factory=dict)
 
     def closes(self) -> bool:
         return bool(self.actions) and self.actions[-1][0] == "close"
@@ -29,8 +40,10 @@ class Plan:
     def fences_of(self, action: int) -> list[tuple[Target, int]]:
         return self.fences.get(action, [])
 
-    def values_between(self, places: Iterable[int], begin: int, end: int) -> dict[int, dict[int, None]]:
-        """The values that each of these places may have from one number of actions done up to another, without doubles."""
+    def values_between(
+        self, places: Iterable[int], begin: int, end: int
+    ) -> dict[int, dict[int, None]]:
+        """The values of each place between two numbers of done actions, each once."""
         values: dict[int, dict[int, None]] = {place: {0: None} for place in places}
         for done, (kind, place, value) in enumerate(self.actions[:end]):
             if kind != "put" or place not in values:
@@ -40,11 +53,14 @@ class Plan:
             values[place][value] = None
         return values
 
-    def reach(self, finished: int, token: int | None) -> int:
-        """How many actions the client can have done, where so many flushes are finished, with the greatest token set."""
+    def reach(self, finished: int, token: int) -> int:
+        """The most actions of the client after `finished` flushes, with this greatest token.
+
+        Before a stream sets one its token is 0, so `token 0` waits for nothing.
+        """
         before = 0
         for at, (kind, argument, _) in enumerate(self.actions):
-            content = before <= finished or (kind == "token" and token is not None and token >= argument)
+            content = before <= finished or (kind == "token" and token >= argument)
             if kind == "close" or (kind in ("finish", "token") and not content):
                 return at
             before += kind == "flush"
@@ -88,7 +104,9 @@ class Script:
 
     def act(self, plan: Plan, first: str, rest: list[str]) -> None:
         if first in ("put", "fill"):
-            start = int(rest[0]) if first == "put" else plan.memories[int(rest[0])][0] + int(rest[1])
+            start = (
+                int(rest[0]) if first == "put" else plan.memories[int(rest[0])][0] + int(rest[1])
+            )
             values = rest[1:] if first == "put" else rest[2:]
             plan.actions += [("put", start + at, int(value, 16)) for at, value in enumerate(values)]
         elif first == "flush":
@@ -97,10 +115,12 @@ class Script:
             plan.flushes.append(len(plan.actions))
             plan.actions.append(("flush", int(rest[0]), 0))
         else:
-            plan.actions.append(("finish" if first == "dump" else first, int(rest[0]) if first == "token" else 0, 0))
+            plan.actions.append(
+                ("finish" if first == "dump" else first, int(rest[0]) if first == "token" else 0, 0)
+            )
 
     def fences(self, words: list[str]) -> list[tuple[Target, int]]:
-        """Pairs of a stream and a release; a stream of version 2 is told by its name."""
+        """Pairs of a stream and a release; a stream of version 2 has its name."""
         numbers = list(map(int, words))
         if self.version == 1:
             return list(zip(numbers[::2], numbers[1::2]))

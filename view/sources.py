@@ -1,10 +1,11 @@
-"""What the tools read: outputs and scripts, from standard input or from files that are named."""
+"""The inputs of the tools: outputs and scripts, from standard input or from named files."""
 
 import os
 import sys
 from pathlib import Path
 
-from .output import NO_LINE_FEED, Lines, Output, Refused, read_output
+from zorvleid.output import NO_LINE_FEED, Lines, Output, OutputRefused, read_output
+
 from .script import Script
 
 STANDARD_INPUT = "-"
@@ -34,7 +35,7 @@ def read_journal(name: str) -> Output:
     """An output of `run`, which has a journal."""
     output = read_output(read(name))
     if output.is_verdict:
-        raise Refused(1, "the output of verify has no journal")
+        raise OutputRefused(1, "the output of verify has no journal")
     return output
 
 
@@ -46,4 +47,6 @@ def read_script(name: str | None) -> Script | None:
     try:
         return Script(lines)
     except (ValueError, IndexError, KeyError):
-        raise NoScript(f"refused: {name}: it is no lawful script; './zorvleid check' says why") from None
+        raise NoScript(
+            f"refused: {name}: it is no lawful script; './zorvleid check' says why"
+        ) from None

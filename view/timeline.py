@@ -1,20 +1,25 @@
 """The timeline of an output, as a trace and as a page."""
 
+from pathlib import Path
+
+from zorvleid.output import Output, OutputRefused
+
 from . import files, page, trace
 from .history import History
-from .output import Output, Refused
 from .script import Script
 
 
-def write(output: Output, trace_path: str | None, page_path: str | None, script: Script | None = None) -> None:
+def write(
+    output: Output, trace_path: str | None, page_path: str | None, script: Script | None = None
+) -> None:
     """Writes the files that are asked for."""
     if output.is_verdict:
-        raise Refused(1, "the output of verify has no journal")
+        raise OutputRefused(1, "the output of verify has no journal")
     recorder = page.Recorder()
     history = History(output, script, recorder if page_path is not None else None)
-    made: list[tuple[str, bytes]] = []
+    made: list[tuple[str | Path, files.Data]] = []
     if trace_path is not None:
-        made.append((trace_path, trace.text(history).encode()))
+        made.append((trace_path, trace.parts(history)))
     if page_path is not None:
         made.append((page_path, page.text_of(history, recorder).encode()))
     files.write_all(made)

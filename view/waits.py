@@ -5,13 +5,18 @@ from heapq import heappop, heappush
 from typing import TYPE_CHECKING
 
 if TYPE_CHECKING:
-    from .output import Mark, Name
+    from zorvleid.output import Mark
+    from zorvleid.script import Name
+
     from .standing import Standing
 
 
 @dataclass(eq=False)
 class Wait:
-    """The wait of a number for a stream to come to a release. Places of the journal count from 0."""
+    """The wait of a number for a stream to come to a release.
+
+    Places of the journal count from 0.
+    """
 
     stream: int
     number: int
@@ -20,28 +25,30 @@ class Wait:
     by: str  # `fence`, or the name of the command
     made: int  # the event that made it
     position: int  # among the waits of its number
-    how: str = "pending"  # or `release`, `guard`, `closed`, `gone` with its own stream, or `dropped`
+    # or `release`, `guard`, `closed`, `gone` with its own stream, or `dropped`
+    how: str = "pending"
     why: str = ""  # of a wait that was dropped
     ended: int = -1  # the event that ended it, or with which it was gone
     lets: int = -1  # the event of the waiter that could come then
     mark: "Mark | None" = None
-    name: "Name | None" = None  # of the stream, where that is how it was told
+    name: "Name | None" = None  # of the stream, where the wait has one
 
     def __str__(self) -> str:
-        stream = f"({self.name[0]}, {self.name[1]})" if self.name and not self.target else str(self.target)
+        stream = f"({self.name[0]}, {self.name[1]})" if self.name and not self.target else str(
+            self.target)
         return f"stream {stream} to come to release {self.release}"
 
 
 @dataclass
 class Queue:
-    """The pending waits on one stream, the next to end first: by their release, and by their number."""
+    """The pending waits on one stream, the next to end first: by release, then by number."""
 
     by_release: list[tuple[int, int, int, Wait]] = field(default_factory=list)
     by_number: list[tuple[int, int, Wait]] = field(default_factory=list)
 
 
 class Waits:
-    """All waits of a journal, in the order in which they were made, and those that ended, as the output has their marks."""
+    """All waits of a journal in their order, and those that ended in the order of their marks."""
 
     def __init__(self, standing: "Standing") -> None:
         self.standing = standing
@@ -51,7 +58,15 @@ class Waits:
         self.of: dict[int, dict[int, list[Wait]]] = {}  # the pending ones, by stream and number
         self.made: dict[int, int] = {}  # how many waits a number has made
 
-    def make(self, stream: int, number: int, target: int, release: int, by: str, name: "Name | None" = None) -> Wait:
+    def make(
+        self,
+        stream: int,
+        number: int,
+        target: int,
+        release: int,
+        by: str,
+        name: "Name | None" = None,
+    ) -> Wait:
         """A new wait, which is kept or dropped."""
         position = self.made[number] = self.made.get(number, -1) + 1
         wait = Wait(stream, number, target, release, by, self.standing.count, position, name=name)
@@ -74,19 +89,25 @@ class Waits:
     def guessed(self, wait: Wait) -> Wait | None:
         """The fence that was taken from the mark of this wait, where the script is not known.
 
-        A number works only while none of its waits is pending. So a pending fence is no fence, but the mark of what a
-        command of the number makes now.
+        A number works only while none of its waits is pending. So a pending fence is no fence, but
+        the mark of what a command of the number makes now.
         """
         if wait.by == "fence":
             return None
         pending = self.pending(wait.stream, wait.number)
-        return next((one for one in pending if (one.target, one.release) == (wait.target, wait.release)), None)
+        return next(
+            (one for one in pending if (one.target, one.release) == (wait.target, wait.release)),
+            None,
+        )
 
     def why_dropped(self, wait: Wait) -> str:
         """Why a wait is dropped at once, or nothing."""
         target = self.standing.stream(wait.target)
         if target is None:
-            return f"no stream is called ({wait.name[0]}, {wait.name[1]})" if wait.name else f"there is no stream {wait.target}"
+            return (
+                f"no stream is called ({wait.name[0]}, "
+                f"{wait.name[1]})" if wait.name else f"there is no stream {wait.target}"
+            )
         if wait.target == wait.stream:
             return "a stream does not wait for itself"
         if target.gone is not None:
@@ -98,7 +119,7 @@ class Waits:
         return ""
 
     def settle(self, stream: int) -> tuple[Wait, ...]:
-        """Ends the waits on a stream that have come to their end by now, in the order of their marks."""
+        """Ends the waits on a stream whose end has come, in the order of their marks."""
         queue, target = self.on.get(stream), self.standing.stream(stream)
         if queue is None or target is None:
             return ()

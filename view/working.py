@@ -1,11 +1,12 @@
-"""What the commands of a journal do, carried out and said in words."""
+"""The work of the commands of a journal, done and described in words."""
 
 from collections.abc import Iterable, Sequence
 from typing import TYPE_CHECKING, NamedTuple
 
+from zorvleid.output import Event
+
 from . import commands, faults
 from .images import Failed, Written, texels_of
-from .output import Event, words_of
 from .plain import counted, joined
 from .table import NOOP, TABLE
 
@@ -15,7 +16,7 @@ if TYPE_CHECKING:
 
 
 class Deed(NamedTuple):
-    """What one event did."""
+    """The work of one event."""
 
     text: str = ""
     mark: str = ""  # `failed`, `dropped` or `lost`, where it is one of these
@@ -33,30 +34,38 @@ def steps(count: int) -> str:
 
 
 def endings(ended: "Iterable[Wait]") -> str:
-    """The waits that an event ended, behind what else it did."""
-    return "".join(f"; ends the wait of number {wait.number} of stream {wait.stream} {HOW[wait.how]}" for wait in ended)
+    """The waits that an event ended, after its other work."""
+    return "".join(
+        f"; ends the wait of number {wait.number} of stream {wait.stream} {HOW[wait.how]}"
+        for wait in ended)
 
 
 def gone_waits(gone: "Sequence[Wait]") -> str:
-    return f"; {counted(len(gone), 'wait')} of the stream {'is' if len(gone) == 1 else 'are'} gone" if gone else ""
+    return (
+        f"; {counted(len(gone), 'wait')} of the stream {'is' if len(gone) == 1 else 'are'} "
+        "gone" if gone else ""
+    )
 
 
 def dropped_numbers(left: list[int]) -> str:
     if not left:
         return ""
-    return f"; number {left[0]} ends here" if len(left) == 1 else f"; numbers {joined(left)} end here"
+    return (
+        f"; number {left[0]} ends here" if len(left) == 1 else f"; numbers {joined(left)} end here"
+    )
 
 
 def execute(standing: "Standing", event: Event, stand: "Stand") -> Deed:
     """Does what a step does. Words that are no whole command do nothing."""
-    words = words_of(event.words)
-    command = commands.decode(words)
+    words, command = commands.read(event.words)
     stand.at = words[0][0] + command.size
     stand.entries += command.size
     stand.fetched += len(words)
     size = commands.entries_wanted(command.id, command.size)
     if command.id not in TABLE or command.size < TABLE[command.id][1] or len(words) < size:
-        return Deed("these words are no whole command, and nothing is done", "failed", "no command", command)
+        return Deed(
+            "these words are no whole command, and nothing is done", "failed", "no command", command
+        )
     fault = faults.fault_of_arguments(command) or faults.fault_of_store(command, stand)
     if fault is not None:
         why = f"these words fail check {fault.check}, and nothing is done: {fault.why}"
@@ -87,8 +96,9 @@ def set_token(command: commands.Command, stand: "Stand") -> str:
 def release(standing: "Standing", event: Event, command: commands.Command, stand: "Stand") -> Deed:
     before, stand.release = stand.release, max(stand.release, command.values["release"])
     ended = standing.waits.settle(event.stream)
-    done = f"the release count rises from {before} to {stand.release}" if before < stand.release else \
-        f"the release count stays {before}"
+    done = f"the release count stays {before}"
+    if before < stand.release:
+        done = f"the release count rises from {before} to {stand.release}"
     return Deed(done + endings(ended), command=command, ended=ended)
 
 
@@ -96,16 +106,20 @@ def wait(standing: "Standing", event: Event, command: commands.Command, stand: "
     told = command.values
     name = (told["namespace"], told["id"]) if "id" in told else None
     target = standing.number_of(name or told["stream"])
-    made = standing.waits.make(event.stream, stand.open[0].number, target, told["release"], command.name, name)
+    made = standing.waits.make(
+        event.stream, stand.open[0].number, target, told["release"], command.name, name
+    )
     if made.how == "dropped":
         return Deed(f"dropped: {made.why}", "dropped", "", command, (made,))
     waited = standing.stream(target)
-    return Deed(f"waits for {made}, which has come to {waited.release if waited else 0}", "", "", command, (made,))
+    return Deed(f"waits for {made}, which has come to {waited.release if waited else 0}", "", "",
+                command, (made,))
 
 
 # --- Images ---
 
-IMAGE_COMMANDS = ("CreateImage", "DeleteImage", "ClearRect", "CopyRect", "UploadRect", "UploadBucket", "UploadBuffer")
+IMAGE_COMMANDS = ("CreateImage", "DeleteImage", "ClearRect", "CopyRect", "UploadRect",
+                  "UploadBucket", "UploadBuffer")
 
 
 def draw(standing: "Standing", command: commands.Command, stand: "Stand", data: bytes) -> Deed:
@@ -118,19 +132,25 @@ def draw(standing: "Standing", command: commands.Command, stand: "Stand", data: 
     return Deed(drawn(command, written), command=command)
 
 
-def written_by(standing: "Standing", command: commands.Command, stand: "Stand", data: bytes) -> Written:
+def written_by(
+    standing: "Standing", command: commands.Command, stand: "Stand", data: bytes
+) -> Written:
     told, images = command.values, standing.images
     if command.name == "CreateImage":
         return images.create(told["image"], told["width"], told["height"])
     if command.name == "DeleteImage":
         return images.delete(told["image"])
     if command.name == "CopyRect":
-        return images.copy(*(told[field] for field in ("source", "x", "y", "target", "x2", "y2", "w", "h")))
+        return images.copy(
+            *(told[field] for field in ("source", "x", "y", "target", "x2", "y2", "w", "h"))
+        )
     image, x, y, w, h = (told[field] for field in ("image", "x", "y", "w", "h"))
     images.inside(image, x, y, w, h)
     if command.name == "ClearRect":
         return images.write(image, x, y, w, h, told["texel"].to_bytes(4, "big"))
-    return images.write(image, x, y, w, h, texels_of(told["format"], uploaded(command, stand, data)))
+    return images.write(
+        image, x, y, w, h, texels_of(told["format"], uploaded(command, stand, data))
+    )
 
 
 def uploaded(command: commands.Command, stand: "Stand", data: bytes) -> bytes:
@@ -179,7 +199,8 @@ def keep(command: commands.Command, stand: "Stand", given: list[int], data: byte
             stand.buckets[bucket] = bytearray(size)
             return f"bucket {bucket} has {counted(size, 'byte')} of 0"
         case "SetBucketData":
-            store(stand.buckets[told["bucket"]], told["offset"], data[told["memory_offset"] % 4:][:told["size"]])
+            store(stand.buckets[told["bucket"]], told["offset"],
+                  data[told["memory_offset"] % 4:][:told["size"]])
             return f"writes {counted(told['size'], 'byte')} into bucket {told['bucket']}"
         case "SetBucketDataImmediate":
             immediate = b"".join(value.to_bytes(4, "little") for value in given)
@@ -192,7 +213,8 @@ def keep(command: commands.Command, stand: "Stand", given: list[int], data: byte
             del stand.buffers[told["buffer"]]
             return f"buffer {told['buffer']} is gone"
         case "BufferData":
-            store(stand.buffers[told["buffer"]], told["offset"], data[told["memory_offset"] % 4:][:told["size"]])
+            store(stand.buffers[told["buffer"]], told["offset"],
+                  data[told["memory_offset"] % 4:][:told["size"]])
             return f"writes {counted(told['size'], 'byte')} into buffer {told['buffer']}"
         case _:
             return read_back(command, stand)
@@ -202,9 +224,18 @@ def read_back(command: commands.Command, stand: "Stand") -> str:
     """GetBucketStart and GetBucketData, which write result memories."""
     told = command.values
     if command.name == "GetBucketData":
-        return f"writes {counted(told['size'], 'byte')} of bucket {told['bucket']} to result memory {told['memory']}"
+        return (
+            f"writes {counted(told['size'], 'byte')} of bucket {told['bucket']} to result memory "
+            f"{told['memory']}"
+        )
     size = len(stand.buckets[told["bucket"]])
     data = ""
     if told["data_size"]:
-        data = f" and {counted(min(size, told['data_size']), 'byte')} to result memory {told['data_memory']}"
-    return f"writes the size of bucket {told['bucket']}, {size}, to result memory {told['result_memory']}{data}"
+        data = (
+            f" and {counted(min(size, told['data_size']), 'byte')} to result memory "
+            f"{told['data_memory']}"
+        )
+    return (
+        f"writes the size of bucket {told['bucket']}, {size}, to result memory "
+        f"{told['result_memory']}{data}"
+    )

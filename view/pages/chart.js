@@ -1,6 +1,7 @@
-// The chart: lanes of bars, events and arrows, drawn on one canvas. What is less than a pixel wide is drawn once a pixel.
+// The chart: lanes of bars, events and arrows, drawn on one canvas. Things narrower than a pixel are
+// drawn once a pixel.
 
-const AXIS = 20, LANE_HEAD = 28, LANE_GAP = 10, LANE_FOLDED = 10, ROW = 40, LEAST_ROW = 7, LANE_ROWS = 168, ROWS_DRAWN = 24;
+const AXIS = 20, LANE_HEAD = 28, LANE_GAP = 10, LANE_FOLDED = 10, ROW = 40, LEAST_ROW = 7, LANE_ROWS = 168;
 const LEAST_COUNT = 4, FIRST_COLUMN = 14, MARK_COLUMN = 5, ARROWS_DRAWN = 300, HIT = 14;
 const view = { from: 0, count: total, chosen: 0, column: 1, width: 0, height: 0 };
 
@@ -16,7 +17,7 @@ function readColours() {
     "closed", "lost", "failed", "dropped", "focus", "match"]) colours[name] = style.getPropertyValue(`--${name}`).trim();
 }
 
-// ---- What lies where
+// ---- Places
 
 function layOut() {
   let top = AXIS;
@@ -52,40 +53,48 @@ function barsBetween(lane, from, to) {
 
 // ---- Drawing
 
-// Fills spans of rows, each row from the left to the right. What is dense is filled by whole pixels, and in one piece.
-class Spans {
-  constructor(pen, rows, fill) {
-    Object.assign(this, { pen, fill, from: new Float64Array(rows).fill(-9), to: new Float64Array(rows).fill(-9) });
-  }
+// Places to pixels and back: in the part that is drawn, and in the strip of the whole run.
+const chartScale = { at: x, back: placeAt };
+const stripScale = { at: place => (place + 0.5) / total * view.width, back: position => position / view.width * total - 0.5 };
 
-  add(row, from, to) {
-    if (to - from < 3) [from, to] = [Math.floor(from), Math.max(Math.floor(from) + 1, Math.ceil(to))];
-    if (from <= this.to[row]) {
-      this.to[row] = Math.max(this.to[row], to);
-      return;
+// The spans, marks and arrows of the latest picture of the chart. The width bounds their number,
+// however long the run is.
+const drawn = { count: 0 };
+
+// Fills rising spans, each pixel once: a span that ends within the filled part is passed over.
+function fillSpans({ from, to }, { at, back }, fill) {
+  let left = -9, right = -9;
+  const flush = () => { if (right > left) { drawn.count += 1; fill(left, right - left); } };
+  for (let index = leap(to, 0, back(-8)), hidden = -1; index < to.length; index += 1) {
+    if (to[index] < hidden) index = leap(to, index, hidden);
+    if (index >= to.length) break;
+    let start = Math.max(-8, at(from[index])), stop = Math.min(at(to[index]), view.width + 8);
+    if (start > view.width + 8) break;
+    if (stop - start < 3) [start, stop] = [Math.floor(start), Math.max(Math.floor(start) + 1, Math.ceil(stop))];
+    if (start > right) {
+      flush();
+      [left, right] = [start, stop];
     }
-    this.flush(row);
-    this.from[row] = from;
-    this.to[row] = to;
+    right = Math.max(right, stop);
+    hidden = back(right);
   }
+  flush();
+}
 
-  flush(row) {
-    if (this.to[row] > this.from[row]) this.fill(row, this.from[row], this.to[row] - this.from[row]);
-  }
-
-  end() {
-    for (let row = 0; row < this.to.length; row += 1) this.flush(row);
+// A tick for each place of a list, and one a pixel where they are dense.
+function fillTicks(list, { at, back }, wide, fill) {
+  for (let index = leap(list, 0, back(-wide)); index < list.length;) {
+    const pixel = Math.round(at(list[index]) - wide / 2);
+    if (pixel > view.width) break;
+    drawn.count += 1;
+    fill(pixel, wide);
+    index = leap(list, index + 1, back(pixel + wide / 2 + 0.5));
   }
 }
 
-// Fills the parts of bars from where they begin.
-function fillBars(pen, lane, [first, last], begin, at, top, tall, right) {
-  const spans = new Spans(pen, ROWS_DRAWN, (row, from, wide) => pen.fillRect(from, top(row), wide, tall));
-  for (let index = first; index < last; index += 1) {
-    const bar = lane.bars[index], start = begin(bar);
-    if (start >= 0) spans.add(Math.min(bar.row, ROWS_DRAWN - 1), Math.max(-8, at(start)), Math.min(at(bar.end), right + 8));
-  }
-  spans.end();
+// Fills spans of the rows of a lane.
+function fillRows(pen, rows, scale, top, tall) {
+  rows.forEach((spans, row) => fillSpans(spans, scale, (from, wide) => pen.fillRect(from, top(row), wide, tall)));
 }
 
 function drawGround(pen, lane) {
@@ -130,15 +139,16 @@ function drawAxis(pen) {
 function drawBars(pen, lane) {
   const range = barsBetween(lane, view.from - 1, until() + 1), tall = barTall(lane);
   pen.fillStyle = colours.queue;
-  fillBars(pen, lane, range, bar => bar.begin, x, row => rowTop(lane, row), tall, view.width);
+  fillRows(pen, lane.whole, chartScale, row => rowTop(lane, row), tall);
   pen.fillStyle = colours.run;
-  fillBars(pen, lane, range, bar => bar.first, x, row => rowTop(lane, row) + 1, tall - 2, view.width);
-  if (lane.folded || view.column * total < view.width / 8) return;
+  fillRows(pen, lane.running, chartScale, row => rowTop(lane, row) + 1, tall - 2);
+  if (lane.folded) return;
   pen.lineWidth = 1;
   const labelled = new Float64Array(ROWS_DRAWN);
   for (let index = range[0]; index < range[1]; index += 1) {
     const bar = lane.bars[index], left = x(bar.begin), right = x(bar.end);
     if (right - left < 4 || bar.row >= ROWS_DRAWN) continue;
+    drawn.count += 1;
     drawEdge(pen, lane, bar, left, right);
     if (lane.isLabelled) drawLabel(pen, lane, bar, left, right, labelled);
   }
@@ -191,36 +201,48 @@ function drawMark(pen, mark, cx, cy) {
   if (mark !== "step") pen.stroke();
 }
 
+// Whether single events of a lane have shapes.
+const hasShapes = lane => view.column >= MARK_COLUMN && !lane.folded && lane.row >= 20;
+
 function drawEvents(pen) {
   if (view.column < MARK_COLUMN) return;
   const last = Math.min(total, Math.ceil(until()));
   for (let place = Math.max(0, Math.floor(view.from)); place < last; place += 1) {
-    if (!markOf.has(place) && !lanes[streamOf(place)].folded && lanes[streamOf(place)].row >= 20) drawMark(pen, kindOf(place), x(place), y(place));
+    if (markOf.has(place) || !hasShapes(lanes[streamOf(place)])) continue;
+    drawn.count += 1;
+    drawMark(pen, kindOf(place), x(place), y(place));
   }
 }
 
-// Failed and dropped commands and losses, which are drawn however many events there are: a tick a pixel where they are dense.
+// Failed and dropped commands and losses, drawn for any number of events: a tick a pixel where they
+// are dense.
 function drawMarks(pen) {
   for (const mark of ["dropped", "failed", "lost"]) {
-    const list = marks[mark];
-    const tall = lane => mark === "lost" ? lane.height - LANE_HEAD + 4 : mark === "failed" ? 6 : 3;
-    const spans = new Spans(pen, lanes.length, (number, from, wide) => {
+    for (const lane of lanes) {
+      const list = lane.marks[mark], tall = mark === "lost" ? lane.height - LANE_HEAD + 4 : mark === "failed" ? 6 : 3;
       pen.fillStyle = colours[mark];
-      pen.fillRect(from, lanes[number].top + LANE_HEAD - 4, wide, tall(lanes[number]));
-    });
-    for (let at = lowest(list, view.from - 1); at < list.length && list[at] <= until(); at += 1) {
-      const place = list[at], lane = lanes[streamOf(place)];
-      if (view.column >= MARK_COLUMN && !lane.folded && lane.row >= 20) drawMark(pen, mark, x(place), y(place));
-      else spans.add(streamOf(place), x(place) - 1, x(place) + 1);
+      if (!hasShapes(lane)) {
+        fillTicks(list, chartScale, 2, (from, wide) => pen.fillRect(from, lane.top + LANE_HEAD - 4, wide, tall));
+        continue;
+      }
+      for (let at = lowest(list, view.from - 1); at < list.length && list[at] <= until(); at += 1) {
+        drawn.count += 1;
+        drawMark(pen, mark, x(list[at]), y(list[at]));
+      }
     }
-    spans.end();
   }
 }
 
+// Draws the arrows with an end in sight, or says how many there are, where they are too many.
 function drawArrows(pen) {
-  const drawn = arrows.filter(wait => isDrawn(wait.ended) || isDrawn(wait.lets));
-  if (drawn.length > ARROWS_DRAWN) return drawn.length;
-  for (const wait of drawn) drawArrow(pen, wait);
+  const left = view.from - 0.5, right = Math.floor(until() - 0.5) + 1;
+  const range = numbers => [leap(numbers, 0, left), leap(numbers, 0, right)];
+  const begun = range(arrowEnds), come = range(arrowLets);
+  let count = begun[1] - begun[0];
+  for (let at = come[0]; at < come[1]; at += 1) if (endsByLets[at] < left) count += 1;
+  if (count > ARROWS_DRAWN) return count;
+  for (const wait of new Set([...arrowsByEnd.slice(...begun), ...waitsBy.lets.slice(...come)])) drawArrow(pen, wait);
+  drawn.count += count;
   return 0;
 }
 
@@ -250,13 +272,7 @@ function drawArrow(pen, { how, ended, lets }) {
 
 function drawMatches(pen) {
   pen.fillStyle = colours.match;
-  let last = -1;
-  for (let at = lowest(found.places, view.from - 1); at < found.places.length && found.places[at] <= until(); at += 1) {
-    const pixel = Math.round(x(found.places[at]));
-    if (pixel <= last) continue;
-    last = pixel + 3;
-    pen.fillRect(pixel - 1, 13, 3, 7);
-  }
+  fillTicks(found.places, chartScale, 3, (from, wide) => pen.fillRect(from, 13, wide, 7));
 }
 
 function drawChosen(pen) {
@@ -272,7 +288,7 @@ function drawChosen(pen) {
   pen.fillRect(cx - 1, AXIS - 6, 2, Math.max(0, cy - tall / 2 - AXIS + 6));
 }
 
-// A pen for a canvas of so many pixels, as sharp as the screen.
+// A pen for a canvas of this size in pixels, as sharp as the screen.
 function penOf(canvas, width, height) {
   const sharp = Math.min(2, window.devicePixelRatio || 1);
   if (canvas.width !== Math.round(width * sharp) || canvas.height !== Math.round(height * sharp)) {
@@ -287,6 +303,7 @@ function penOf(canvas, width, height) {
 
 function drawChart() {
   const pen = penOf(element("chart"), view.width, view.height);
+  drawn.count = 0;
   pen.clearRect(0, 0, view.width, view.height);
   for (const lane of lanes) drawGround(pen, lane);
   drawAxis(pen);
@@ -305,26 +322,21 @@ let strip;
 function drawStrip() {
   const tall = limited(72 / Math.max(1, lanes.length), 4, 12), height = Math.max(8, lanes.length * tall);
   strip = document.createElement("canvas");
-  const pen = penOf(strip, view.width, height), at = place => (place + 0.5) / total * view.width;
+  const pen = penOf(strip, view.width, height);
   strip.tall = height;
   lanes.forEach((lane, number) => {
     const top = () => number * tall + 1;
     pen.fillStyle = colours.queue;
-    fillBars(pen, lane, [0, lane.bars.length], bar => bar.begin, at, top, tall - 2, view.width);
+    fillRows(pen, lane.whole, stripScale, top, tall - 2);
     pen.fillStyle = colours.run;
-    fillBars(pen, lane, [0, lane.bars.length], bar => bar.first, at, top, tall - 2, view.width);
-  });
-  for (const mark of ["dropped", "failed", "lost"]) {
-    pen.fillStyle = colours[mark];
-    let last = -1;
-    for (const place of marks[mark]) {
-      const pixel = Math.round(at(place)) * lanes.length + streamOf(place);
-      if (pixel === last) continue;
-      last = pixel;
+    fillRows(pen, lane.running, stripScale, top, tall - 2);
+    for (const mark of ["dropped", "failed", "lost"]) {
       const high = mark === "lost" ? tall : tall / 3;
-      pen.fillRect(Math.round(at(place)) - 1, (streamOf(place) + 1) * tall - high, mark === "dropped" ? 1 : 2, high);
+      pen.fillStyle = colours[mark];
+      fillTicks(lane.marks[mark], stripScale, mark === "dropped" ? 1 : 2, (from, wide) =>
+        pen.fillRect(from, (number + 1) * tall - high, wide, high));
     }
-  }
+  });
 }
 
 function drawOverview() {

@@ -11,60 +11,117 @@ for (const write of writes) {
 }
 const imageNumbers = [...writesOf.keys()].sort((one, other) => one - other);
 
-let texelBytes;
-function texels() {
-  if (!texelBytes) {
-    const text = atob(element("texels").textContent);
-    texelBytes = new Uint8Array(text.length);
-    for (let at = 0; at < text.length; at += 1) texelBytes[at] = text.charCodeAt(at);
-  }
-  return texelBytes;
+// For each write of an image: the write that made the image, or -1; and the latest one so far that
+// set all of its texels.
+for (const list of writesOf.values()) {
+  let made = -1, whole = -1;
+  list.forEach((write, at) => {
+    if (write.kind !== WROTE) made = whole = write.kind === MADE ? at : -1;
+    else if (made >= 0 && write.w === list[made].w && write.h === list[made].h && write.at >= 0) whole = at;
+    Object.assign(write, { made, whole });
+  });
 }
 
-// The latest making of an image up to an event: its place among the image's writes, or -1 where the image is not there.
+// The bytes of all writes. A block is read at its first use: four characters of the text are three
+// bytes.
+const BLOCK = 3 << 14, blocks = [];
+let blockText;
+function block(number) {
+  if (blocks[number]) return blocks[number];
+  blockText ??= element("texels").textContent;
+  const text = atob(blockText.slice(BLOCK / 3 * 4 * number, BLOCK / 3 * 4 * (number + 1)));
+  const bytes = blocks[number] = new Uint8Array(text.length);
+  for (let at = 0; at < text.length; at += 1) bytes[at] = text.charCodeAt(at);
+  return bytes;
+}
+
+function bytesOf({ at, size }) {
+  const first = Math.floor(at / BLOCK), last = Math.floor((at + size - 1) / BLOCK);
+  const part = (number, from, to) => block(number).subarray(from - BLOCK * number, to - BLOCK * number);
+  if (first === last) return part(first, at, at + size);
+  const bytes = new Uint8Array(size);
+  for (let number = first; number <= last; number += 1) {
+    const from = Math.max(at, BLOCK * number);
+    bytes.set(part(number, from, Math.min(at + size, BLOCK * (number + 1))), from - at);
+  }
+  return bytes;
+}
+
+// How many writes of an image there were up to an event.
+const writesUpTo = (list, place) => lowest(list, place + 1, write => write.place);
+
+// The latest creation of an image up to an event: its place among the image's writes, or -1 where
+// the image is not there.
 function making(list, place) {
-  for (let at = lowest(list, place + 1, write => write.place) - 1; at >= 0; at -= 1) {
-    if (list[at].kind === MADE) return at;
-    if (list[at].kind === GONE) return -1;
-  }
-  return -1;
+  const last = writesUpTo(list, place) - 1;
+  return last < 0 ? -1 : list[last].made;
 }
 
-// An image after an event: its size, its texels, or null where the page does not have them, and what the event wrote.
+// An image after an event: its size, its texels, or null where the page does not have them, and the
+// write of the event.
 function imageAt(image, place) {
   const list = writesOf.get(image), made = making(list, place);
   if (made < 0) return null;
   const { w: width, h: height } = list[made];
-  const last = lowest(list, place + 1, write => write.place) - 1;
+  const last = writesUpTo(list, place) - 1;
   const bytes = texelsAfter(image, list, made, last);
   const wrote = [];
   for (let at = last; at >= made && list[at].place === place; at -= 1) wrote.push(list[at]);
   return { image, width, height, bytes, wrote };
 }
 
-// The texels of an image after one of its writes, on from where they were last asked for, or from a write of all of it.
-const latest = new Map();
+// The texels of an image after one of its writes, or null where the page lacks some. It goes on from
+// the texels of the last call, from a kept copy, or from a write of the whole image.
+const KEEP_EACH = 256, KEPT_AT_MOST = 32 << 20;
+const latest = new Map(), kept = new Map();
+let keptBytes = 0;
 function texelsAfter(image, list, made, last) {
-  const { w: width, h: height } = list[made];
-  let from = last;
-  while (from > made && !(list[from].w === width && list[from].h === height && list[from].at >= 0)) from -= 1;
-  const known = latest.get(image), goesOn = known && known.bytes && known.made === made && known.last >= from && known.last <= last;
-  let bytes = goesOn ? known.bytes : new Uint8Array(4 * width * height);
-  for (let at = goesOn ? known.last + 1 : from; at <= last && bytes; at += 1) {
-    if (list[at].at < 0) bytes = null; else put(bytes, width, list[at]);
+  const { w: width, h: height } = list[made], whole = list[last].whole;
+  let at = whole, bytes = null;
+  for (let before = last - last % KEEP_EACH; before >= whole && !bytes; before -= KEEP_EACH) {
+    if (kept.has(`${image} ${before}`)) [at, bytes] = [before + 1, kept.get(`${image} ${before}`).slice()];
   }
-  latest.set(image, { made, last, bytes });
+  const known = latest.get(image);
+  if (known?.bytes && known.last >= Math.max(whole, at - 1) && known.last <= last) [at, bytes] = [known.last + 1, known.bytes];
+  bytes ??= new Uint8Array(4 * width * height);
+  for (; at <= last && bytes; at += 1) {
+    if (list[at].at < 0) bytes = null; else put(bytes, width, list[at]);
+    if (bytes && at % KEEP_EACH === 0 && at > whole) keep(`${image} ${at}`, bytes);
+  }
+  latest.set(image, { last, bytes });
   return bytes;
 }
 
-function put(bytes, width, { x, y, w, h, at, size }) {
-  const given = texels();
-  for (let row = 0; row < h && w; row += 1) {
-    const to = 4 * ((y + row) * width + x);
-    if (size > 4) bytes.set(given.subarray(at + 4 * row * w, at + 4 * (row + 1) * w), to);
-    else for (let texel = 0; texel < w; texel += 1) bytes.set(given.subarray(at, at + 4), to + 4 * texel);
+// Keeps a copy, where there is room for it.
+function keep(name, bytes) {
+  if (kept.has(name) || keptBytes + bytes.length > KEPT_AT_MOST) return;
+  keptBytes += bytes.length;
+  kept.set(name, bytes.slice());
+}
+
+function put(bytes, width, write) {
+  const { x, y, w, h, size } = write;
+  if (!w || !h || !size) return;
+  const given = bytesOf(write);
+  for (let down = 0; down < h; down += 1) {
+    const to = 4 * ((y + down) * width + x);
+    if (size > 4) bytes.set(given.subarray(4 * down * w, 4 * (down + 1) * w), to);
+    else for (let texel = 0; texel < w; texel += 1) bytes.set(given, to + 4 * texel);
   }
 }
+
+// Keeps copies of all images on the way, some writes at a time while the page is idle.
+const WRITES_AT_ONCE = 256;
+function* copies() {
+  for (const [image, list] of writesOf) {
+    for (let at = 0; at < list.length; at += 1) {
+      if (at % KEEP_EACH === 0 && list[at].made >= 0) texelsAfter(image, list, list[at].made, at);
+      if (at % WRITES_AT_ONCE === WRITES_AT_ONCE - 1) yield;
+    }
+  }
+}
+const copying = copies();
+whileIdle(() => keptBytes >= KEPT_AT_MOST || copying.next().done);
 
 // The events that wrote a texel of an image.
 function writersOf(image, x, y) {
@@ -180,13 +237,14 @@ function tellImages() {
   if (!writes.length) return;
   element("images-head").textContent = `Images after event ${shown(place + 1)}`;
   const there = imageNumbers.filter(image => making(writesOf.get(image), place) >= 0);
-  const wrote = new Set(there.filter(image => writesOf.get(image).some(write => write.place === place)));
+  const wrote = new Set(there.filter(image => writesOf.get(image)[writesUpTo(writesOf.get(image), place) - 1].place === place));
   const order = there.length > IMAGES_SHOWN ? [...wrote, ...there.filter(image => !wrote.has(image))].slice(0, IMAGES_SHOWN) : there;
   const held = box.contains(document.activeElement) ? document.activeElement.dataset.image : undefined;
   box.replaceChildren();
   for (const image of order) figure(box, imageAt(image, place), place);
   if (held !== undefined) box.querySelector(`[data-image="${held}"]`)?.focus({ preventScroll: true });
   const rest = there.length - order.length;
+  element("images-hint").hidden = !there.length;
   let text = there.length ? "" : "No image is there.";
   if (rest) text += `${shown(rest)} more images are there, which this event did not write. `;
   if (data.leftOut.length) {

@@ -1,10 +1,10 @@
-// Moving: what is drawn, which event is chosen, and what is looked for.
+// Moving: the part that is drawn, the chosen event, and the search.
 
 const DRAG = 4, HASH_AFTER = 200, SEARCH_AFTER = 150;
 const found = { places: [], asked: "" };
-const due = { drawing: false, words: false, hash: 0, search: 0 };
+const due = { drawing: false, words: false, sight: false, hash: 0, search: 0 };
 
-// ---- When what is drawn
+// ---- Frames
 
 function redraw(withWords = false) {
   due.words ||= withWords;
@@ -33,6 +33,7 @@ function drawNow() {
   tellState();
   tellImages();
   fillTable();
+  if (due.sight) bringIntoSight();
 }
 
 // ---- The part that is drawn
@@ -59,12 +60,14 @@ function choose(place, isFocused = false) {
   if (!isDrawn(view.chosen)) show(view.chosen - view.count / 2);
   clearTimeout(due.hash);
   due.hash = setTimeout(() => history.replaceState(null, "", `#event=${view.chosen + 1}`), HASH_AFTER);
+  due.sight ||= isFocused;
   redraw(true);
-  if (isFocused) bringIntoSight();
 }
 
-// Scrolls where the lane of the chosen event is out of sight, as in a chart that is taller than the window.
+// Scrolls where the lane of the chosen event is out of sight, as in a chart that is taller than the
+// window, or where the event's box, which is there by now, lies over it.
 function bringIntoSight() {
+  due.sight = false;
   const top = element("chart").getBoundingClientRect().top + y(view.chosen);
   const box = element("detail").getBoundingClientRect(), beside = box.left > element("chart").getBoundingClientRect().right;
   const bottom = beside ? innerHeight : Math.min(innerHeight, box.top);

@@ -1,4 +1,4 @@
-// Words: what is drawn, the chosen event, how things stand after it, and the table of events.
+// Words: the part that is drawn, the chosen event, the state after it, and the table of events.
 
 const TABLE_ROWS = 50, WAITS_TOLD = 20, MARK_WORDS = { failed: "failed", dropped: "dropped", lost: "lost" };
 
@@ -18,7 +18,7 @@ function tellDrawn(hidden) {
   let text = `Events ${shown(first)} to ${shown(last)} of ${shown(total)} are drawn.`;
   if (!total) text = "There is no event.";
   else if (view.column < MARK_COLUMN) text += " Single events are folded into their bars.";
-  if (hidden) text += ` ${counted(hidden, "arrow is", "arrows are")} folded away.`;
+  if (hidden) text += ` ${shown(hidden)} arrows are folded away.`;
   const over = lanes.filter(lane => lane.rows > ROWS_DRAWN).length;
   if (over) text += ` ${counted(over, "lane has", "lanes have")} more than ${ROWS_DRAWN} rows, and the last row has the rest.`;
   element("drawn").textContent = text;
@@ -35,7 +35,7 @@ function tellEvent() {
   badge(where, place);
   tag(detail, "code", data.texts[place]);
   tag(detail, "p", data.notes[place], "what");
-  const told = waits.filter(wait => wait.made === place || wait.ended === place || wait.lets === place);
+  const told = waitsAt(place);
   for (const wait of told.slice(0, WAITS_TOLD)) tellWait(detail, wait, place);
   if (told.length > WAITS_TOLD) tag(detail, "p", `${shown(told.length - WAITS_TOLD)} more waits are not told here.`);
 }
@@ -58,7 +58,7 @@ function tellWait(parent, wait, place) {
   }
 }
 
-// ---- How things stand
+// ---- The state
 
 function fact(list, name, value) {
   tag(list, "dt", name);
