@@ -1,6 +1,7 @@
-"""Sixteen streams whose flushes have sixteen fences each, so that as many waits as there may be are pending at once.
+"""Sixteen streams whose flushes have sixteen fences each, for the most pending waits at once.
 
-Every other flush raises the release of its stream by one, since a ring has room for half as many commands as there are flushes.
+Every other flush raises the release of its stream by one: a ring has room for half as many commands
+as there are flushes.
 """
 
 import random
@@ -11,7 +12,7 @@ NEVER = 2**64 - 1
 
 
 def waiting(flushes: int, release_of: Callable[[int], int]) -> Iterator[str]:
-    """Streams whose flushes wait for releases of the others, each flush for one release of sixteen."""
+    """Streams that wait for releases of the others, each flush for one release of sixteen."""
     releases = flushes // 2
     for stream in range(1, STREAMS + 1):
         targets = [target for target in range(1, STREAMS + 1) if target != stream]
@@ -19,7 +20,9 @@ def waiting(flushes: int, release_of: Callable[[int], int]) -> Iterator[str]:
         yield "put 0 " + " ".join(f"20000003 {release + 1:x} 0" for release in range(releases))
         for flush in range(flushes):
             release = release_of(flush // 2)
-            fences = (f" {targets[(flush + fence) % len(targets)]} {release}" for fence in range(FENCES))
+            fences = (
+                f" {targets[(flush + fence) % len(targets)]} {release}" for fence in range(FENCES)
+            )
             yield f"flush {3 * (flush // 2 + 1)}{''.join(fences)}"
 
 

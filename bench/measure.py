@@ -1,6 +1,8 @@
 """Rows of a bench: words, an input, and what a run of them takes."""
 
 import subprocess
+from collections.abc import Iterable, Iterator, Sequence
+from dataclasses import dataclass
 from pathlib import Path
 
 ONCE = Path(__file__).resolve().with_name("once")
@@ -12,15 +14,18 @@ class WrongStatus(Exception):
     """A run that did not end as it should."""
 
 
+@dataclass(frozen=True)
 class Row:
-    """One measurement: the words and the input, and whether `cat` of the input or of the output stands beside it."""
+    """One measurement: the words, the input, and whether `cat` of one side stands beside it."""
 
-    def __init__(self, name, words, text="", cat=None):
-        self.name, self.words, self.text, self.cat = name, words, text, cat
+    name: str
+    words: list[str]
+    text: str = ""
+    cat: str | None = None
 
 
-def hostile_rows(scripts):
-    """For each of the greatest scripts a row with no workers and one with two; a list of words may be given with a script."""
+def hostile_rows(scripts: Iterable[tuple[str, str, list[str]]]) -> Iterator[Row]:
+    """For each of the greatest scripts a row of its words, or one for each number of workers."""
     for name, text, words in scripts:
         if words:
             yield Row(name, words, text)
@@ -29,15 +34,24 @@ def hostile_rows(scripts):
             yield Row(f"{name}, 2 workers", ["run", "--workers", "2"], text)
 
 
-def run_once(command, given, written, most=MOST):
+def run_once(
+    command: Sequence[str | Path], given: Path, written: Path, most: float = MOST
+) -> tuple[float, float, int]:
     """The seconds and the peak memory in MB of one run, and its status."""
-    once = [ONCE, str(most), given, written, *command]
-    seconds, peak, status = subprocess.run(once, capture_output=True, text=True, check=True).stdout.split()
+    once: list[str | Path] = [ONCE, str(most), given, written, *command]
+    seconds, peak, status = subprocess.run(
+        once, capture_output=True, text=True, check=True
+    ).stdout.split()
     return float(seconds), int(peak) / 1024, int(status)
 
 
-def best_of(runs, command, given, written, most=MOST):
-    """The best of some runs; one that takes long is the last, and one that ends with another status than 0 and 1 ends them all."""
+def best_of(
+    runs: int, command: Sequence[str | Path], given: Path, written: Path, most: float = MOST
+) -> tuple[float, float]:
+    """The best of some runs.
+
+    A run that takes long is the last. One that ends with another status than 0 and 1 ends them all.
+    """
     done = []
     for _ in range(runs):
         seconds, peak, status = run_once(command, given, written, most)
@@ -49,8 +63,10 @@ def best_of(runs, command, given, written, most=MOST):
     return min(done)
 
 
-def measure(row, program, runs, folder, most=MOST):
-    """The seconds and the peak memory of a row, those of `cat`, and how many bytes were read and written."""
+def measure(
+    row: Row, program: Path, runs: int, folder: Path, most: float = MOST
+) -> tuple[float, float, float | None, int, int]:
+    """The seconds and the peak memory of a row, the seconds of `cat`, bytes read and written."""
     given, written, copied = folder / "given", folder / "written", folder / "copied"
     given.write_text(row.text)
     if row.words == ["verify"]:

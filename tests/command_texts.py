@@ -1,16 +1,16 @@
-"""Random texts of commands, each made from a number, with the words that have to be executed.
+"""Random texts of commands, each made from a number, with the words that must be executed.
 
-All commands of a text are right, so that no stream is lost: each is to be executed, in its order.
+All commands of a text are right, so no stream is lost and each command is executed in its order.
 The headers are those of the table in docs/FORMATS.md. `text(seed)` is the same on every machine.
 """
 
 import re
 from dataclasses import dataclass, field
-from pathlib import Path
 
-from hostile import Draw
+from tests.hostile import Draw
+from tools.places import TOP
 
-FORMATS = Path(__file__).resolve().parent.parent / "docs/FORMATS.md"
+FORMATS = TOP / "docs/FORMATS.md"
 ROW = re.compile(r"^\| \d+ \| (\w+) \| \d+(?: or more)? \| .* \| ([0-9a-f]{8}) \|$", re.MULTILINE)
 HEADERS = {
     name: int(header, 16) for name, header in ROW.findall(FORMATS.read_text(encoding="utf-8"))
@@ -19,11 +19,12 @@ TEXELS = {"RGBA8": (1, 4), "RGB565": (2, 2), "RGBA4444": (3, 2), "L8": (4, 1)}
 WIDE = ("release", "id")
 RELEASES = (0, 1, 2, 3, 7, 2**32, 2**64 - 1)
 WORD = 2**32
+Command = tuple[str, dict[str, int | str], list[int]]  # the name, the arguments and the data
 
 
 @dataclass
 class Text:
-    """A text, whether it goes with --await, and what is to be executed, but for Noops."""
+    """A text, whether it goes with --await, and the words that are executed, but for Noops."""
 
     lines: list[str]
     awaits: bool
@@ -48,109 +49,107 @@ class Client:
 
     # --- Commands ---
 
-    def command(self) -> tuple[str, dict[str, int | str], list[int]]:
+    def command(self) -> Command:
         """A command that loses no stream: its name, its arguments, and its data."""
         kinds = [self.image, self.image, self.order, self.bucket, self.buffer, self.noop]
         while (found := self.draw.of(kinds)()) is None:
             pass
         return found
 
-    def noop(self) -> tuple[str, dict[str, int | str], list[int]]:
+    def noop(self) -> Command:
         return "Noop", {"size": self.draw.between(1, 4)}, []
 
-    def order(self) -> tuple[str, dict[str, int | str], list[int]]:
+    def order(self) -> Command:
         self.release, self.token = self.release + 1, self.token + 1
         release = self.draw.of(RELEASES)
-        return self.draw.of(
+        commands: tuple[Command, ...] = (
+            ("InsertFence", {"release": self.release if self.draw.chance(80) else release}, []),
             (
-                ("InsertFence", {"release": self.release if self.draw.chance(80) else release}, []),
-                (
-                    "WaitToken",
-                    {"stream": self.draw.below(self.streams + 2), "release": release},
-                    [],
-                ),
-                (
-                    "WaitSyncToken",
-                    {
-                        "namespace": self.draw.below(3),
-                        "id": self.draw.of(RELEASES),
-                        "release": release,
-                    },
-                    [],
-                ),
-                (
-                    "SetToken",
-                    {"token": self.token if self.draw.chance(80) else self.draw.below(WORD)},
-                    [],
-                ),
-            )
+                "WaitToken",
+                {"stream": self.draw.below(self.streams + 2), "release": release},
+                [],
+            ),
+            (
+                "WaitSyncToken",
+                {
+                    "namespace": self.draw.below(3),
+                    "id": self.draw.of(RELEASES),
+                    "release": release,
+                },
+                [],
+            ),
+            (
+                "SetToken",
+                {"token": self.token if self.draw.chance(80) else self.draw.below(WORD)},
+                [],
+            ),
         )
+        return self.draw.of(commands)
 
-    def image(self) -> tuple[str, dict[str, int | str], list[int]] | None:
+    def image(self) -> Command | None:
         image, box = self.draw.below(4), {key: self.draw.below(5) for key in ("x", "y", "w", "h")}
         memory = self.draw.of(sorted(self.memories))
         form = self.draw.of(sorted(TEXELS))
         size = box["w"] * box["h"] * TEXELS[form][1]
-        return self.draw.of(
+        commands: tuple[Command | None, ...] = (
             (
-                (
-                    "CreateImage",
-                    {
-                        "image": image,
-                        "width": self.draw.between(1, 6),
-                        "height": self.draw.between(0, 6),
-                    },
-                    [],
-                ),
-                ("DeleteImage", {"image": image}, []),
-                ("ClearRect", {"image": image, **box, "texel": self.draw.below(WORD)}, []),
-                (
-                    "CopyRect",
-                    {
-                        "source": image,
-                        "x": 0,
-                        "y": 1,
-                        "target": self.draw.below(4),
-                        "x2": 2,
-                        "y2": 0,
-                        "w": box["w"],
-                        "h": box["h"],
-                    },
-                    [],
-                ),
-                (
-                    "UploadRect",
-                    {
-                        "image": image,
-                        **box,
-                        "format": form,
-                        "memory": memory,
-                        "memory_offset": self.offset(4 * self.memories[memory], size),
-                    },
-                    [],
-                )
-                if size <= 4 * self.memories[memory]
-                else None,
-                self.from_bytes(
-                    "UploadBucket",
-                    "bucket",
-                    self.buckets,
-                    {"image": image, **box, "format": form},
-                    size,
-                ),
-                self.from_bytes(
-                    "UploadBuffer",
-                    "buffer",
-                    self.buffers,
-                    {"image": image, **box, "format": form},
-                    size,
-                ),
+                "CreateImage",
+                {
+                    "image": image,
+                    "width": self.draw.between(1, 6),
+                    "height": self.draw.between(0, 6),
+                },
+                [],
+            ),
+            ("DeleteImage", {"image": image}, []),
+            ("ClearRect", {"image": image, **box, "texel": self.draw.below(WORD)}, []),
+            (
+                "CopyRect",
+                {
+                    "source": image,
+                    "x": 0,
+                    "y": 1,
+                    "target": self.draw.below(4),
+                    "x2": 2,
+                    "y2": 0,
+                    "w": box["w"],
+                    "h": box["h"],
+                },
+                [],
+            ),
+            (
+                "UploadRect",
+                {
+                    "image": image,
+                    **box,
+                    "format": form,
+                    "memory": memory,
+                    "memory_offset": self.offset(4 * self.memories[memory], size),
+                },
+                [],
             )
+            if size <= 4 * self.memories[memory]
+            else None,
+            self.from_bytes(
+                "UploadBucket",
+                "bucket",
+                self.buckets,
+                {"image": image, **box, "format": form},
+                size,
+            ),
+            self.from_bytes(
+                "UploadBuffer",
+                "buffer",
+                self.buffers,
+                {"image": image, **box, "format": form},
+                size,
+            ),
         )
+        return self.draw.of(commands)
 
     def from_bytes(
         self, name: str, key: str, there: dict[int, int], arguments: dict[str, int | str], size: int
-    ) -> tuple[str, dict[str, int | str], list[int]] | None:
+    ) -> Command | None:
         """An upload from a bucket or a buffer that has enough bytes."""
         fitting = [number for number in sorted(there) if there[number] >= size]
         if not fitting:
@@ -162,55 +161,55 @@ class Client:
     def offset(self, there: int, size: int) -> int:
         return self.draw.below(there - size + 1)
 
-    def bucket(self) -> tuple[str, dict[str, int | str], list[int]] | None:
+    def bucket(self) -> Command | None:
         bucket = self.draw.below(4)
         if bucket not in self.buckets:
             self.buckets[bucket] = self.draw.below(20)
             return "SetBucketSize", {"bucket": bucket, "size": self.buckets[bucket]}, []
         size = self.draw.below(self.buckets[bucket] + 1)
-        part = {"bucket": bucket, "offset": self.offset(self.buckets[bucket], size), "size": size}
+        offset = self.offset(self.buckets[bucket], size)
+        part: dict[str, int | str] = {"bucket": bucket, "offset": offset, "size": size}
         memory, result = self.draw.of(sorted(self.memories)), self.draw.of(sorted(self.results))
         room, whole = 4 * self.results[result], 4 * self.results[result] - self.draw.below(2) * 4
         got = min(size, room)
-        return self.draw.of(
+        commands: tuple[Command | None, ...] = (
             (
-                (
-                    "SetBucketDataImmediate",
-                    part,
-                    [self.draw.below(WORD) for _ in range((size + 3) // 4)],
-                ),
-                (
-                    "SetBucketData",
-                    {
-                        **part,
-                        "memory": memory,
-                        "memory_offset": self.offset(4 * self.memories[memory], size),
-                    },
-                    [],
-                )
-                if size <= 4 * self.memories[memory]
-                else None,
-                (
-                    "GetBucketStart",
-                    {
-                        "bucket": bucket,
-                        "result_memory": result,
-                        "result_offset": 4 * self.draw.below(room // 4),
-                        "data_size": whole,
-                        "data_memory": result,
-                        "data_offset": 0,
-                    },
-                    [],
-                ),
-                (
-                    "GetBucketData",
-                    {**part, "size": got, "memory": result, "memory_offset": (room - got) // 4 * 4},
-                    [],
-                ),
+                "SetBucketDataImmediate",
+                part,
+                [self.draw.below(WORD) for _ in range((size + 3) // 4)],
+            ),
+            (
+                "SetBucketData",
+                {
+                    **part,
+                    "memory": memory,
+                    "memory_offset": self.offset(4 * self.memories[memory], size),
+                },
+                [],
             )
+            if size <= 4 * self.memories[memory]
+            else None,
+            (
+                "GetBucketStart",
+                {
+                    "bucket": bucket,
+                    "result_memory": result,
+                    "result_offset": 4 * self.draw.below(room // 4),
+                    "data_size": whole,
+                    "data_memory": result,
+                    "data_offset": 0,
+                },
+                [],
+            ),
+            (
+                "GetBucketData",
+                {**part, "size": got, "memory": result, "memory_offset": (room - got) // 4 * 4},
+                [],
+            ),
         )
+        return self.draw.of(commands)
 
-    def buffer(self) -> tuple[str, dict[str, int | str], list[int]] | None:
+    def buffer(self) -> Command | None:
         buffer = self.draw.below(4)
         if buffer not in self.buffers:
             self.buffers[buffer] = self.draw.below(20)
@@ -268,7 +267,8 @@ class Client:
         for _ in range(self.draw.below(5)):
             kept = dict(self.buckets), dict(self.buffers)
             command = self.command()
-            size = command[1].get("size", 0) if command[0] == "Noop" else len(self.words(*command))
+            is_noop = command[0] == "Noop"
+            size = int(command[1]["size"]) if is_noop else len(self.words(*command))
             if size > left:
                 self.buckets, self.buffers = kept
                 continue

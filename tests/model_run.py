@@ -1,47 +1,82 @@
-"""The run of a script on one thread, written a second time and slowly: commands, waits and rounds."""
+"""The run of a script on one thread, written a second time: commands, waits and rounds."""
+
+from collections.abc import Callable, Iterable
+from typing import Generic, NamedTuple, TypeVar
+
+from tests.model_script import Name, Plan, Reader
 
 BYTES_OF_FORMAT = {1: 4, 2: 2, 3: 2, 4: 1}
 TEXELS_AT_MOST = 4_194_304
 WORDS_AT_MOST = 1_048_576
 
 INVALID_SIZE, OUT_OF_BOUNDS, UNKNOWN_COMMAND, INVALID_ARGUMENTS, QUOTA = 1, 2, 3, 4, 6
-NOOP, SET_TOKEN, SET_BUCKET_SIZE, SET_BUCKET_DATA, SET_BUCKET_IMMEDIATE, GET_BUCKET_START, GET_BUCKET_DATA = range(7)
-(INSERT_FENCE, WAIT_TOKEN, CREATE, DELETE, CLEAR, COPY, UPLOAD, UPLOAD_BUCKET, CREATE_BUFFER, DELETE_BUFFER,
- BUFFER_DATA, UPLOAD_BUFFER, WAIT_SYNC_TOKEN) = range(256, 269)
+(NOOP, SET_TOKEN, SET_BUCKET_SIZE, SET_BUCKET_DATA, SET_BUCKET_IMMEDIATE, GET_BUCKET_START,
+ GET_BUCKET_DATA) = range(7)
+(INSERT_FENCE, WAIT_TOKEN, CREATE, DELETE, CLEAR, COPY, UPLOAD, UPLOAD_BUCKET, CREATE_BUFFER,
+ DELETE_BUFFER, BUFFER_DATA, UPLOAD_BUFFER, WAIT_SYNC_TOKEN) = range(256, 269)
 SIZES = {
-    SET_TOKEN: 2, SET_BUCKET_SIZE: 3, SET_BUCKET_DATA: 6, GET_BUCKET_START: 7, GET_BUCKET_DATA: 6, INSERT_FENCE: 3,
-    WAIT_TOKEN: 4, CREATE: 4, DELETE: 2, CLEAR: 7, COPY: 9, UPLOAD: 9, UPLOAD_BUCKET: 8, CREATE_BUFFER: 3,
-    DELETE_BUFFER: 2, BUFFER_DATA: 6, UPLOAD_BUFFER: 9, WAIT_SYNC_TOKEN: 6,
+    SET_TOKEN: 2, SET_BUCKET_SIZE: 3, SET_BUCKET_DATA: 6, GET_BUCKET_START: 7, GET_BUCKET_DATA: 6,
+    INSERT_FENCE: 3, WAIT_TOKEN: 4, CREATE: 4, DELETE: 2, CLEAR: 7, COPY: 9, UPLOAD: 9,
+    UPLOAD_BUCKET: 8, CREATE_BUFFER: 3, DELETE_BUFFER: 2, BUFFER_DATA: 6, UPLOAD_BUFFER: 9,
+    WAIT_SYNC_TOKEN: 6,
 }
+Word = tuple[int, int]  # a place and its value
+Check = Callable[[object, int], None]
+Image = tuple[int, int, list[int]]  # the width, the height and the texels
 LEAST_SIZES = {NOOP: 1, SET_BUCKET_IMMEDIATE: 4}
 
 
 class Lost(Exception):
     """A command that is refused, with the words that were fetched of it."""
 
-    def __init__(self, code, words=()):
+    def __init__(self, code: int, words: Iterable[Word] = ()) -> None:
         super().__init__(code)
         self.code, self.words = code, list(words)
 
 
+class Pending(NamedTuple):
+    """A wait that was kept: who waits with which number, for whom to come to which release."""
+
+    waiter: int
+    order: int
+    position: int
+    target: int
+    release: int
+
+
 class Stream:
-    def __init__(self, plan):
-        self.plan, self.words = plan, {}
+    """A stream of a script: its words, its client, and what its commands did."""
+
+    def __init__(self, plan: Plan) -> None:
+        self.plan = plan
+        self.words: dict[int, int] = {}
         self.next, self.flushes, self.finished, self.tokens = 0, 0, 0, [0]
-        self.left = []  # (order number, put, flushes before it)
-        self.gone = None  # what the stream line says of how it ended
+        self.left: list[tuple[int, int]] = []  # the order number and the end of each flush
+        self.gone: str | None = None  # what the stream line says of how it ended
         self.entries = self.fetched = self.release = self.token = 0
-        self.buckets, self.buffers, self.results, self.errors = {}, {}, {}, [0, 0, 0]
-        self.read = []  # (action place, result place, value)
+        self.buckets: dict[int, bytearray] = {}
+        self.buffers: dict[int, bytearray] = {}
+        self.results: dict[int, int] = {}
+        self.errors = [0, 0, 0]
+        self.read: list[tuple[int, int, int]] = []  # the action place, the result place, the value
 
-    def passes(self):
-        kind, argument = self.plan.actions[self.next][:2]
-        if kind == "token" and any(token >= argument for token in self.tokens):
-            return True
-        return kind not in ("finish", "token", "close") or (kind != "close" and self.finished >= self.flushes)
+    def passes(self) -> bool:
+        kind, number = self.plan.actions[self.next][:2]
+        match kind:
+            case "close":
+                return False
+            case "token" if any(token >= number for token in self.tokens):
+                return True
+            case "finish" | "token":
+                return self.finished >= self.flushes
+        return True
 
 
-def needs_of(command, a):
+S = TypeVar("S", bound=Stream)
+Fetched = tuple[int, list[int], list[Word], int]  # the command, its arguments, its words, its size
+
+
+def needs_of(command: int, a: list[int]) -> tuple[int, int, int] | None:
     """The memory, the first byte and the number of bytes that a command reads of it."""
     if command in (SET_BUCKET_DATA, BUFFER_DATA):
         return a[3], a[4], a[2]
@@ -50,7 +85,7 @@ def needs_of(command, a):
     return None
 
 
-def fetched_command(s):
+def fetched_command(s: Stream) -> Fetched:
     """Fetches the next command of a stream: its number, its arguments and its words, or Lost."""
     put, here, plan = s.left[0][1], s.entries % s.plan.ring, s.plan
     if put >= plan.ring:
@@ -60,14 +95,16 @@ def fetched_command(s):
     size, command = header % 2**21, header // 2**21
     words = [(here, header)]
 
-    def check(holds, code):
+    def check(holds: object, code: int) -> None:
         if not holds:
             raise Lost(code, words)
 
     check(size, INVALID_SIZE)
     check(size <= room, OUT_OF_BOUNDS)
     check(command in SIZES or command in LEAST_SIZES, UNKNOWN_COMMAND)
-    check(SIZES.get(command, size) == size and LEAST_SIZES.get(command, 1) <= size, INVALID_ARGUMENTS)
+    check(
+        SIZES.get(command, size) == size and LEAST_SIZES.get(command, 1) <= size, INVALID_ARGUMENTS
+    )
     ring_words = 1 if command == NOOP else size
     check(s.fetched + ring_words <= WORDS_AT_MOST, QUOTA)
     if command == NOOP:
@@ -76,7 +113,7 @@ def fetched_command(s):
     a = [word for _, word in words[1:]]
     check_arguments(command, a, plan, check)
     needs = needs_of(command, a)
-    places = []
+    places = range(0)
     if needs and needs[2]:
         first = plan.memories[needs[0]][0]
         places = range(first + needs[1] // 4, first + (needs[1] + needs[2] - 1) // 4 + 1)
@@ -86,19 +123,20 @@ def fetched_command(s):
     return command, a, words, size
 
 
-def check_arguments(command, a, plan, check):
+def check_arguments(command: int, a: list[int], plan: Plan, check: Check) -> None:
     """Checks 6 to 9."""
     if command in (UPLOAD, UPLOAD_BUCKET, UPLOAD_BUFFER):
         check(1 <= a[5] <= 4, INVALID_ARGUMENTS)
     number = {UPLOAD_BUCKET: 6, UPLOAD_BUFFER: 6}.get(command, 0)
-    if command in (SET_BUCKET_SIZE, SET_BUCKET_DATA, SET_BUCKET_IMMEDIATE, GET_BUCKET_START, GET_BUCKET_DATA,
-                   UPLOAD_BUCKET, CREATE_BUFFER, DELETE_BUFFER, BUFFER_DATA, UPLOAD_BUFFER):
+    if command in (SET_BUCKET_SIZE, SET_BUCKET_DATA, SET_BUCKET_IMMEDIATE, GET_BUCKET_START,
+                   GET_BUCKET_DATA, UPLOAD_BUCKET, CREATE_BUFFER, DELETE_BUFFER, BUFFER_DATA,
+                   UPLOAD_BUFFER):
         check(a[number] <= 15, INVALID_ARGUMENTS)
     if command in (SET_BUCKET_SIZE, CREATE_BUFFER):
         check(a[1] <= 262_144, INVALID_ARGUMENTS)
     if command == SET_BUCKET_IMMEDIATE:
         check(a[2] <= 4 * (len(a) - 3), INVALID_ARGUMENTS)
-    written = []
+    written: list[tuple[int, int, int]] = []
     if command == GET_BUCKET_START:
         written = [(a[1], a[2], 4)] + ([(a[4], a[5], a[3])] if a[3] else [])
     elif command == GET_BUCKET_DATA:
@@ -106,12 +144,15 @@ def check_arguments(command, a, plan, check):
     check(all(offset % 4 == 0 for _, offset, _ in written), INVALID_ARGUMENTS)
     needs = needs_of(command, a)
     for memory, offset, count in [needs] if needs else []:
-        check(memory in plan.memories and offset + count <= 4 * plan.memories[memory][1], OUT_OF_BOUNDS)
+        check(memory in plan.memories and offset + count <= 4 * plan.memories[memory][1],
+              OUT_OF_BOUNDS)
     for memory, offset, count in written:
-        check(memory in plan.results and offset + count <= 4 * plan.results[memory][1], OUT_OF_BOUNDS)
+        check(
+            memory in plan.results and offset + count <= 4 * plan.results[memory][1], OUT_OF_BOUNDS
+        )
 
 
-def fits_state(command, a, s):
+def fits_state(command: int, a: list[int], s: Stream) -> bool:
     """Checks 11 and 12."""
     if command in (SET_BUCKET_DATA, SET_BUCKET_IMMEDIATE, GET_BUCKET_DATA):
         return a[0] in s.buckets and a[1] + a[2] <= len(s.buckets[a[0]])
@@ -126,15 +167,17 @@ def fits_state(command, a, s):
     if command == BUFFER_DATA:
         return a[0] in s.buffers and a[1] + a[2] <= len(s.buffers[a[0]])
     if command == UPLOAD_BUFFER:
-        return a[6] in s.buffers and a[7] + a[3] * a[4] * BYTES_OF_FORMAT[a[5]] <= len(s.buffers[a[6]])
+        return a[6] in s.buffers and a[7] + a[3] * a[4] * BYTES_OF_FORMAT[a[5]] <= len(
+            s.buffers[a[6]]
+        )
     return True
 
 
-def bytes_of(values):
+def bytes_of(values: Iterable[int]) -> bytes:
     return b"".join(v.to_bytes(4, "little") for v in values)
 
 
-def texels_of(form, data):
+def texels_of(form: int, data: bytes) -> list[int]:
     out = []
     for at in range(0, len(data), BYTES_OF_FORMAT[form]):
         v = int.from_bytes(data[at:at + BYTES_OF_FORMAT[form]], "little")
@@ -153,76 +196,45 @@ def texels_of(form, data):
 # --- The run ---
 
 
-def shown(words):
+def shown(words: Iterable[Word]) -> str:
     return "".join(f" {place}:{word:08x}" for place, word in words)
 
 
-class Run:
-    """The history of a script by the rule for one thread."""
+class Standings(Generic[S]):
+    """How all stands after some events of a script: the images, the streams, the waits."""
 
-    def __init__(self, script):
+    def __init__(self, script: Reader, streams: list[S]) -> None:
         self.version = script.version
-        self.streams = [Stream(plan) for plan in script.plans]
+        self.streams = streams
         self.names = {plan.name: number for number, plan in enumerate(script.plans, 1)}
-        self.images, self.events, self.endings, self.marks_made = {}, [], [], {}
-        self.pending, self.orders = [], 0  # pending: (waiter, order, position, target, release)
-        while any(not s.gone and (s.left or s.plan.closed() or self.has_flush(s)) for s in self.streams):
-            self.round()
+        self.images: dict[int, Image] = {}
+        self.events: list[str] = []
+        self.endings: list[tuple[int, int, int, int, str]] = []
+        self.marks_made: dict[int, int] = {}
+        self.pending: list[Pending] = []
+        self.orders = 0
 
-    @staticmethod
-    def has_flush(s):
-        return any(action[0] == "flush" for action in s.plan.actions[s.next:])
-
-    def live(self):
-        return [(number, s) for number, s in enumerate(self.streams, 1) if not s.gone]
-
-    def round(self):
-        for number, s in self.live():
-            self.go(number, s)
-        for number, s in self.live():
-            if s.next < len(s.plan.actions) and s.plan.actions[s.next][0] == "close":
-                self.end(number, s, "closed", f"close {number}")
-        while ready := [(s.plan.priority, s.left[0][0], number) for number, s in self.live()
-                        if s.left and not any(w[:2] == (number, s.left[0][0]) for w in self.pending)]:
-            self.serve(min(ready)[2])
-
-    def go(self, number, s):
-        """The client of a stream goes as far as it can."""
-        while s.next < len(s.plan.actions) and s.passes():
-            action = s.plan.actions[s.next]
-            if action[0] == "put":
-                s.words[action[1]] = action[2]
-            elif action[0] == "flush":
-                self.orders += 1
-                for target, release in action[2]:
-                    self.wait(number, self.orders, self.number_of(target), release)
-                s.left.append((self.orders, action[1]))
-                s.flushes += 1
-                self.events.append(f"order {number} {self.orders} {s.next}")
-            elif action[0] == "finish" and action[1] is not None:
-                s.read.append((s.next, action[1], s.results.get(action[1], 0)))
-            s.next += 1
-
-    def number_of(self, target):
+    def number_of(self, target: int | Name) -> int:
         return self.names.get(target, 0) if isinstance(target, tuple) else target
 
-    def target(self, number):
+    def target(self, number: int) -> S | None:
         return self.streams[number - 1] if 1 <= number <= len(self.streams) else None
 
-    def wait(self, number, order, to, release):
+    def wait(self, number: int, order: int, to: int, release: int) -> bool:
         position = self.marks_made[order] = self.marks_made.get(order, -1) + 1
         t = self.target(to)
-        kept = bool(t and to != number and not t.gone and t.release < release and any(n < order for n, _ in t.left))
+        kept = bool(t and to != number and not t.gone and t.release < release
+                    and any(n < order for n, _ in t.left))
         if kept:
-            self.pending.append((number, order, position, to, release))
+            self.pending.append(Pending(number, order, position, to, release))
         return kept
 
-    def settle(self):
+    def settle(self) -> None:
         """Ends the waits that the latest event ended."""
         for w in sorted(self.pending, key=lambda w: w[1:3]):
             number, order, _, to, release = w
-            t = self.target(to)
-            if self.target(number).gone:
+            t = self.streams[to - 1]
+            if self.streams[number - 1].gone:
                 self.pending.remove(w)
                 continue
             if t.release >= release:
@@ -236,31 +248,14 @@ class Run:
             self.pending.remove(w)
             self.endings.append((number, order, to, release, how))
 
-    def end(self, number, s, how, line):
+    def end(self, number: int, s: Stream, how: str, line: str) -> None:
         s.gone, s.left = how, []
         self.events.append(line)
         self.settle()
 
-    def serve(self, number):
-        s = self.target(number)
-        order, put = s.left[0]
-        while s.entries % s.plan.ring != put:
-            try:
-                command, a, words, size = fetched_command(s)
-            except Lost as lost:
-                self.end(number, s, f"lost {lost.code}", f"lost {number} {lost.code}" + shown(lost.words))
-                return
-            self.events.append(f"step {number}" + shown(words))
-            s.entries += size
-            s.fetched += len(words)
-            if self.execute(number, order, s, command, a, words[1 + len(a):]):
-                return
-        s.left.pop(0)
-        s.finished += 1
-        self.events.append(f"finish {number} {order}")
-        self.settle()
-
-    def execute(self, number, order, s, command, a, loaded):
+    def execute(
+        self, number: int, order: int, s: Stream, command: int, a: list[int], loaded: list[Word]
+    ) -> bool:
         """Does what a command does; true where its wait was kept."""
         if command == INSERT_FENCE:
             s.release = max(s.release, a[0] + (a[1] << 32))
@@ -268,7 +263,9 @@ class Run:
         elif command == WAIT_TOKEN:
             return self.wait(number, order, a[0], a[1] + (a[2] << 32))
         elif command == WAIT_SYNC_TOKEN:
-            return self.wait(number, order, self.names.get((a[0], a[1] + (a[2] << 32)), 0), a[3] + (a[4] << 32))
+            return self.wait(
+                number, order, self.names.get((a[0], a[1] + (a[2] << 32)), 0), a[3] + (a[4] << 32)
+            )
         elif command == SET_TOKEN:
             s.token = a[0]
             s.tokens.append(a[0])
@@ -281,7 +278,7 @@ class Run:
         return False
 
     @staticmethod
-    def keep(s, command, a, data):
+    def keep(s: Stream, command: int, a: list[int], data: bytes) -> None:
         """The commands on buckets and buffers."""
         if command == SET_BUCKET_SIZE:
             if len(s.buckets.get(a[0], b"")) != a[1] or a[0] not in s.buckets:
@@ -299,7 +296,8 @@ class Run:
         else:
             bucket = s.buckets[a[0]]
             if command == GET_BUCKET_START:
-                writes = [(a[1], a[2], len(bucket).to_bytes(4, "little")), (a[4], a[5], bytes(bucket[:a[3]]))]
+                writes = [(a[1], a[2], len(bucket).to_bytes(4, "little")),
+                          (a[4], a[5], bytes(bucket[:a[3]]))]
             else:
                 writes = [(a[3], a[4], bytes(bucket[a[1]:a[1] + a[2]]))]
             for memory, offset, part in writes:
@@ -307,7 +305,7 @@ class Run:
                     place = s.plan.results[memory][0] + (offset + at) // 4
                     s.results[place] = int.from_bytes(part[at:at + 4], "little")
 
-    def draw(self, s, command, a, data):
+    def draw(self, s: Stream, command: int, a: list[int], data: bytes) -> int | None:
         """The commands on images: the place of the error among the counts of errors, or None."""
         images = self.images
         invalid_value, invalid_operation, out_of_texels = 0, 1, 2
@@ -323,7 +321,7 @@ class Run:
         if command == DELETE:
             return None if images.pop(a[0], None) else invalid_operation
 
-        def outside(image, x, y, w, h):
+        def outside(image: int, x: int, y: int, w: int, h: int) -> bool:
             return x + w > images[image][0] or y + h > images[image][1]
 
         image, x, y, w, h = (a[3], *a[4:8]) if command == COPY else (a[0], *a[1:5])
@@ -345,8 +343,78 @@ class Run:
         return None
 
     @staticmethod
-    def uploaded(s, command, a, data):
+    def uploaded(s: Stream, command: int, a: list[int], data: bytes) -> bytes:
         count = a[3] * a[4] * BYTES_OF_FORMAT[a[5]]
         if command == UPLOAD:
             return data[a[7] % 4:][:count]
-        return s.buckets[a[6]][:count] if command == UPLOAD_BUCKET else s.buffers[a[6]][a[7]:][:count]
+        return (
+            s.buckets[a[6]][:count] if command == UPLOAD_BUCKET else s.buffers[a[6]][a[7] :][:count]
+        )
+
+
+class Run(Standings[Stream]):
+    """The history of a script by the rule for one thread."""
+
+    def __init__(self, script: Reader) -> None:
+        super().__init__(script, [Stream(plan) for plan in script.plans])
+        while any(
+            not s.gone and (s.left or s.plan.closed() or self.has_flush(s)) for s in self.streams
+        ):
+            self.round()
+
+    @staticmethod
+    def has_flush(s: Stream) -> bool:
+        return any(action.kind == "flush" for action in s.plan.actions[s.next:])
+
+    def live(self) -> list[tuple[int, Stream]]:
+        return [(number, s) for number, s in enumerate(self.streams, 1) if not s.gone]
+
+    def round(self) -> None:
+        for number, s in self.live():
+            self.go(number, s)
+        for number, s in self.live():
+            if s.next < len(s.plan.actions) and s.plan.actions[s.next].kind == "close":
+                self.end(number, s, "closed", f"close {number}")
+        while ready := [(s.plan.priority, s.left[0][0], number) for number, s in self.live()
+                        if s.left
+                        and not any(w[:2] == (number, s.left[0][0]) for w in self.pending)]:
+            self.serve(min(ready)[2])
+
+    def go(self, number: int, s: Stream) -> None:
+        """The client of a stream goes as far as it can."""
+        while s.next < len(s.plan.actions) and s.passes():
+            action = s.plan.actions[s.next]
+            match action.kind:
+                case "put":
+                    s.words[action.number] = action.value
+                case "flush":
+                    self.orders += 1
+                    for target, release in action.fences:
+                        self.wait(number, self.orders, self.number_of(target), release)
+                    s.left.append((self.orders, action.number))
+                    s.flushes += 1
+                    self.events.append(f"order {number} {self.orders} {s.next}")
+                case _ if action.reads:
+                    s.read.append((s.next, action.number, s.results.get(action.number, 0)))
+            s.next += 1
+
+    def serve(self, number: int) -> None:
+        s = self.streams[number - 1]
+        order, put = s.left[0]
+        while s.entries % s.plan.ring != put:
+            try:
+                command, a, words, size = fetched_command(s)
+            except Lost as lost:
+                self.end(
+                    number, s, f"lost {lost.code}", f"lost {number} {lost.code}" + shown(lost.words)
+                )
+                return
+            self.events.append(f"step {number}" + shown(words))
+            s.entries += size
+            s.fetched += len(words)
+            if self.execute(number, order, s, command, a, words[1 + len(a):]):
+                return
+        s.left.pop(0)
+        s.finished += 1
+        self.events.append(f"finish {number} {order}")
+        self.settle()

@@ -18,10 +18,20 @@ USAGE, READ_FAULT, WRITE_FAULT, REFUSED, NO_MEMORY, TOO_LONG = 2, 3, 4, 5, 6, 7
 
 
 class Parser(argparse.ArgumentParser):
-    """Words that are no command are told in one line, as the program tells them."""
+    """Reports wrong words in one line, as the program does."""
 
     def error(self, message: str) -> NoReturn:
         self.exit(USAGE, f"bad command line: {message}\n")
+
+
+def add_file(tool: argparse.ArgumentParser, what: str) -> None:
+    tool.add_argument(
+        "file",
+        metavar="FILE",
+        nargs="?",
+        default="-",
+        help=f"{what} (left out, or -: standard input)",
+    )
 
 
 def words() -> argparse.Namespace:
@@ -36,28 +46,16 @@ def words() -> argparse.Namespace:
         action="store_true",
         help="put a finish before what would overwrite entries that the service may still read",
     )
-    tool.add_argument(
-        "file",
-        metavar="FILE",
-        nargs="?",
-        default="-",
-        help="the text (left out, or -: standard input)",
-    )
+    add_file(tool, "the text")
     tool = tools.add_parser(
         "disassemble", allow_abbrev=False, help="turn a script into a text of commands"
     )
-    tool.add_argument(
-        "file",
-        metavar="FILE",
-        nargs="?",
-        default="-",
-        help="the script (left out, or -: standard input)",
-    )
+    add_file(tool, "the script")
     return parser.parse_args()
 
 
 def read(file: str) -> bytes:
-    """What a file says, or standard input."""
+    """The bytes of a file, or of standard input."""
     if file == "-":
         return sys.stdin.buffer.read()
     with open(file, "rb") as opened:

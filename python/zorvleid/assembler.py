@@ -41,7 +41,7 @@ class Assembler(Reader):
         return super().number_of(what, word, greatest, least)
 
     def parsed(self, text: str, greatest: int) -> int | None:
-        """Numbers are decimal as in a script, or hexadecimal behind `0x`."""
+        """Numbers are decimal as in a script, or hexadecimal after `0x`."""
         return int(text, 16) if HEXADECIMAL.fullmatch(text) else super().parsed(text, greatest)
 
     def value_of(self, word: Word) -> int:
@@ -56,7 +56,7 @@ class Assembler(Reader):
         self.stream().put(place, values)
 
     def take_flush(self, words: Sequence[Word]) -> None:
-        """Takes a flush with fences behind `after`, or as a script has it."""
+        """Takes a flush with fences after `after`, or as a script has it."""
         texts = [word.text for word in words]
         if "after" not in texts and len(words) > 1:
             super().take_flush(words)
@@ -79,7 +79,7 @@ class Assembler(Reader):
         return self.fence(parts)
 
     def take_other(self, words: Sequence[Word]) -> None:
-        """Takes a command, a `word` line, or what is `unchecked`."""
+        """Takes a command, a `word` line, or an `unchecked` line."""
         first, rest = words[0].text, words[1:]
         if first == "unchecked":
             self.take_unchecked(rest)
@@ -122,7 +122,7 @@ class Assembler(Reader):
         self.stream().command(command, arguments, entries, size)
 
     def pairs(self, command: Command, words: Sequence[Word]) -> dict[str, Word]:
-        """What stands behind each key."""
+        """The text after each key."""
         keys = [
             *command.keys,
             *(["size"] if command is NOOP else []),
@@ -144,7 +144,7 @@ class Assembler(Reader):
         return given
 
     def data_of(self, given: dict[str, Word]) -> tuple[list[int], int] | None:
-        """Takes the entries of data out of what is given, with how many bytes they are, or None."""
+        """Takes the entries of data out of the arguments, with their number of bytes, or None."""
         if "data" in given and "bytes" in given:
             self.columns["data"] = given["bytes"].column - len("bytes=")
             raise ScriptError("both", "data")
@@ -164,7 +164,7 @@ class Assembler(Reader):
         return None
 
     def argument(self, key: str, word: Word) -> int:
-        """An argument of a command; a format may be told by its name."""
+        """An argument of a command; a format may have its name."""
         if key == "format" and not word.text[:1].isdigit():
             self.columns[key] = word.column
             if word.text not in FORMAT_NAMED:

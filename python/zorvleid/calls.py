@@ -22,6 +22,12 @@ def entries_of_bytes(data: bytes) -> list[int]:
     return [int.from_bytes(data[at : at + 4], "little") for at in range(0, len(data), 4)]
 
 
+def formed(image: int, x: int, y: int, w: int, h: int, form: int | str) -> dict[str, int]:
+    """The arguments of a rectangle of an image, and of the format of its new texels."""
+    place = {"image": image, "x": x, "y": y, "w": w, "h": h}
+    return {**place, "format": format_number(form)}
+
+
 class Calls:
     """The commands of a stream."""
 
@@ -44,23 +50,15 @@ class Calls:
         self.command("SetToken", {"token": token})
 
     def set_bucket_size(self, *, bucket: int, size: int) -> None:
-        """Makes a bucket of so many zero bytes, unless it has this size."""
+        """Makes a bucket of `size` zero bytes, unless it has this size."""
         self.command("SetBucketSize", {"bucket": bucket, "size": size})
 
     def set_bucket_data(
         self, *, bucket: int, offset: int, size: int, memory: int, memory_offset: int
     ) -> None:
         """Writes bytes of a memory into a bucket."""
-        self.command(
-            "SetBucketData",
-            {
-                "bucket": bucket,
-                "offset": offset,
-                "size": size,
-                "memory": memory,
-                "memory_offset": memory_offset,
-            },
-        )
+        span = {"bucket": bucket, "offset": offset, "size": size}
+        self.command("SetBucketData", {**span, "memory": memory, "memory_offset": memory_offset})
 
     def set_bucket_data_immediate(
         self, *, bucket: int, offset: int, data: bytes | Sequence[int], size: int | None = None
@@ -100,16 +98,8 @@ class Calls:
         self, *, bucket: int, offset: int, size: int, memory: int, memory_offset: int
     ) -> None:
         """Writes bytes of a bucket into a result memory."""
-        self.command(
-            "GetBucketData",
-            {
-                "bucket": bucket,
-                "offset": offset,
-                "size": size,
-                "memory": memory,
-                "memory_offset": memory_offset,
-            },
-        )
+        span = {"bucket": bucket, "offset": offset, "size": size}
+        self.command("GetBucketData", {**span, "memory": memory, "memory_offset": memory_offset})
 
     def insert_fence(self, *, release: int) -> None:
         """Raises the release count of the stream."""
@@ -135,19 +125,8 @@ class Calls:
         self, *, source: int, x: int, y: int, target: int, x2: int, y2: int, w: int, h: int
     ) -> None:
         """Copies a rectangle at (x, y) of an image to (x2, y2) of another or of the same."""
-        self.command(
-            "CopyRect",
-            {
-                "source": source,
-                "x": x,
-                "y": y,
-                "target": target,
-                "x2": x2,
-                "y2": y2,
-                "w": w,
-                "h": h,
-            },
-        )
+        places = {"source": source, "x": x, "y": y, "target": target, "x2": x2, "y2": y2}
+        self.command("CopyRect", {**places, "w": w, "h": h})
 
     def upload_rect(
         self,
@@ -162,36 +141,15 @@ class Calls:
         memory_offset: int
     ) -> None:
         """Sets the texels of a rectangle from bytes of a memory."""
-        self.command(
-            "UploadRect",
-            {
-                "image": image,
-                "x": x,
-                "y": y,
-                "w": w,
-                "h": h,
-                "format": format_number(format),
-                "memory": memory,
-                "memory_offset": memory_offset,
-            },
-        )
+        rectangle = formed(image, x, y, w, h, format)
+        self.command("UploadRect", {**rectangle, "memory": memory, "memory_offset": memory_offset})
 
     def upload_bucket(
         self, *, image: int, x: int, y: int, w: int, h: int, format: int | str, bucket: int
     ) -> None:
         """Sets the texels of a rectangle from the first bytes of a bucket."""
-        self.command(
-            "UploadBucket",
-            {
-                "image": image,
-                "x": x,
-                "y": y,
-                "w": w,
-                "h": h,
-                "format": format_number(format),
-                "bucket": bucket,
-            },
-        )
+        rectangle = formed(image, x, y, w, h, format)
+        self.command("UploadBucket", {**rectangle, "bucket": bucket})
 
     def create_buffer(self, *, buffer: int, size: int) -> None:
         """Makes a buffer of zero bytes."""
@@ -205,16 +163,8 @@ class Calls:
         self, *, buffer: int, offset: int, size: int, memory: int, memory_offset: int
     ) -> None:
         """Writes bytes of a memory into a buffer."""
-        self.command(
-            "BufferData",
-            {
-                "buffer": buffer,
-                "offset": offset,
-                "size": size,
-                "memory": memory,
-                "memory_offset": memory_offset,
-            },
-        )
+        span = {"buffer": buffer, "offset": offset, "size": size}
+        self.command("BufferData", {**span, "memory": memory, "memory_offset": memory_offset})
 
     def upload_buffer(
         self,
@@ -229,19 +179,8 @@ class Calls:
         offset: int
     ) -> None:
         """Sets the texels of a rectangle from bytes of a buffer."""
-        self.command(
-            "UploadBuffer",
-            {
-                "image": image,
-                "x": x,
-                "y": y,
-                "w": w,
-                "h": h,
-                "format": format_number(format),
-                "buffer": buffer,
-                "offset": offset,
-            },
-        )
+        rectangle = formed(image, x, y, w, h, format)
+        self.command("UploadBuffer", {**rectangle, "buffer": buffer, "offset": offset})
 
     def wait_sync_token(self, *, namespace: int, id: int, release: int) -> None:
         """Waits until the stream of a name has come to a release."""

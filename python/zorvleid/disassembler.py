@@ -1,8 +1,7 @@
 """A script as a text of commands, which assembles to a script of the same actions.
 
-A command is named where its words were put one after the other, where the assembler would put it.
-Other words stand as they are: in a `word` line where the next command would go, and else in a `put`
-line.
+A command is named where the assembler would put its words, one after another. Other words stand as
+they are: in a `word` line where the next command would go, and else in a `put` line.
 """
 
 from collections import deque
@@ -18,7 +17,7 @@ INDENT = "  "
 
 
 class Listing:
-    """The lines of one stream, told as its ring fills."""
+    """The lines of one stream, made as its ring fills."""
 
     def __init__(self, stream: Stream) -> None:
         self.stream, self.ring = stream, Ring(stream.ring.size)
@@ -136,7 +135,7 @@ class Listing:
 
 
 def named(command: Command, arguments: dict[str, int], data: Sequence[int]) -> str:
-    """A command with its keys. Data of exactly the bytes that its size says is told as bytes."""
+    """A command with its keys. Data of exactly the bytes that its size says is written as bytes."""
     size = arguments.get("size", 0)
     stored = b"".join(word.to_bytes(4, "little") for word in data)
     if (
@@ -171,7 +170,7 @@ def lines_of(script: Script) -> Iterator[str]:
         lines = list(Listing(stream).lines())
         last = len(
             lines
-        )  # what is passed over before the next stream stands as far left as this one
+        )  # comments before the next stream stand as far left as this one
         while last and isinstance(stream.items[last - len(lines) - 1], Note):
             last -= 1
         yield from (INDENT + line if line and at < last else line for at, line in enumerate(lines))

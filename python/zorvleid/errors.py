@@ -55,16 +55,30 @@ MESSAGES = {
 }
 
 
+def printable(said: object) -> object:
+    """A text with an escape for each byte or letter that would not be seen."""
+    if not isinstance(said, str):
+        return said
+    return "".join(letter if letter.isprintable() else escape(ord(letter)) for letter in said)
+
+
+def escape(code: int) -> str:
+    r"""A letter as `\\x` and two digits, or more; bytes that are no text are 0xdc00 and above."""
+    return f"\\x{code - 0xDC00:02x}" if 0xDC80 <= code <= 0xDCFF else f"\\x{code:02x}"
+
+
 class ScriptError(ValueError):
-    """What is wrong, in one sentence: its name above, and the argument that it is about."""
+    """A fault in one sentence: its name above, and the argument that it is about."""
 
     def __init__(self, kind: str, at: str = "", /, **said: object) -> None:
-        super().__init__(MESSAGES[kind].format(**said))
+        super().__init__(
+            MESSAGES[kind].format(**{name: printable(it) for name, it in said.items()})
+        )
         self.kind, self.at = kind, at
 
 
 class Refused(ValueError):
-    """What is wrong with a text, and where: lines and columns count from 1."""
+    """A fault of a text with its place; lines and columns count from 1."""
 
     def __init__(self, file: str, line: int, column: int, error: ScriptError) -> None:
         super().__init__(f"{file}:{line}:{column}: {error}")

@@ -1,9 +1,8 @@
 """The reading of an output, line by line.
 
-`read_output` takes the bytes that `run` or `verify` wrote, of either version, and answers an
-`Output`, or raises `OutputRefused` with the number of the first line that cannot stand where it
-stands. What the lines say of each other, such as which order number a step belongs to, is not
-looked at.
+`read_output` takes the bytes that `run` or `verify` wrote, of either version. It gives an `Output`,
+or raises `OutputRefused` with the number of the first line that cannot stand in its place. It does
+not compare lines, such as a step and the order number that it belongs to.
 """
 
 import re
@@ -36,6 +35,9 @@ EVENTS = {
     "lost": re.compile(f"lost {NUMBER} (memory|[12346]{WORDS})"),
     "close": re.compile(f"close {NUMBER}"),
 }
+KINDS = {kind: kind for kind in EVENTS}  # one string of each, for all events
+# how many words of a line stand before those that were fetched
+WORDS_AFTER = {"step": 2, "lost": 3}
 HEAD = "gpu-journal 2"
 NAME = re.compile(f"name {NUMBER} {NUMBER} {LONG_NUMBER}")
 VERDICT = re.compile(f"yes events {NUMBER}")
@@ -69,9 +71,15 @@ class Event(NamedTuple):
     number: int  # the order number of an order or a finish
     actions: int  # of an order: how many actions stand before the flush
     code: str  # of a loss: its error, or `memory`
-    words: str  # of a step or a loss: its words as they are printed
     line: int
     text: str
+
+    @property
+    def words(self) -> str:
+        """The words of a step or a loss as they are printed, with a space before each."""
+        before = WORDS_AFTER.get(self.kind, 0)
+        parts = self.text.split(" ", before) if before else []
+        return f" {parts[before]}" if len(parts) > before else ""
 
     def fetched(self) -> list[tuple[int, int]]:
         """The places and values of its words."""
@@ -106,6 +114,11 @@ class StreamEnd(NamedTuple):
     errors: tuple[int, int, int]  # how often there were 0501, 0502 and 0505
     line: int
 
+    @property
+    def counts(self) -> tuple[int, ...]:
+        """All that was counted, in the order of its line."""
+        return (self.entries, self.release, self.token, self.words, *self.errors)
+
 
 class Mark(NamedTuple):
     """A wait that ended: who waited for what, and how it ended."""
@@ -130,7 +143,7 @@ class Dump(NamedTuple):
 
 
 class View(NamedTuple):
-    """What a viewer saw: so many events, and the sum of all texels after them."""
+    """A look of a viewer: the number of events, and the sum of all texels after them."""
 
     viewer: int
     events: int
@@ -139,7 +152,7 @@ class View(NamedTuple):
 
 @dataclass
 class Output:
-    """What was read of an output, part by part."""
+    """An output that was read, part by part."""
 
     version: int = 1
     is_verdict: bool = False
@@ -151,10 +164,7 @@ class Output:
     dumps: list[Dump] = field(default_factory=list)
     views: list[View] = field(default_factory=list)
     event_count: int = 0
-    picture: tuple[int, int] = (
-        0,
-        0,
-    )  # where the lines of the images begin and end, counted in lines from 0
+    picture: tuple[int, int] = (0, 0)  # the lines of the images, counted from 0: first, past last
 
 
 class Lines:
@@ -173,7 +183,7 @@ class Lines:
         return self.first + self.at
 
     def here(self) -> str:
-        """This line, or nothing behind the last one."""
+        """This line, or nothing after the last one."""
         return self.lines[self.at] if self.at < len(self.lines) else ""
 
     def starts(self, word: str) -> bool:
@@ -200,22 +210,19 @@ def words_of(text: str) -> list[tuple[int, int]]:
 
 def read_event(text: str, line: int) -> Event | None:
     """The event of a line, or None where it is no event's."""
-    kind = text.partition(" ")[0]
-    found = EVENTS[kind].fullmatch(text) if kind in EVENTS else None
+    kind = KINDS.get(text.partition(" ")[0], "")
+    found = EVENTS[kind].fullmatch(text) if kind else None
     if found is None:
         return None
-    parts = found.groups()
-    stream, number, actions, code, words = int(parts[0]), 0, 0, "", ""
+    number, actions, code = 0, 0, ""
     match kind:
         case "order":
-            number, actions = int(parts[1]), int(parts[2])
+            number, actions = int(found[2]), int(found[3])
         case "finish":
-            number = int(parts[1])
-        case "step":
-            words = parts[1]
+            number = int(found[2])
         case "lost":
-            code, words = parts[1].partition(" ")[0], parts[2] or ""
-    return Event(kind, stream, number, actions, code, words, line, text)
+            code = found[2].partition(" ")[0]
+    return Event(kind, int(found[1]), number, actions, code, line, text)
 
 
 def read_head(lines: Lines, output: Output) -> None:
@@ -308,7 +315,7 @@ def read_endings(lines: Lines, output: Output) -> None:
 
 
 def read_output(data: bytes) -> Output:
-    """What an output says; the output of `verify` has images alone."""
+    """The content of an output; the output of `verify` has images alone."""
     lines, output = Lines(data), Output()
     if (found := lines.take(VERDICT)) is not None:
         output.is_verdict, output.event_count = True, int(found[1])
@@ -322,3 +329,9 @@ def read_output(data: bytes) -> Output:
     if lines.at < len(lines.lines):
         lines.refuse()
     return output
+
+
+def picture_text(data: bytes, output: Output) -> bytes:
+    """The lines of the images, as bytes."""
+    begin, end = output.picture
+    return b"".join(line + b"\n" for line in data.split(b"\n")[begin:end])

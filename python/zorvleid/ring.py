@@ -8,7 +8,7 @@ from bisect import bisect_left
 
 from .commands import SET_TOKEN, parts_of
 
-FETCHED_AT_MOST = 1_048_576  # after so many commands a stream is lost, whatever it has put
+FETCHED_AT_MOST = 1_048_576  # after this many commands a stream is lost, whatever it has put
 
 
 class Ring:

@@ -1,8 +1,7 @@
-"""Scripts as values: a `Script` of `Stream`s, each with what its client does, line by line.
+"""Scripts as values: a `Script` of `Stream`s, each with its client's actions, line by line.
 
-Every call looks at what the reader of the program looks at, so the text of a script is one that
-`check` takes. A command is put where the one before it ended, as a careful client would put it:
-`Stream` says what that means.
+Every call checks what the program's reader checks, so `check` takes the text of a script. A command
+goes where the one before it ended, as a careful client would put it: see `Stream`.
 """
 
 from collections.abc import Iterable, Iterator, Mapping, Sequence
@@ -107,20 +106,19 @@ def within(what: str, number: int, greatest: int, least: int = 0) -> int:
 
 @dataclass
 class _Counts:
-    """What is counted over all streams of a script."""
+    """The counts over all streams of a script."""
 
     actions: int = 0
     flushes: int = 0
 
 
 class Stream(Calls):
-    """What one client does. `script.stream(..)` makes one.
+    """The actions of one client. `script.stream(..)` makes one.
 
-    A command goes behind the one before it, and a Noop fills the end of the ring where the command
-    does not fit. An entry that no `flush` has handed over, or that no `finish` or `token` has
-    freed, is not overwritten: that is an error, or a `finish` goes before where the script
-    `awaits`. Within `with stream.unchecked():` it is overwritten, as a client does that races with
-    the service.
+    A command goes after the one before it. A Noop fills the end of the ring where the command does
+    not fit. A careful client overwrites no entry before `flush` has handed it over and `finish` or
+    `token` has freed it: that is an error, or a `finish` goes before where the script `awaits`.
+    Within `with stream.unchecked():` it is overwritten, as by a client that races with the service.
     """
 
     def __init__(
@@ -237,7 +235,7 @@ class Stream(Calls):
     # --- The other actions ---
 
     def flush(self, put: int | None = None, after: Iterable[Fence] = ()) -> None:
-        """Hands over what was put, or the ring up to a place, behind fences."""
+        """Hands over the words that were put, or the ring up to a place, after fences."""
         ring = self.ring
         if put is None and ring.pending >= ring.size:
             raise ScriptError("full", count=ring.pending, ring=ring.size, most=ring.size - 1)
@@ -298,7 +296,7 @@ class Stream(Calls):
     # --- What all of them share ---
 
     def _act(self, count: int) -> None:
-        """Counts actions, which have to be allowed here."""
+        """Counts actions, where they are allowed."""
         if self._is_closed:
             raise ScriptError("closed")
         if self._counts.actions + count > ACTIONS_AT_MOST:
@@ -450,7 +448,7 @@ class Script:
         return self.streams[-1]
 
     def note(self, text: str) -> None:
-        """Adds lines that are passed over, after what stands there so far."""
+        """Adds lines that the reader passes over, after the lines so far."""
         if self.streams:
             self.streams[-1].note(text)
         else:

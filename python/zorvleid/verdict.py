@@ -1,4 +1,4 @@
-"""What the program says of a journal: `verify` runs it, and answers a `Verdict`."""
+"""The program's verdict on a journal: `verify` runs it, and gives a `Verdict`."""
 
 import os
 import re

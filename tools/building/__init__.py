@@ -1,1 +1,1 @@
-"""What tools/prove_crates, which proves the crates of the program side by side, is made of."""
+"""The parts of tools/prove_crates, which proves the crates of the program side by side."""

@@ -16,7 +16,7 @@ Libraries = Mapping[str, list[str]]
 
 @dataclass(frozen=True)
 class Seconds:
-    """What a crate takes of a processor: its proof, its tests' proof and its edits.
+    """The seconds that a crate takes of a processor: its proof, its tests' proof and its edits.
 
     None stands for what nobody measured.
     """

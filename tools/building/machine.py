@@ -1,4 +1,4 @@
-"""What this machine has for a build, within the limits of a container."""
+"""The processors and the memory of this machine for a build, within the limits of a container."""
 
 import os
 import re

@@ -1,4 +1,4 @@
-"""Which crate is proved next, with how many jobs, and how long all may take.
+"""The order of the crates, their jobs, and the seconds that all may take.
 
 A crate begins once all that it stands on is proved. Of those that may begin, that one comes first
 with which the longest chain of proofs begins.

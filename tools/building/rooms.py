@@ -1,8 +1,8 @@
 """A room for each proof: a small repository of one crate and those that it stands on.
 
-A command of the toolchain keeps all others out of the folders of its crate and of all crates below,
-so side by side each one needs copies of them. A room is in its crate's folder out. What it made is
-brought home by renaming, so at home a library stands whole or not at all.
+A command of the toolchain keeps all others out of the folders of its crate and of all crates below.
+So each command that runs beside others needs copies of them. A room is in its crate's folder out.
+Its results are brought home by renaming, so at home a library is whole or not there.
 """
 
 import errno
@@ -91,7 +91,7 @@ def link_or_copy(one: str, other: str) -> None:
 
 
 def move(one: Path, other: Path) -> None:
-    """Puts a file or a folder, where there is one, in the place of another."""
+    """Puts a file or a folder, where there is one, instead of another."""
     if not one.exists():
         return
     gone = one.with_name(f"{one.name}.old")

@@ -1,4 +1,4 @@
-"""Which libraries stand: those beside which the sum of all that they are made from still stands."""
+"""The libraries that are up to date: each has the sum of all its sources beside it."""
 
 import hashlib
 from collections.abc import Mapping

@@ -29,7 +29,7 @@ class Teller:
             print(text, file=sys.stderr, flush=True)
 
     def event(self, text: str) -> None:
-        """What happened to one crate: a terminal shows it in its one line."""
+        """An event of one crate: a terminal shows it in its one line."""
         if not self.is_terminal:
             self.say(text)
 

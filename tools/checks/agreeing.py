@@ -1,8 +1,8 @@
-"""Sees that tables and names of the documents agree with the sources.
+"""Checks that tables and names of the documents agree with the sources.
 
-In docs/FORMATS.md that are the commands, the statuses, the checks and the rules; in docs/TESTS.md
-the names of tests; in README.md the toolchain; and the version wherever it stands. What
-docs/DEFINITIONS.md calls half an hour is counted too.
+In docs/FORMATS.md they are the commands, the statuses, the checks and the rules; in docs/TESTS.md
+the names of tests; in README.md the toolchain; and the version everywhere. The part also counts
+what docs/DEFINITIONS.md calls half an hour.
 """
 
 import re
@@ -11,8 +11,8 @@ import subprocess
 from collections.abc import Iterator
 from pathlib import Path
 
-from checks import prose
-from checks.tally import Tally
+from tools.checks import prose
+from tools.checks.tally import Tally
 
 FORMATS, TESTS, DEFINITIONS = (
     Path("docs/FORMATS.md"),
@@ -44,7 +44,7 @@ def text_of(top: Path, path: Path | str) -> str:
 
 
 def part_of(text: str, title: str) -> str:
-    """What stands below a heading of the second level."""
+    """The text below a heading of the second level."""
     return text.partition(f"\n## {title}\n")[2].partition("\n## ")[0]
 
 
@@ -132,19 +132,23 @@ def half_hour(top: Path) -> Iterator[tuple[str, str | None]]:
 
 
 def check_toolchain(top: Path, tally: Tally) -> None:
-    """The toolchain that README.md names is the one that is here."""
+    """The logic that README.md names is that of the toolchain here.
+
+    Kits of other names may have the same one.
+    """
     if shutil.which("rt") is None:
         tally.skip("the toolchain of README.md", "rt is missing")
         return
     said = subprocess.run(
         ["rt", "version"], capture_output=True, text=True, check=False
     ).stdout.strip()
-    same = said and f"`{said}`" in text_of(top, "README.md")
+    logic = said.partition(" ")[2]
+    same = logic and f"`{logic}`" in text_of(top, "README.md")
     tally.tell("README.md: the toolchain", None if same else f"rt version says '{said}'")
 
 
 def check(top: Path, _program: Path, tally: Tally) -> None:
-    """Tells of each name and each row of the documents that does not agree with the sources."""
+    """Reports each name and each row of the documents that does not agree with the sources."""
     for where, items in (
         (FORMATS, commands(top)),
         (FORMATS, statuses(top)),

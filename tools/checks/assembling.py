@@ -1,9 +1,9 @@
 """Texts of commands: what `assemble` and `disassemble` make, and why a text is refused.
 
-A script and what its text assembles to have to give the same bytes, by `run` and by `check`: those
-of the examples, of tests/cases, and of 300 seeds of tests/hostile.py. Of the 1,000 texts of
-tests/command_texts.py each command has to be executed. Each fault of tests/command_faults.tsv is
-told as it stands there, and every sentence of a fault has its case.
+A script and its assembled text must give the same bytes, by `run` and by `check`. The scripts are
+those of the examples, of tests/cases, and of 300 seeds of tests/hostile.py. Each command of the
+1,000 texts of tests/command_texts.py must be executed. Each fault of tests/command_faults.tsv is
+reported in its words, and every sentence of a fault has its case.
 """
 
 import os
@@ -14,10 +14,9 @@ from concurrent.futures import ThreadPoolExecutor
 from pathlib import Path
 from typing import Any
 
-import command_texts
-import hostile
-import large
-from checks import workers as runs
+from tests import command_texts, hostile, large
+from tools.checks import workers as runs
+from tools.checks.tally import Tally
 from zorvleid import (
     Refused,
     Script,
@@ -40,8 +39,8 @@ REFUSED_LINE = re.compile(r"refused: line (\d+): \w+\n")
 HEAD = "gpu-commands 1\nstream 1 normal 16\n"
 
 
-def check(top: Path, program: Path, tally: Any) -> None:
-    """Tells a fault for each text, script or message that is not as it has to be."""
+def check(top: Path, program: Path, tally: Tally) -> None:
+    """Reports each text, script or message that is wrong."""
     check_examples(top, tally)
     with ThreadPoolExecutor(os.cpu_count()) as pool:
         check_scripts(pool, program, tally, "a script and its text", stored(top))
@@ -56,7 +55,7 @@ def check(top: Path, program: Path, tally: Any) -> None:
     check_calls(top, tally)
 
 
-def check_large(top: Path, program: Path, tally: Any) -> None:
+def check_large(top: Path, program: Path, tally: Tally) -> None:
     """The same, with the cases that are too large to be stored, and long hostile scripts."""
     check(top, program, tally)
     scripts = (
@@ -78,11 +77,11 @@ def check_large(top: Path, program: Path, tally: Any) -> None:
 # --- Scripts and texts ---
 
 
-def check_examples(top: Path, tally: Any) -> None:
+def check_examples(top: Path, tally: Tally) -> None:
     """An example stands as a text and as a script, which are made of each other."""
     for script in sorted((top / "examples").glob("*.script")):
         text = script.with_suffix(".commands")
-        fault = f"{text.name} is missing"
+        fault: str | None = f"{text.name} is missing"
         if text.exists():
             made, told = assemble(text.read_bytes(), text.name).text(), disassemble(
                 read_script(script.read_bytes())
@@ -129,7 +128,7 @@ def short_inputs(top: Path) -> Iterator[tuple[str, bytes]]:
 def check_scripts(
     pool: ThreadPoolExecutor,
     program: Path,
-    tally: Any,
+    tally: Tally,
     name: str,
     scripts: Iterator[tuple[str, bytes]],
 ) -> None:
@@ -170,7 +169,7 @@ def fault_of_script(program: Path, data: bytes) -> str | None:
 
 
 def fault_of_text(program: Path, seed: int) -> str | None:
-    """Which command of a random text is lost, or None."""
+    """The lost command of a random text, or None."""
     text = command_texts.text(seed)
     try:
         script = assemble(str(text), awaits=text.awaits).text().encode()
@@ -195,8 +194,8 @@ def fault_of_text(program: Path, seed: int) -> str | None:
 # --- Faults ---
 
 
-def check_faults(top: Path, tally: Any) -> None:
-    """Each fault is told in one line, and each sentence has its case."""
+def check_faults(top: Path, tally: Tally) -> None:
+    """Each fault is one line, and each sentence has its case."""
     kinds = set()
     for line in (top / FAULTS).read_text(encoding="utf-8").splitlines()[1:]:
         kind, at, why, what, escaped = line.split("\t")
@@ -216,7 +215,7 @@ def check_faults(top: Path, tally: Any) -> None:
             fault_of_refusal(kind, None, lambda: assemble(text).text()),
         )
     left = sorted(errors.MESSAGES.keys() - kinds)
-    tally.tell(FAULTS, f"it has no case of {left}" if left else None)
+    tally.tell(str(FAULTS), f"it has no case of {left}" if left else None)
 
 
 def too_much() -> Iterator[tuple[str, str]]:
@@ -227,7 +226,7 @@ def too_much() -> Iterator[tuple[str, str]]:
 
 
 def fault_of_refusal(kind: str, wanted: str | None, make: Callable[[], object]) -> str | None:
-    """How something is not refused as it has to be, or None."""
+    """The fault of a refusal, or None."""
     try:
         make()
     except (Refused, ScriptError) as refused:
@@ -236,7 +235,7 @@ def fault_of_refusal(kind: str, wanted: str | None, make: Callable[[], object]) 
     return "it is not refused"
 
 
-def check_document(top: Path, tally: Any) -> None:
+def check_document(top: Path, tally: Tally) -> None:
     """The document has each sentence of a fault, the keys, and a text with its script."""
     text = (top / FORMATS).read_text(encoding="utf-8")
     part = text.partition("\n## The text of commands\n")[2].partition("\n## ")[0]
@@ -270,14 +269,14 @@ def check_document(top: Path, tally: Any) -> None:
 # --- Calls and words ---
 
 
-def check_calls(top: Path, tally: Any) -> None:
-    """`assemble` and `disassemble` as they are called, and with what is wrong."""
+def check_calls(top: Path, tally: Tally) -> None:
+    """`assemble` and `disassemble` as they are called, also with faults."""
     text, script = top / "examples/compositor.commands", top / "examples/compositor.script"
     full = HEAD + "Noop size=8\nflush\nNoop size=8\nflush\nInsertFence release=1\nflush\n"
     awaited = (
         "put 0 00000008\nflush 8\nput 8 00000008\nflush 0\nfinish\nput 0 20000003 1 0\nflush 3\n"
     )
-    calls = (
+    calls: tuple[tuple[list[str | Path], str, int, str, str | None], ...] = (
         (["assemble", text], "", 0, script.read_text(), ""),
         (["assemble"], text.read_text(), 0, script.read_text(), ""),
         (["assemble", "-"], text.read_text(), 0, script.read_text(), ""),
@@ -313,25 +312,25 @@ def check_calls(top: Path, tally: Any) -> None:
         (["assemble", "--wait"], "", 2, "", None),
         (["assemble", text, text], "", 2, "", None),
     )
-    for words, given, *wanted in calls:
+    for words, given, status, output, said in calls:
         ran = subprocess.run(
             [top / "zorvleid", *words], input=given, capture_output=True, text=True, check=False
         )
-        is_so = [ran.returncode, ran.stdout] == wanted[:2] and wanted[2] in (None, ran.stderr)
+        is_so = (ran.returncode, ran.stdout) == (status, output) and said in (None, ran.stderr)
         lines = ran.stderr.count("\n") + (ran.returncode == 2)
         is_so = (
-            is_so and (wanted[2] is not None or 1 <= lines <= 3) and "Traceback" not in ran.stderr
+            is_so and (said is not None or 1 <= lines <= 3) and "Traceback" not in ran.stderr
         )
         tally.tell(f"zorvleid {' '.join(map(str, words))}", None if is_so else f"{ran}"[:1000])
     with open("/dev/full", "wb") as full_device:
-        ran = subprocess.run(
+        written = subprocess.run(
             [top / "zorvleid", "assemble", text],
             stdout=full_device,
             stderr=subprocess.PIPE,
             check=False,
         )
-        is_so = ran.returncode == 4 and ran.stderr.count(b"\n") == 1
-        tally.tell("zorvleid assemble onto a full device", None if is_so else str(ran))
+        is_so = written.returncode == 4 and written.stderr.count(b"\n") == 1
+        tally.tell("zorvleid assemble onto a full device", None if is_so else str(written))
     made = Script()
     made.stream(ring=16).noop()
     tally.tell(

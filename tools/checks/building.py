@@ -1,4 +1,4 @@
-"""tools/build with a stub for the toolchain: what is proved when, and what faults leave."""
+"""tools/build with a stub for the toolchain: the order of the proofs, and what faults leave."""
 
 import contextlib
 import os
@@ -9,8 +9,7 @@ import subprocess
 import sys
 from pathlib import Path
 
-from building.plan import lanes
-
+from tools.building.plan import lanes
 from .stub_toolchain import MADE_OF, Place, at_once, place
 from .tally import Tally
 
@@ -42,7 +41,7 @@ def unlike(wanted: object, got: object) -> str | None:
 
 
 def one_line(ran: "subprocess.CompletedProcess[str]", status: int, *words: str) -> str | None:
-    """A fault unless a build ended so, and said nothing but one line that has these words."""
+    """A fault unless a build ended with this status and printed only one line with these words."""
     is_so = (ran.returncode, ran.stdout, ran.stderr.count("\n")) == (status, "", 1)
     return None if is_so and all(it in ran.stderr for it in words) else f"it ended with {ran}"
 
@@ -93,7 +92,7 @@ def check_machines(top: Path, tally: Tally) -> None:
     two = sorted(os.sched_getaffinity(0))[:2]
     keep = f"import os, sys; os.sched_setaffinity(0, {two}); os.execv(sys.argv[1], sys.argv[1:])"
     with place(top) as it:
-        words = [sys.executable, "-c", keep, it.top / "tools/build"]
+        words = [sys.executable, "-c", keep, str(it.top / "tools/build")]
         ran = subprocess.run(words, env=it.environment(), check=False)
         jobs = max((event.jobs for event in it.events() if event.kind == "begin"), default=9)
         is_so = ran.returncode == 0 and max(at_once(it.events()), jobs) <= len(two)
@@ -174,7 +173,7 @@ def check_faults(top: Path, tally: Tally) -> None:
 
 
 def check_edits(top: Path, tally: Tally) -> None:
-    """What was built stays where an edit is not proved; one while it builds makes it old."""
+    """A built library stays where an edit is not proved; an edit during a build makes it old."""
     with place(top) as it:
         it.build()
         it.edit("long")
@@ -184,8 +183,8 @@ def check_edits(top: Path, tally: Tally) -> None:
         tally.tell("what it leaves", it.left_over() or unlike("the sources of long\n", stands))
         ran = it.build(STUB_FAULT="script_main:1")
         tally.tell("a program that is not proved", one_line(ran, 126, "script_main is not proved"))
-        stands = it.out("script_main", "script_main").exists()
-        tally.tell("the program of before", unlike(True, stands))
+        is_there = it.out("script_main", "script_main").exists()
+        tally.tell("the program of before", unlike(True, is_there))
     with place(top) as it:
         ran = it.build(STUB_FAULT="long:edit")
         tally.tell("an edit while it builds", one_line(ran, 126, "no program that is newer"))
@@ -220,7 +219,7 @@ def check_terminal(top: Path, tally: Tally) -> None:
     """A terminal has one line that is written anew, between the first line and the last."""
     with place(top) as it:
         ours, theirs = pty.openpty()
-        words = [it.top / "tools/build", "--jobs", "2"]
+        words = [str(it.top / "tools/build"), "--jobs", "2"]
         where = it.environment()
         with subprocess.Popen(words, stdin=subprocess.DEVNULL, stderr=theirs, env=where) as ran:
             os.close(theirs)
@@ -250,7 +249,7 @@ PARTS = (
 
 
 def check(top: Path, program: Path, tally: Tally) -> None:
-    """Tells a fault for each way in which a build is not as tools/build says."""
+    """Reports each way in which a build differs from the head of tools/build."""
     for part in PARTS:
         try:
             part(top, tally)

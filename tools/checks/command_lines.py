@@ -1,9 +1,9 @@
-"""Command lines, names of outputs and refused inputs, in a tree without a program and in a built one.
+"""Command lines, names of outputs and refused inputs, in a tree with and without a program.
 
-tests/command_lines.tsv has command lines that are refused, with their statuses and what standard error
-says; so they are the same without a program and without a toolchain on the path. The table of commands
-agrees with the program on which lines are right. Each refused script and journal of the cases gets a
-second line, and shellcheck has nothing to say about the shell scripts.
+tests/command_lines.tsv has refused command lines, with their statuses and what standard error says.
+They are the same without a program and without a toolchain on the path. The table of commands and
+the program accept the same lines. Each refused script and journal of the cases gets a second line,
+and shellcheck has nothing to say about the shell scripts.
 """
 
 import os
@@ -18,10 +18,10 @@ from dataclasses import dataclass
 from itertools import product
 from pathlib import Path
 
-from checks.tally import Tally
+from tools.checks.tally import Tally
+from tools.places import PROGRAM
 
 ROWS = Path("tests/command_lines.tsv")
-PROGRAM = Path("crates/script_main/out/script_main")
 PARTS = ("zorvleid", "command_line", "view", "python", "docs", "examples", "crates.txt", "HANDLES")
 COMMANDS = ("sh", "cat", "dirname", "readlink", "find", "head", "mktemp", "rm")
 SHELL = ("zorvleid", "tools/build", ".ci/run", "view/run")
@@ -31,7 +31,7 @@ SECONDS, WORKERS = 600, 4
 
 @dataclass(frozen=True)
 class Ran:
-    """What a command line gave."""
+    """The answer to a command line."""
 
     status: int
     output: bytes
@@ -45,8 +45,10 @@ class Tree:
         self.top, self.path = folder / "tree", folder / "path"
         self.top.mkdir()
         for name in PARTS:
-            copy = shutil.copytree if (top / name).is_dir() else shutil.copy
-            copy(top / name, self.top / name)
+            if (top / name).is_dir():
+                shutil.copytree(top / name, self.top / name)
+            else:
+                shutil.copy(top / name, self.top / name)
         (self.top / "tools").mkdir()
         shutil.copy(top / "tools/build", self.top / "tools/build")
         for part in ("src", "specs", "proofs"):
@@ -63,22 +65,25 @@ class Tree:
 
     def run(self, words: Sequence[str], data: bytes = b"", cwd: Path | None = None) -> Ran:
         """Runs a command line on an input."""
-        ran = subprocess.run([self.top / "zorvleid", *words], input=data, capture_output=True, check=False,
-                             cwd=cwd or self.top, env={"PATH": str(self.path)}, timeout=SECONDS)
+        ran = subprocess.run([self.top / "zorvleid", *words], input=data, capture_output=True,
+                             check=False, cwd=cwd or self.top, env={"PATH": str(self.path)},
+                             timeout=SECONDS)
         return Ran(ran.returncode, ran.stdout, ran.stderr.decode())
 
     def shell(self, line: str, data: bytes = b"") -> Ran:
         """Runs a line of the shell, in which $Z is the command."""
-        ran = subprocess.run(["sh", "-c", line], input=data, capture_output=True, check=False, cwd=self.top,
-                             env={"PATH": str(self.path), "Z": str(self.top / "zorvleid")}, timeout=SECONDS)
+        ran = subprocess.run(["sh", "-c", line], input=data, capture_output=True, check=False,
+                             cwd=self.top,
+                             env={"PATH": str(self.path), "Z": str(self.top / "zorvleid")},
+                             timeout=SECONDS)
         return Ran(ran.returncode, ran.stdout, ran.stderr.decode())
 
 
 def check(top: Path, program: Path, tally: Tally) -> None:
-    """Tells a fault for each command line, name and input that is not answered as it has to be."""
+    """Reports each command line, name and input with a wrong answer."""
     rows = [line.split("\t") for line in (top / ROWS).read_text().split("\n")[1:-1]]
     enough = len(rows) >= LEAST["command lines"]
-    tally.tell(ROWS, None if enough else f"it has {len(rows)} rows")
+    tally.tell(str(ROWS), None if enough else f"it has {len(rows)} rows")
     check_agreement(program, tally)
     check_second_lines(top, program, tally)
     check_shell_scripts(top, tally)
@@ -98,7 +103,7 @@ def check(top: Path, program: Path, tally: Tally) -> None:
 
 
 def told(got: object, wanted: object) -> str | None:
-    """What is wrong where something else was wanted."""
+    """The fault of an answer that differs from the wanted one."""
     return None if got == wanted else f"wanted {wanted!r}, got {got!r}"
 
 
@@ -107,38 +112,53 @@ def told(got: object, wanted: object) -> str | None:
 
 def check_rows(tree: Tree, rows: Sequence[Sequence[str]], state: str, tally: Tally) -> None:
     """Each refused line is answered with its status and its line, and with no output."""
-    lines = [[word.encode().decode("unicode_escape") for word in shlex.split(row[0])] for row in rows]
+    lines = [
+        [word.encode().decode("unicode_escape") for word in shlex.split(row[0])] for row in rows
+    ]
     with ThreadPoolExecutor(WORKERS) as pool:
         for (text, status, said), ran in zip(rows, pool.map(tree.run, lines)):
             tally.tell(f"zorvleid {text} ({state})", told(ran, Ran(int(status), b"", said + "\n")))
 
 
 def check_answers(tree: Tree, state: str, tally: Tally) -> None:
-    """The help and the version are written at once, and a run gives its output or asks for the toolchain."""
-    for line in ("-h", "--help", "help", "help help", "help run", "run --help", "run --workers 4 -h", "verify x --help",
+    """Help and version are printed at once; a run gives its output or asks for the toolchain."""
+    for line in ("-h", "--help", "help", "help help", "help run", "run --help",
+                 "run --workers 4 -h", "verify x --help",
                  "generate --help", "help timeline", "pictures --help", "explain -h"):
         ran = tree.run(line.split())
         is_help = (ran.status, ran.said) == (0, "") and ran.output.startswith(b"usage: ./zorvleid ")
         tally.tell(f"zorvleid {line} ({state})", None if is_help else str(ran))
     part = tree.run(["help", "run"]).output.decode()
-    has_part = all(word in part for word in ("--workers N", "--views V", "[FILE]")) and "--scale" not in part
+    has_part = (
+        all(word in part for word in ("--workers N", "--views V", "[FILE]"))
+        and "--scale" not in part
+    )
     tally.tell(f"the part of run ({state})", None if has_part else part)
     output = (tree.top / "examples/two_texels.stdout").read_bytes()
-    for line in ("run examples/two_texels.script", "run --workers 0 examples/two_texels.script", "run --workers=0 "
-                 "examples/two_texels.script", "run - < examples/two_texels.script", "run < examples/two_texels.script",
-                 "run --workers 2 examples/two_texels.script", "run /dev/stdin < examples/two_texels.script",
-                 "run ./examples/../examples/two_texels.script", "cat examples/two_texels.script | $Z run"):
+    for line in (
+        "run examples/two_texels.script",
+        "run --workers 0 examples/two_texels.script",
+        "run --workers=0 examples/two_texels.script",
+        "run - < examples/two_texels.script",
+        "run < examples/two_texels.script",
+        "run --workers 2 examples/two_texels.script",
+        "run /dev/stdin < examples/two_texels.script",
+        "run ./examples/../examples/two_texels.script",
+        "cat examples/two_texels.script | $Z run",
+    ):
         ran = tree.shell(line if "$Z" in line else f"$Z {line}")
         if state == "built":
             tally.tell(f"zorvleid {line} ({state})", told(ran, Ran(0, output, "")))
         else:
-            asks = (ran.status, ran.output, ran.said.count("\n")) == (127, b"", 1) and "(rt)" in ran.said
+            counts = (ran.status, ran.output, ran.said.count("\n"))
+            asks = counts == (127, b"", 1) and "(rt)" in ran.said
             tally.tell(f"zorvleid {line} ({state})", None if asks else str(ran))
 
 
 def lines_of_the_program() -> Iterator[tuple[str, ...]]:
     """Command lines for the program, right ones and wrong ones, without the names of files."""
-    options = ("--workers", "--workers=0", "--workers=8", "--workers=9", "--views", "--views=2", "-x")
+    options = ("--workers", "--workers=0", "--workers=8", "--workers=9", "--views", "--views=2",
+               "-x")
     for command in ("run", "check", "verify"):
         yield (command,)
         for first in options:
@@ -152,17 +172,20 @@ def lines_of_the_program() -> Iterator[tuple[str, ...]]:
         yield "run", f"--workers={workers}", "--views", views
         yield "run", "--views", views, "--workers", workers
         yield "run", "--workers", workers, f"--views={views}"
-    numbers = ("0", "1", "2000", "2001", "0001", "4294967295", "4294967296", "00000000001", "-1", "x", "1e3", "")
+    numbers = ("0", "1", "2000", "2001", "0001", "4294967295", "4294967296", "00000000001", "-1",
+               "x", "1e3", "")
     for command in ("generate", "trial"):
         yield (command,)
         yield from ((command, size) for size in numbers)
         yield from ((command, "1", seed) for seed in numbers)
-        yield from ((command, size, "1") for size in numbers if command == "generate" or size != "2000")
+        yield from (
+            (command, size, "1") for size in numbers if command == "generate" or size != "2000"
+        )
         yield command, "1", "1", "1"
 
 
 def names_file(words: Sequence[str]) -> bool:
-    """Whether the script takes the last word for the name of a file, which the program is not given."""
+    """Whether the script takes the last word for the name of a file, and keeps it."""
     if words[0] in ("generate", "trial") or len(words) == 1:
         return False
     return words[-2] not in ("--workers", "--views") and not words[-1].startswith("-")
@@ -176,7 +199,9 @@ def check_agreement(program: Path, tally: Tally) -> None:
     for words in lines_of_the_program():
         if names_file(words):
             continue
-        ran = subprocess.run([program, *words], stdin=subprocess.DEVNULL, capture_output=True, check=False)
+        ran = subprocess.run(
+            [program, *words], stdin=subprocess.DEVNULL, capture_output=True, check=False
+        )
         is_right, why = ran.returncode != 2, judge.reason(words)
         counts["right lines" if is_right else "wrong lines"] += 1
         fault = f"the program {'takes' if is_right else 'refuses'} it, and the table says {why!r}"
@@ -190,14 +215,14 @@ def check_agreement(program: Path, tally: Tally) -> None:
 
 @dataclass(frozen=True)
 class Name:
-    """A way to name the output of `timeline`: what is there before, the command line, and what has to come."""
+    """A name for the output of `timeline`: the files before, the command line, and its results."""
 
     what: str
     before: str
     line: str
     status: int = 0
     said: str = ""
-    after: str = ":"  # a line of the shell that ends with 0 where all is as it has to be
+    after: str = ":"  # a line of the shell that ends with 0 where all is right
 
 
 PAGE = "grep -q '<!DOCTYPE html>' {0} && tail -n 1 {0} | grep -q '</html>'"
@@ -214,20 +239,27 @@ NAMES = (
     Name("a loop of links", "ln -s two one; ln -s one two", "--page one", 4,
          "write fault: one: Too many levels of symbolic links", "[ -h one ] && [ -h two ]"),
     Name("standard output", ":", "--page - > page", after=PAGE.format("page")),
-    Name("the device of standard output", ":", "--page /dev/stdout > page", after=PAGE.format("page")),
+    Name("the device of standard output", ":", "--page /dev/stdout > page",
+         after=PAGE.format("page")),
     Name("what is appended to", "echo kept > page", "--page /dev/stdout >> page",
          after=f"head -n 1 page | grep -q kept && {PAGE.format('page')}"),
     Name("another descriptor", ":", "--page /dev/fd/7 7> page", after=PAGE.format("page")),
-    Name("a closed descriptor", ":", "--page /dev/fd/9", 4, "write fault: /dev/fd/9: Bad file descriptor"),
+    Name("a closed descriptor", ":", "--page /dev/fd/9", 4,
+         "write fault: /dev/fd/9: Bad file descriptor"),
     Name("the null device", ":", "--page /dev/null", after="[ -c /dev/null ]"),
-    Name("a full device", ":", "--page /dev/full", 4, "write fault: /dev/full: No space left on device",
+    Name("a full device", ":", "--page /dev/full", 4,
+         "write fault: /dev/full: No space left on device",
          "[ -c /dev/full ]"),
     Name("a pipe", "mkfifo pipe; cat pipe > page &", "--page pipe",
          after=f"[ -p pipe ] && sleep 0.5 && {PAGE.format('page')}"),
-    Name("a folder", "mkdir f", "--page f", 2, "bad command line: f is a folder, and no file", "[ -d f ]"),
-    Name("a folder that is not there", ":", "--page f/", 2, "bad command line: f/ is a folder, and no file"),
-    Name("no folder above", ":", "--page f/page", 4, "write fault: f/page: No such file or directory"),
-    Name("an empty name", ":", "--page ''", 2, "bad command line: --page takes the name of a file, not ''"),
+    Name("a folder", "mkdir f", "--page f", 2, "bad command line: f is a folder, and no file",
+         "[ -d f ]"),
+    Name("a folder that is not there", ":", "--page f/", 2,
+         "bad command line: f/ is a folder, and no file"),
+    Name("no folder above", ":", "--page f/page", 4,
+         "write fault: f/page: No such file or directory"),
+    Name("an empty name", ":", "--page ''", 2,
+         "bad command line: --page takes the name of a file, not ''"),
     Name("one file for both", "echo old > page", "--page page --trace page", 2,
          "bad command line: page is named twice", "grep -q old page"),
     Name("one file by two names", "echo old > page; ln -s page link", "--page page --trace link", 2,
@@ -251,17 +283,20 @@ def check_outputs(tree: Tree, folder: Path, state: str, tally: Tally) -> None:
         here.mkdir()
         line = f"{name.before}\n$Z timeline {name.line} < $O; s=$?\n{name.after} || s=after\n"
         line += "[ -z \"$(find . -name '.*.part')\" ] || s=parts\n[ $s = 0 ] || echo $s"
-        ran = subprocess.run(["sh", "-c", line], capture_output=True, text=True, check=False, cwd=here,
+        ran = subprocess.run(["sh", "-c", line], capture_output=True, text=True, check=False,
+                             cwd=here,
                              env=env, timeout=SECONDS)
         return ran.stdout, ran.stderr
 
     with ThreadPoolExecutor(WORKERS) as pool:
         for name, got in zip(NAMES, pool.map(write, enumerate(NAMES))):
-            wanted = (f"{name.status}\n" if name.status else "", name.said + "\n" if name.said else "")
+            wanted = (f"{name.status}\n" if name.status else "",
+                      name.said + "\n" if name.said else "")
             tally.tell(f"timeline to {name.what} ({state})", told(got, wanted))
     for words in (["timeline", "--page", "page"], ["pictures", "--into", "into"]):
         ran = tree.run(words, cwd=folder)
-        is_told = (ran.status, ran.output, ran.said.count("\n")) == (5, b"", 1) and "is empty" in ran.said
+        counts = (ran.status, ran.output, ran.said.count("\n"))
+        is_told = counts == (5, b"", 1) and "is empty" in ran.said
         is_told = is_told and not any((folder / name).exists() for name in ("page", "into"))
         tally.tell(f"{words[0]} of nothing ({state})", None if is_told else str(ran))
 
@@ -273,14 +308,17 @@ PAST_THE_RING = ("put 15 1 [2]: a value would stand at place 16, "
                  "and the ring of stream 1 has places 0 to 15")
 NO_SCRIPTS = {
     "an empty file": (b"", f"the input is empty; {BEGINS}"),
-    "a byte-order mark": (b"\xef\xbb\xbfgpu-script 1\n", "the input begins with a byte-order mark: save it without one"),
+    "a byte-order mark": (b"\xef\xbb\xbfgpu-script 1\n",
+                          "the input begins with a byte-order mark: save it without one"),
     "UTF-16 with its mark": ("\ufeffgpu-script 1\n".encode("utf-16-le"),
                              "the input is UTF-16, and a script is plain ASCII: save it as ASCII"),
     "UTF-16 without its mark": ("gpu-script 1\n".encode("utf-16-be"),
-                                "the input is UTF-16, and a script is plain ASCII: save it as ASCII"),
+                                "the input is UTF-16, and a script is plain ASCII: save it as "
+                                "ASCII"),
     "a program": (b"\x7fELF\x02\x01\x01\0", f"the input is a binary file; {BEGINS}"),
     "a packed file": (b"\x1f\x8b\x08\0", "the input is packed by gzip: unpack it first"),
-    "a later version": (b"gpu-script 3\n", "gpu-script [3]: there is no such version of scripts; the head is "
+    "a later version": (b"gpu-script 3\n",
+                        "gpu-script [3]: there is no such version of scripts; the head is "
                                            "`gpu-script 1` or `gpu-script 2`"),
     "an output": (b"order 1 1 11\n", f"[order] 1 1 11: this is an output, and no script; {BEGINS}"),
     "a page": (b"<!DOCTYPE html>\n", f"[<!DOCTYPE] html>: {BEGINS}"),
@@ -290,19 +328,22 @@ NO_SCRIPTS = {
 
 
 def check_inputs(tree: Tree, folder: Path, tally: Tally) -> None:
-    """What is no script gets a sentence of its own, by each way in which it can come."""
+    """An input that is no script gets a sentence of its own, however it comes in."""
     for what, (data, sentence) in NO_SCRIPTS.items():
         (folder / "input").write_bytes(data)
         ways = (tree.run(["run", str(folder / "input")]), tree.run(["check", "-"], data),
-                tree.shell(f"$Z run --workers 2 < '{folder}/input'"), tree.shell("cat | $Z verify", data))
+                tree.shell(f"$Z run --workers 2 < '{folder}/input'"),
+                tree.shell("cat | $Z verify", data))
         for way, ran in enumerate(ways):
             said = ran.said.split("\n")
             is_told = ran.status == 5 and ran.output == b"" and said[0].startswith("refused: line ")
-            tally.tell(f"{what}, way {way}", None if is_told and said[1:] == [sentence, ""] else str(ran))
+            tally.tell(
+                f"{what}, way {way}", None if is_told and said[1:] == [sentence, ""] else str(ran)
+            )
 
 
 def check_second_lines(top: Path, program: Path, tally: Tally) -> None:
-    """Each refused script and journal of the cases gets a second line, which shows words of its line."""
+    """Each refused script and journal of the cases gets a second line with words of its line."""
     from command_line import refused
 
     inputs = [(str(path.stem), path.with_suffix(".script").read_bytes(), path.read_text().strip())
@@ -310,22 +351,27 @@ def check_second_lines(top: Path, program: Path, tally: Tally) -> None:
               if path.with_suffix(".script").exists()]
     for line in (top / "tests/short_inputs.tsv").read_text().splitlines()[1:]:
         what, _, _, said, _, text = line.split("\t")
-        inputs.append((f"{what}: {text[-40:]}", text.encode().decode("unicode_escape").encode("latin-1"), said))
+        inputs.append((f"{what}: {text[-40:]}",
+                       text.encode().decode("unicode_escape").encode("latin-1"), said))
     for name, data, said in inputs:
         if said.startswith("refused: "):
             why = refused.why(data, said)
-            tally.tell(f"a second line for {name}", None if why and "\n" not in why else f"it is {why!r}")
+            tally.tell(
+                f"a second line for {name}", None if why and "\n" not in why else f"it is {why!r}"
+            )
     data, why = NO_SCRIPTS["a put past the ring"]
     tally.tell("the second line of a place", told(refused.why(data, "refused: line 3: Place"), why))
     for kind in ("Word", "Number", "Order", "Double", "Limit"):
-        tally.tell(f"no second line of a wrong {kind}", told(refused.why(data, f"refused: line 3: {kind}"), None))
+        tally.tell(f"no second line of a wrong {kind}",
+                   told(refused.why(data, f"refused: line 3: {kind}"), None))
 
 
 def check_streams(tree: Tree, folder: Path, tally: Tally) -> None:
-    """Standard input and output that fail are told in one line, and nothing is left behind."""
+    """A failed read or write is reported in one line, and leaves no file."""
     for line, status, said in (
-        ("$Z check < .", 3, "read fault"), ("$Z check <&-", 3, "read fault: standard input cannot be read, or not be "
-                                           "kept in " + str(folder)),
+        ("$Z check < .", 3, "read fault"),
+        ("$Z check <&-", 3, "read fault: standard input cannot be read, or not "
+         f"be kept in {folder}"),
         ("$Z check examples/names.script > /dev/full", 4, "write fault"),
         ("$Z check examples/names.script >&-", 4, "write fault: standard output is closed"),
         ("$Z --help > /dev/full", 4, "write fault: standard output: No space left on device"),
@@ -335,7 +381,9 @@ def check_streams(tree: Tree, folder: Path, tally: Tally) -> None:
         tally.tell(line, told(ran, Ran(status, b"", said + "\n")))
     left = list(folder.glob("tmp.*"))
     tally.tell("what is left of kept inputs", told(left, []))
-    script, journal = ((tree.top / f"examples/names{end}").read_bytes() for end in (".script", ".stdout"))
+    script, journal = (
+        (tree.top / f"examples/names{end}").read_bytes() for end in (".script", ".stdout")
+    )
     returned = (script + b"journal\n" + journal).replace(b"\n", b"\r\n")
     ran = tree.run(["verify"], returned)
     is_yes = (ran.status, ran.said) == (0, "") and ran.output.startswith(b"yes events ")
@@ -345,21 +393,27 @@ def check_streams(tree: Tree, folder: Path, tally: Tally) -> None:
                None if ran.status == 11 and "\n[ordr] 2 2 6: " in ran.said else str(ran))
     ran = tree.run(["timeline", "--page", "-"], journal.replace(b"\n", b"\r\n"))
     tally.tell("a page of an output with carriage returns",
-               told((ran.status, ran.said), (0, "")) or told(ran.output, tree.run(["timeline", "--page", "-"], journal).output))
+               told((ran.status, ran.said), (0, ""))
+               or told(ran.output, tree.run(["timeline", "--page", "-"], journal).output))
 
 
-# --- The version, and what is missing ---
+# --- The version, and missing tools ---
 
 
 def check_versions(tree: Tree, tally: Tally) -> None:
-    """The version tells the commit, the kit and the program at hand."""
+    """The version names the commit, the kit and the program at hand."""
     program, kept = tree.top / PROGRAM, tree.top / "kept"
-    head = "zorvleid 0.1.0\ncommit: not known, since git tells none\nkit: none, since no rt is on the path\n"
+    head = (
+        "zorvleid 0.1.0\ncommit: not known, since git tells none\nkit: none, since no rt is on the "
+        "path\n"
+    )
     tell = "the program at hand"
 
     def said(wanted: str) -> None:
         ran = tree.run(["--version"])
-        tally.tell(f"{tell}, {wanted}", told(ran, Ran(0, f"{head}program: {wanted}\n".encode(), "")))
+        tally.tell(
+            f"{tell}, {wanted}", told(ran, Ran(0, f"{head}program: {wanted}\n".encode(), ""))
+        )
 
     said("newer than its sources, of these sources; tools/build builds only what is proved")
     os.utime(tree.top / "crates.txt", (2**32, 2**32))
@@ -373,15 +427,20 @@ def check_versions(tree: Tree, tally: Tally) -> None:
 def check_last_resorts(tree: Tree, tally: Tally) -> None:
     """A fault of a tool itself is one line, and without Python the program runs as it does."""
     page = tree.top / "view/page.py"
-    page.write_text(page.read_text() + "\n\ndef text_of(history, recorder):\n    return history / 0\n")
+    page.write_text(
+        page.read_text() + "\n\ndef text_of(history, recorder):\n    return history / 0\n"
+    )
     ran = tree.shell("$Z timeline --page - < examples/names.stdout")
-    is_line = (ran.status, ran.output, ran.said.count("\n")) == (4, b"", 1) and "TypeError" in ran.said
+    counts = (ran.status, ran.output, ran.said.count("\n"))
+    is_line = counts == (4, b"", 1) and "TypeError" in ran.said
     tally.tell("a fault of a tool", None if is_line else str(ran))
     script = tree.top / "zorvleid"
     script.write_text(script.read_text().replace(" /usr/bin/python3", ""))
     (tree.path / "python3").unlink()
     output = (tree.top / "examples/names.stdout").read_bytes()
-    tally.tell("a run without Python", told(tree.run(["run", "examples/names.script"]), Ran(0, output, "")))
+    tally.tell(
+        "a run without Python", told(tree.run(["run", "examples/names.script"]), Ran(0, output, ""))
+    )
     missing = "python3 is missing, which answers here: apt install python3\n"
     tally.tell("help without Python", told(tree.run(["--help"]), Ran(127, b"", missing)))
     ran = tree.run(["run", "--workers", "9"])
@@ -396,5 +455,7 @@ def check_shell_scripts(top: Path, tally: Tally) -> None:
         tally.skip("the shell scripts", "shellcheck is missing (apt install shellcheck)")
         return
     for name in SHELL:
-        ran = subprocess.run(["shellcheck", top / name], capture_output=True, text=True, check=False)
+        ran = subprocess.run(
+            ["shellcheck", top / name], capture_output=True, text=True, check=False
+        )
         tally.tell(f"shellcheck {name}", None if ran.returncode == 0 else ran.stdout)

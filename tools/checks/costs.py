@@ -1,21 +1,21 @@
-"""What the greatest scripts cost: each row of `bench/run --hostile` has to end within a bound.
+"""The costs of the greatest scripts: each row of `bench/run --hostile` must end within a bound.
 
-The check runs a small part of each script, and its bound is for a machine that does much else: a run takes less than a tenth of a
-second where it does not. The large size is the whole of each script.
+The check runs a small part of each script. On an idle machine a run takes less than a tenth of a
+second; the bound is for a busy one. The large size is the whole of each script.
 """
 
 import tempfile
 from concurrent.futures import ThreadPoolExecutor
 from pathlib import Path
 
-import greatest
-import measure
+from bench import greatest, measure
+from tools.checks.tally import Tally
 
-# One of how many parts of each script, how many seconds a run may take, and how many rows at once.
+# The size of the part of each script, the seconds that a run may take, and rows at once.
 SMALL, LARGE = (40, 60, 4), (1, 300, 1)
 
 
-def fault_of(row, program, most):
+def fault_of(row: measure.Row, program: Path, most: float) -> str | None:
     with tempfile.TemporaryDirectory() as folder:
         try:
             measure.measure(row, program, 1, Path(folder), most)
@@ -24,16 +24,16 @@ def fault_of(row, program, most):
     return None
 
 
-def tell(program, tally, part, most, at_once):
+def tell(program: Path, tally: Tally, part: int, most: float, at_once: int) -> None:
     rows = list(measure.hostile_rows(greatest.scripts(part)))
     with ThreadPoolExecutor(at_once) as pool:
         for row, fault in zip(rows, pool.map(lambda row: fault_of(row, program, most), rows)):
             tally.tell(f"the greatest script, {row.name}", fault)
 
 
-def check(top, program, tally):
+def check(top: Path, program: Path, tally: Tally) -> None:
     tell(program, tally, *SMALL)
 
 
-def check_large(top, program, tally):
+def check_large(top: Path, program: Path, tally: Tally) -> None:
     tell(program, tally, *LARGE)

@@ -11,8 +11,8 @@ from collections.abc import Callable, Iterator
 from dataclasses import dataclass
 from pathlib import Path
 
-from checks import prose
-from checks.tally import Tally
+from tools.checks import prose
+from tools.checks.tally import Tally
 
 Source = Callable[[Path], int]
 
@@ -215,7 +215,7 @@ def code_of(text: str) -> str:
 
 
 def fault(top: Path, number: str, around: str, needs_fact: bool) -> str | None:
-    """What is wrong with a number."""
+    """The fault of a number."""
     value, where = value_of(number), around.strip()
     fact = next((fact for fact in FACTS if re.search(fact.words.replace("#", r"\#"), around)), None)
     if fact is not None:
@@ -229,7 +229,7 @@ def fault(top: Path, number: str, around: str, needs_fact: bool) -> str | None:
 
 
 def check(top: Path, _program: Path, tally: Tally) -> None:
-    """Tells of each document the numbers that the sources do not have."""
+    """Reports the numbers of each document and each crate's head that the sources do not have."""
     for path in prose.documents(top):
         name, text = str(path.relative_to(top)), path.read_text(encoding="utf-8")
         wrong = []
@@ -240,3 +240,8 @@ def check(top: Path, _program: Path, tally: Tally) -> None:
             for number, around in numbers_in(part):
                 wrong.append((f"the number {number}", fault(top, number, around, needs_fact)))
         tally.tell_all(name, [(where, said) for where, said in wrong if said])
+    for name, text in prose.heads(top):
+        told = ((number, fault(top, number, around, True)) for number, around in numbers_in(text))
+        tally.tell_all(
+            f"the head of {name}", [(f"the number {it}", said) for it, said in told if said]
+        )

@@ -1,63 +1,82 @@
-"""The manual page and the help: both name all commands, statuses and options, and mandoc warns of nothing in the page."""
+"""The manual page and the help name all commands, statuses and options; mandoc warns of nothing."""
 
 import re
 import shutil
 import subprocess
+from pathlib import Path
 
-COMMANDS = ("run", "check", "generate", "trial", "verify", "pictures", "timeline", "log", "compare", "explain",
+from tools.checks.tally import Tally
+
+COMMANDS = ("run", "check", "generate", "trial", "verify", "pictures", "timeline", "log", "compare",
+            "explain",
             "assemble", "disassemble", "--help", "--version")
-OPTIONS = ("--into", "--scale", "--at", "--trace", "--page", "--script", "--json", "--stream", "--order", "--command",
-           "--failed", "--lost", "--waits", "--program", "--await")
+OPTIONS = ("--into", "--scale", "--at", "--trace", "--page", "--script", "--json", "--stream",
+           "--order", "--command", "--failed", "--lost", "--waits", "--program", "--await")
 STATUSES = (*range(1, 12), 126, 127)
 EXAMPLE = re.compile(r"examples/\w+\.(?:script|stdout)")
 SENTENCES = range(3, 7)
 
 
-def check(top, program, tally):
-    """Tells a fault for each command, option, status or example that a text leaves out."""
+def check(top: Path, program: Path, tally: Tally) -> None:
+    """Reports each command, option, status or example that a text leaves out."""
     page = top / "docs/zorvleid.1"
     source = page.read_text(encoding="utf-8")
     ran = subprocess.run([top / "zorvleid", "--help"], capture_output=True, text=True, check=False)
     check_text("--help", ran.stdout, "", tally)
-    check_text("the manual page", source.replace("Fl -", "--").replace(r"\&", ""), r"\.It (?:Cm )?", tally)
+    check_text(
+        "the manual page", source.replace("Fl -", "--").replace(r"\&", ""), r"\.It (?:Cm )?", tally
+    )
     check_status_line(top, program, tally)
     check_examples(top, tally)
     if shutil.which("mandoc") is None:
         tally.skip("the manual page, by mandoc", "mandoc is missing (apt install mandoc)")
         return
-    told = subprocess.run(["mandoc", "-T", "lint", "-W", "warning", page], capture_output=True, text=True, check=False)
+    told = subprocess.run(
+        ["mandoc", "-T", "lint", "-W", "warning", page], capture_output=True, text=True, check=False
+    )
     tally.tell("the manual page, by mandoc", told.stdout.strip() or None)
 
 
-def check_text(name, text, before, tally):
-    """All that a text has to name; a command and a status begin what is said of them."""
+def check_text(name: str, text: str, before: str, tally: Tally) -> None:
+    """All that a text must name; the text about a command or a status begins with it."""
     for command in COMMANDS:
         found = re.search(rf"^ *{before}(?:--help, |version, )?{command}\b", text, re.MULTILINE)
         tally.tell(f"{name}: {command}", None if found else "it is not named")
     for option in OPTIONS:
         tally.tell(f"{name}: {option}", None if option in text else "it is not named")
     for status in STATUSES:
-        found = re.search(rf"^{before}{status}$" if before else rf"(?:^|  |, ){status} ", text, re.MULTILINE)
+        found = re.search(
+            rf"^{before}{status}$" if before else rf"(?:^|  |, ){status} ", text, re.MULTILINE
+        )
         tally.tell(f"{name}: status {status}", None if found else "it is not named")
     tally.tell(f"{name}: examples", None if len(EXAMPLE.findall(text)) >= 4 else "it has too few")
 
 
-def check_status_line(top, program, tally):
-    """Words that are no command line are told in one line."""
-    for words in (["timeline"], ["compare", "x"], ["log", "--json=1"], ["pictures", "--scale", "0"], ["pictures", "--in", "x"],
+def check_status_line(top: Path, program: Path, tally: Tally) -> None:
+    """Wrong words are reported in one line."""
+    for words in (["timeline"], ["compare", "x"], ["log", "--json=1"], ["pictures", "--scale", "0"],
+                  ["pictures", "--in", "x"],
                   ["explain", "x"]):
-        ran = subprocess.run([top / "zorvleid", *words], input=b"", capture_output=True, check=False)
-        is_so = ran.returncode == 2 and ran.stderr.startswith(b"bad command line: ") and ran.stderr.count(b"\n") == 1
+        ran = subprocess.run(
+            [top / "zorvleid", *words], input=b"", capture_output=True, check=False
+        )
+        is_so = (
+            ran.returncode == 2
+            and ran.stderr.startswith(b"bad command line: ")
+            and ran.stderr.count(b"\n") == 1
+        )
         tally.tell(f"zorvleid {' '.join(words)}", None if is_so else str(ran))
 
 
-def check_examples(top, tally):
-    """The page of the examples tells each of them in three to six sentences."""
+def check_examples(top: Path, tally: Tally) -> None:
+    """The page of the examples describes each of them in three to six sentences."""
     text = (top / "examples/README.md").read_text(encoding="utf-8")
     parts = dict(re.findall(r"^## (\w+)\n(.*?)(?=^## |\Z)", text, re.MULTILINE | re.DOTALL))
     names = {path.stem for path in (top / "examples").glob("*.script")}
-    fault = None if names == parts.keys() else f"it tells too much or not of {sorted(names ^ parts.keys())}"
+    other = sorted(names ^ parts.keys())
+    fault = f"it tells too much or not of {other}" if other else None
     tally.tell("examples/README.md", fault)
     for name, story in sorted(parts.items()):
         count = len(re.findall(r"[.?!:](?=\s)", story.split("```")[0]))
-        tally.tell(f"examples/README.md: {name}", None if count in SENTENCES else f"it has {count} sentences")
+        tally.tell(f"examples/README.md: {name}",
+                   None if count in SENTENCES else f"it has {count} sentences")

@@ -1,10 +1,12 @@
-"""The outputs that the checks of the tools go through: those of all cases, and what a plain second reading says of them."""
+"""The outputs that the checks of the tools read, those of all cases, with a second reading."""
 
 import functools
 import re
 import subprocess
+from collections.abc import Iterator
+from pathlib import Path
 
-import large
+from tests import large
 
 EVENTS = ("order ", "step ", "finish ", "lost ", "close ")
 SUM = ".stdout.sum"
@@ -12,12 +14,15 @@ PYTHONS = ("python3", "/usr/bin/python3")
 
 
 @functools.cache
-def large_output(name):
+def large_output(name: str) -> str:
     return large.MAKERS[name]()[1]
 
 
-def outputs_of_cases(top, with_large=True):
-    """The name and the output of each case of `run` or `verify` that has one, as text; large ones are made."""
+def outputs_of_cases(top: Path, with_large: bool = True) -> Iterator[tuple[Path, str]]:
+    """The name and the output of each case of `run` or `verify` that has one, as text.
+
+    Large ones are made.
+    """
     for folder in ("examples", "tests/cases"):
         for path in sorted((top / folder).rglob("*.stdout*")):
             name = path.relative_to(top)
@@ -31,31 +36,39 @@ def outputs_of_cases(top, with_large=True):
                 yield name, path.read_text(encoding="ascii")
 
 
-def is_output(words):
-    """Whether the words of a case write an output; those of `check`, `generate` and `trial` do not."""
+def is_output(words: Path) -> bool:
+    """Whether the words of a case write an output: not `check`, `generate` and `trial`."""
     return not words.exists() or words.read_text().split()[0] in ("run", "verify")
 
 
-def is_verdict(text):
+def is_verdict(text: str) -> bool:
     return text.startswith("yes ")
 
 
-def images_of(text):
-    """The images of an output, read a second time and without care: width, height and texels by their numbers."""
-    images, lines = {}, text.split("\n")
+def images_of(text: str) -> dict[int, tuple[int, int, bytes]]:
+    """The images of an output, read a second time: width, height and texels by their numbers."""
+    images: dict[int, tuple[int, int, bytes]] = {}
+    lines = text.split("\n")
     for at, line in enumerate(lines):
         if found := re.fullmatch(r"image (\d+) (\d+) (\d+)", line):
             number, width, height = map(int, found.groups())
             rows = " ".join(lines[at + 1:at + 1 + height])
-            images[number] = (width, height, b"".join(int(texel, 16).to_bytes(4, "big") for texel in rows.split(" ")))
+            images[number] = (width, height,
+                              b"".join(int(texel, 16).to_bytes(4, "big")
+                                       for texel in rows.split(" ")))
     return images
 
 
-def python_with(module):
+def python_with(module: str) -> str | None:
     """The first Python that has a module, or None."""
     for python in PYTHONS:
         try:
-            if subprocess.run([python, "-c", f"import {module}"], capture_output=True, check=False).returncode == 0:
+            if (
+                subprocess.run(
+                    [python, "-c", f"import {module}"], capture_output=True, check=False
+                ).returncode
+                == 0
+            ):
                 return python
         except OSError:
             continue

@@ -11,6 +11,8 @@ from collections.abc import Iterator
 from pathlib import Path
 from typing import Any
 
+from tools.checks import typed_python
+from tools.checks.tally import Tally
 from zorvleid import Output, Script, Stream, read_output, read_script, verify
 from zorvleid.commands import TABLE
 
@@ -18,8 +20,8 @@ PACKAGE, PACKER = "python/zorvleid", "python/pack_zorvleid.py"
 SNAKE = re.compile(r"(?<!^)(?=[A-Z])")
 
 
-def check(top: Path, program: Path, tally: Any) -> None:
-    """Tells a fault for each part of the package that is not as it has to be."""
+def check(top: Path, program: Path, tally: Tally) -> None:
+    """Reports each part of the package that is wrong."""
     check_types(top, tally)
     check_installation(top, tally)
     for command in TABLE.values():
@@ -41,15 +43,9 @@ def check(top: Path, program: Path, tally: Any) -> None:
     tally.tell_all("outputs that are read and written again", told_wrong)
 
 
-def check_types(top: Path, tally: Any) -> None:
-    mypy = next(
-        (
-            words
-            for words in ([sys.executable, "-m", "mypy"], ["mypy"])
-            if shutil.which(words[0]) and run([*words, "--version"], top).returncode == 0
-        ),
-        None,
-    )
+def check_types(top: Path, tally: Tally) -> None:
+    """The package alone, as those see it who install it."""
+    mypy = typed_python.checker(top)
     if mypy is None:
         tally.skip("the types of the package", "mypy is missing (apt install mypy)")
         return
@@ -57,7 +53,7 @@ def check_types(top: Path, tally: Any) -> None:
     tally.tell("the types of the package", None if ran.returncode == 0 else ran.stdout)
 
 
-def check_installation(top: Path, tally: Any) -> None:
+def check_installation(top: Path, tally: Tally) -> None:
     """pip installs the package into an empty environment, with no index to ask."""
     with tempfile.TemporaryDirectory() as folder:
         python = Path(folder) / "bin/python"
@@ -130,7 +126,7 @@ def fault_of_verdict(script: Path, program: Path) -> str | None:
 
 
 def fault_of_output(path: Path) -> str | None:
-    """What is read of an output is all that it says."""
+    """The reading of an output has all that it says."""
     data = path.read_text()
     return (
         None

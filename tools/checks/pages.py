@@ -1,25 +1,42 @@
-"""The page of a timeline in a real Chromium: what it draws, tells and finds, by mouse, fingers and keys, at three widths and in the dark."""
+"""The page of a timeline in a real Chromium: what it draws, shows and finds.
 
+The check uses mouse, fingers and keys, at three widths and in the dark.
+"""
+
+import functools
 import json
 import re
 import subprocess
 import tempfile
+from collections.abc import Callable
 from pathlib import Path
+from typing import Any
 
-from checks import browser, outputs
+from tools.checks import browser, outputs, replays
+from tools.checks.tally import Tally
+from view import page as pages
+from zorvleid.output import read_output
 
 EXAMPLES = ("compositor", "crossed_waits", "lost_stream")
 WIDTHS = (1280, 700, 390)
-SIZE = ("2000", "1")  # of the generated script that is joined with itself: its run has 112,032 events
-SECONDS, TRIES = 6, 5  # a page opens in so many seconds
-FRAME, FRAMES = 100, 12  # a frame takes fewer milliseconds; so many are drawn one after another
+# of the generated script that is joined with itself: its run has 112,032 events
+SIZE = ("2000", "1")
+# the most seconds to open a page, and the tries, as a machine may be busy
+SECONDS, TRIES = 6, 5
+FRAME, FRAMES = 100, 12  # the most milliseconds of a frame, and the frames that are drawn
+FIRST = 3  # frames of a page that was just opened
+CLOCK = """const took = [], ask = requestAnimationFrame.bind(window);
+window.requestAnimationFrame = draw => ask(now => {
+  const begun = performance.now(); draw(now); took.push(performance.now() - begun);
+});
+"""
 LINE = "document.querySelector('#detail code').textContent"
 TEXT = "document.querySelector('{}').textContent"
 TAB = 9
 
 
-def check(top, program, tally):
-    """Tells a fault for each thing that the page does not do."""
+def check(top: Path, program: Path, tally: Tally) -> None:
+    """Reports each thing that the page does not do."""
     if browser.program() is None:
         tally.skip("the page in a browser", "Chromium is missing (apt install chromium)")
         return
@@ -28,74 +45,94 @@ def check(top, program, tally):
             with browser.Browser() as page:
                 for name in EXAMPLES:
                     text = (top / f"examples/{name}.stdout").read_text()
-                    check_example(Looker(page, name, tally), text, write_page(text, Path(folder) / f"{name}.html"))
+                    check_example(Looker(page, name, tally), text,
+                                  write_page(text, Path(folder) / f"{name}.html"))
                 check_hand(Looker(page, "failed commands", tally), program, Path(folder))
-                check_compositor(Looker(page, "compositor", tally), top, Path(folder) / "compositor.html")
-                check_large(Looker(page, "a large run", tally), program, Path(folder) / "large.html")
+                check_compositor(Looker(page, "compositor", tally), top,
+                                 Path(folder) / "compositor.html")
+                check_large(Looker(page, "a large run", tally), program,
+                            Path(folder) / "large.html")
                 check_empty(Looker(page, "an empty output", tally), Path(folder) / "empty.html")
         except browser.BrowserFault as fault:
             tally.tell("the page in a browser", str(fault))
 
 
 class Looker:
-    """A browser that looks at one page, and tells what is not as it has to be."""
+    """A browser that looks at one page, and reports its faults."""
 
-    def __init__(self, page, name, tally):
+    def __init__(self, page: browser.Browser, name: str, tally: Tally) -> None:
         self.page, self.name, self.tally, self.where = page, name, tally, ""
 
-    def tell(self, what, got, wanted):
+    def tell(self, what: str, got: object, wanted: object) -> None:
         self.tally.tell(f"the page of {self.name}{self.where}, {what}",
                         None if got == wanted else f"wanted {wanted!r}, got {got!r}")
 
-    def value(self, script):
+    def quick(self, what: str, measured: Callable[[], float]) -> None:
+        """Reports a fault where each of some tries takes longer than a frame may."""
+        took: float = FRAME
+        for _ in range(TRIES):
+            took = min(took, measured())
+            if took < FRAME:
+                break
+        self.tally.note(f"{what} takes {took:.0f} ms")
+        self.tally.tell(what,
+                        None if took < FRAME else f"it took {took:.0f} ms or more, {TRIES} times")
+
+    def value(self, script: str) -> Any:
         return self.page.value(script)
 
-    def text(self, selector):
+    def text(self, selector: str) -> str:
         self.page.settle()
-        return self.page.value(TEXT.format(selector))
+        return str(self.page.value(TEXT.format(selector)))
 
-    def line(self):
+    def line(self) -> str:
         return self.text("#detail code")
 
-    def point(self, place):
+    def point(self, place: int) -> tuple[float, float]:
         """Where an event is drawn, in pixels of the window."""
-        return self.value(f"(box => [box.x + x({place}), box.y + y({place})])(element('chart').getBoundingClientRect())")
+        px, py = self.value(
+            f"(box => [box.x + x({place}), box.y + y({place})])"
+            "(element('chart').getBoundingClientRect())")
+        return px, py
 
-    def click(self, place):
+    def click(self, place: int) -> None:
         self.value("element('chart').scrollIntoView({block: 'center'})")
         px, py = self.point(place)
         for kind in ("mousePressed", "mouseReleased"):
             self.page.point(px, py, kind, button="left", clickCount=1)
 
-    def colour(self, px, py):
+    def colour(self, px: float, py: float) -> str:
         """The colour of a point of the chart."""
-        return self.value(f"[...element('chart').getContext('2d').getImageData({px} * Math.min(2, devicePixelRatio), "
-                          f"{py} * Math.min(2, devicePixelRatio), 1, 1).data.subarray(0, 3)].join()")
+        return str(self.value(
+            "[...element('chart').getContext('2d').getImageData("
+            f"{px} * Math.min(2, devicePixelRatio), {py} * Math.min(2, devicePixelRatio), 1, 1)"
+            ".data.subarray(0, 3)].join()"))
 
 
-def write_page(text, path, most=None):
-    from view import output, page
-
-    read = output.read_output(text.encode())
-    path.write_text(page.text(read) if most is None else page.text(read, None, most), encoding="utf-8")
+def write_page(text: str, path: Path, most: int | None = None) -> Path:
+    read = read_output(text.encode())
+    path.write_text(pages.text(read) if most is None else pages.text(read, None, most),
+                    encoding="utf-8")
     return path
 
 
-def journal_of(text):
+def journal_of(text: str) -> list[str]:
     return [line for line in text.split("\n") if line.startswith(outputs.EVENTS)]
 
 
 # --- Each example, at each width ---
 
 
-def check_example(look, text, path):
+def check_example(look: Looker, text: str, path: Path) -> None:
     journal, page = journal_of(text), look.page
     for width in WIDTHS:
         look.where = f" at {width}"
         page.size(width)
         page.open(path)
-        look.tell("rows of the table", look.value("document.querySelectorAll('#table tr').length"), len(journal))
-        look.tell("bars that are drawn", bars_drawn(look), sum(line.startswith("order ") for line in journal))
+        look.tell("rows of the table", look.value("document.querySelectorAll('#table tr').length"),
+                  len(journal))
+        look.tell("bars that are drawn", bars_drawn(look),
+                  sum(line.startswith("order ") for line in journal))
         look.click(3)
         look.tell("the line after a click", look.line(), journal[3])
         look.value("element('chart').focus()")
@@ -107,27 +144,33 @@ def check_example(look, text, path):
         look.value("document.querySelector('#table tr:nth-child(2) a').click()")
         look.tell("the line after a link", look.line(), journal[1])
         look.tell("the address", look.value("location.hash"), "#event=2")
-        look.tell("what is wider than the window", look.value("Math.max(0, document.documentElement.scrollWidth - innerWidth)"), 0)
+        look.tell("what is wider than the window",
+                  look.value("Math.max(0, document.documentElement.scrollWidth - innerWidth)"), 0)
         look.tell("the console", complaints(page), [])
     look.where = ", by its address"
     page.open(path, "#event=5")
     look.tell("the line", look.line(), journal[4])
 
 
-def bars_drawn(look):
-    """How many bars have the colour of a bar where they begin: a little behind the order, near the lower edge."""
-    return look.value("""(() => { const pen = element('chart').getContext('2d'), sharp = Math.min(2, devicePixelRatio);
+def bars_drawn(look: Looker) -> int:
+    """How many bars have their colour at their begin, just past the order and near the edge."""
+    return int(look.value(
+        """(() => { const pen = element('chart').getContext('2d');
+        const sharp = Math.min(2, devicePixelRatio);
         const probe = document.createElement('canvas').getContext('2d');
-        const known = ['--queue', '--run'].map(name => { probe.fillStyle = getComputedStyle(document.documentElement)
-          .getPropertyValue(name).trim(); probe.fillRect(0, 0, 1, 1); return probe.getImageData(0, 0, 1, 1).data.join(); });
-        return bars.filter(bar => [0.4, 0.5, 0.6].some(part => known.includes(pen.getImageData(x(bar.begin + part) * sharp,
-          (y(bar.begin) + 7) * sharp, 1, 1).data.join()))).length; })()""")
+        const style = getComputedStyle(document.documentElement);
+        const known = ['--queue', '--run'].map(name => {
+          probe.fillStyle = style.getPropertyValue(name).trim(); probe.fillRect(0, 0, 1, 1);
+          return probe.getImageData(0, 0, 1, 1).data.join(); });
+        return bars.filter(bar => [0.4, 0.5, 0.6].some(part => known.includes(pen.getImageData(
+          x(bar.begin + part) * sharp, (y(bar.begin) + 7) * sharp, 1, 1).data.join()))).length;
+        })()"""))
 
 
 # --- One example in all ways ---
 
 
-def check_compositor(look, top, path):
+def check_compositor(look: Looker, top: Path, path: Path) -> None:
     text = (top / "examples/compositor.stdout").read_text()
     journal, page = journal_of(text), look.page
     look.where = ""
@@ -142,14 +185,18 @@ def check_compositor(look, top, path):
     check_dark(look, path)
 
 
-def check_search(look, journal):
-    """What is found, by a plain reading of the lines, and the way from match to match."""
+def check_search(look: Looker, journal: list[str]) -> None:
+    """The matches of a search, by a plain reading of the lines, and the way between them."""
     page = look.page
-    for asked, wanted in (("ClearRect", [at for at, line in enumerate(journal) if ":20800007" in line]),
-                          ("command CopyRect", [at for at, line in enumerate(journal) if ":20a00009" in line]),
-                          ("stream 2", [at for at, line in enumerate(journal) if line.split(" ")[1] == "2"]),
+    for asked, wanted in (("ClearRect",
+                           [at for at, line in enumerate(journal) if ":20800007" in line]),
+                          ("command CopyRect",
+                           [at for at, line in enumerate(journal) if ":20a00009" in line]),
+                          ("stream 2",
+                           [at for at, line in enumerate(journal) if line.split(" ")[1] == "2"]),
                           ("image 3", [13, 14, 15, 16]), ("order 2", [1, 8, 9, 10, 11, 12]),
-                          ("stream 1 texel 4a1513ff", [5]), ("event 9", [8]), ("7", [6]), ("0:20400004 1:00000003", [13]),
+                          ("stream 1 texel 4a1513ff", [5]), ("event 9", [8]), ("7", [6]),
+                          ("0:20400004 1:00000003", [13]),
                           ("nothing like it", [])):
         look.tell(f"a search for {asked}", look.value(f"search({json.dumps(asked)})"), wanted)
     page.open(Path(look.value("decodeURI(location.pathname)")))
@@ -157,7 +204,8 @@ def check_search(look, journal):
     look.tell("the focus after a slash", look.value("document.activeElement.id"), "search")
     page.write("CopyRect")
     page.key("Enter", 13)
-    look.tell("the first match", (look.line(), look.text("#matches")), (journal[15], "match 1 of 2"))
+    look.tell("the first match", (look.line(), look.text("#matches")),
+              (journal[15], "match 1 of 2"))
     page.key("Enter", 13)
     look.tell("the next match", (look.line(), look.text("#matches")), (journal[16], "match 2 of 2"))
     page.click("#previous")
@@ -167,7 +215,7 @@ def check_search(look, journal):
     look.tell("the next match by a key", look.line(), journal[16])
 
 
-def check_moving(look):
+def check_moving(look: Looker) -> None:
     """The wheel and two fingers zoom about the pointer; a drag and the keys move."""
     page = look.page
     look.value("element('chart').scrollIntoView({block: 'center'}), fit()")
@@ -193,33 +241,42 @@ def check_moving(look):
     page.pinch(left + 300, top + 60, 40, 40)
     page.settle()
     look.tell("two fingers zoom", look.value("view.count < 0.7 * total"), True)
-    for key, wanted in (("f", "view.count === total"), ("w", "view.count < total"), ("s", "view.count === total"),
-                        ("w", "view.count < total"), ("d", "view.from > 0"), ("f", "view.from === 0")):
+    for key, wanted in (("f", "view.count === total"), ("w", "view.count < total"),
+                        ("s", "view.count === total"),
+                        ("w", "view.count < total"), ("d", "view.from > 0"),
+                        ("f", "view.from === 0")):
         page.key(key)
         page.settle()
         look.tell(f"the key {key}, {wanted}", look.value(wanted), True)
 
 
-def check_fold(look):
+def check_fold(look: Looker) -> None:
     page, height = look.page, look.value("view.height")
     page.click("#lanes button")
     page.settle()
-    look.tell("a folded lane", look.value("[view.height < %d, document.querySelector('#lanes button').ariaExpanded, "
-                                          "document.activeElement.ariaExpanded]" % height), [True, "false", "false"])
+    look.tell("a folded lane",
+              look.value("[view.height < %d, document.querySelector('#lanes button').ariaExpanded, "
+                         "document.activeElement.ariaExpanded]" % height), [True, "false", "false"])
     page.click("#fold")
     page.click("#fold")
     page.settle()
     look.tell("all lanes unfolded", look.value("view.height"), height)
 
 
-def check_names(look):
-    """Each control has a name, and Tab comes to all that are there."""
+def check_names(look: Looker) -> None:
+    """Each control has a name, and Tab reaches all of them."""
     page = look.page
-    controls = "[...document.querySelectorAll('button, input, a, canvas[tabindex]')].filter(one => !one.disabled && one.offsetParent)"
-    nameless = look.value(f"{controls}.filter(one => !(one.ariaLabel || one.textContent.trim())).map(one => one.outerHTML)")
+    controls = (
+        "[...document.querySelectorAll('button, input, a, canvas[tabindex]')]"
+        ".filter(one => !one.disabled && one.offsetParent)"
+    )
+    nameless = look.value(
+        f"{controls}.filter(one => !(one.ariaLabel || one.textContent.trim()))"
+        ".map(one => one.outerHTML)")
     look.tell("controls without a name", nameless, [])
     look.value("document.activeElement.blur(), scrollTo(0, 0)")
-    count, seen = look.value(f"{controls}.length"), set()
+    count = look.value(f"{controls}.length")
+    seen: set[str | None] = set()
     look.value(f"{controls}.forEach((one, at) => one.dataset.at = at)")
     for _ in range(count + 2):
         page.key("Tab", TAB)
@@ -227,53 +284,74 @@ def check_names(look):
     look.tell("controls that Tab comes to", len(seen - {None}), count)
 
 
-def check_pictures(look, top, text):
-    """The images after each event, by a second run of the script; what is outlined; and who wrote a texel."""
-    from checks import replays
-
+def check_pictures(look: Looker, top: Path, text: str) -> None:
+    """The images after each event, by a second run of the script; outlines; writers of a texel."""
     page, wanted = look.page, outputs.images_of(text)
-    for place, images in enumerate(replays.images_of((top / "examples/compositor.script").read_bytes())):
-        got = look.value(f"imageNumbers.map(image => [image, imageAt(image, {place})]).filter(([, one]) => one)"
-                         ".map(([image, one]) => [image, one.width, one.height, [...one.bytes].map(byte => "
-                         "byte.toString(16).padStart(2, '0')).join('')])")
-        look.tell(f"the images after event {place + 1}", {image: (width, height, texels) for image, width, height, texels in got},
+    for place, images in enumerate(
+        replays.images_of((top / "examples/compositor.script").read_bytes())
+    ):
+        got = look.value(
+            f"imageNumbers.map(image => [image, imageAt(image, {place})]).filter(([, one]) => one)"
+            ".map(([image, one]) => [image, one.width, one.height, [...one.bytes].map(byte => "
+            "byte.toString(16).padStart(2, '0')).join('')])")
+        look.tell(f"the images after event {place + 1}",
+                  {image: (width, height, texels) for image, width, height, texels in got},
                   images)
-    shown = {image: (width, height, texels.hex()) for image, (width, height, texels) in wanted.items()}
+    shown = {image: (width, height, texels.hex())
+             for image, (width, height, texels) in wanted.items()}
     look.tell("the last images are those that are printed", images, shown)
     look.value("choose(15)")
     page.settle()
-    outline = "[...document.querySelector('[data-image=\"3\"]').getContext('2d').getImageData({}, {}, 1, 1).data].join()"
+    outline = (
+        "[...document.querySelector('[data-image=\"3\"]').getContext('2d')"
+        ".getImageData({}, {}, 1, 1).data].join()"
+    )
     scale = look.value("scaleOf({width: 18, height: 11})")
     focus = look.value("(pen => (pen.fillStyle = colours.focus, pen.fillRect(0, 0, 1, 1), "
-                       "[...pen.getImageData(0, 0, 1, 1).data].join()))(document.createElement('canvas').getContext('2d'))")
+                       "[...pen.getImageData(0, 0, 1, 1).data].join()))"
+                       "(document.createElement('canvas').getContext('2d'))")
     look.tell("the outline of a copy to 1, 1", look.value(outline.format(scale + 30, scale)), focus)
-    look.tell("no outline beside it", look.value(outline.format(scale + 30, 8 * scale)) == focus, False)
+    look.tell(
+        "no outline beside it", look.value(outline.format(scale + 30, 8 * scale)) == focus, False
+    )
     page.click("[data-image='3']")
-    look.tell("who wrote a texel in the middle", re.findall(r"event \d+", look.text("#texel ul")), ["event 14", "event 15"])
+    look.tell("who wrote a texel in the middle", re.findall(r"event \d+", look.text("#texel ul")),
+              ["event 14", "event 15"])
     look.value("pick(imageAt(3, 15), 2, 2)")
-    look.tell("who wrote texel 2, 2", re.findall(r"event \d+", look.text("#texel ul")), ["event 14", "event 15", "event 16"])
+    look.tell("who wrote texel 2, 2", re.findall(r"event \d+", look.text("#texel ul")),
+              ["event 14", "event 15", "event 16"])
     look.value("document.querySelector('[data-image=\"3\"]').focus()")
     page.key("ArrowRight")
     look.tell("the texel after a key", look.text("#texel h3"), "Texel 3, 2 of image 3: d9534fff")
 
 
-def check_state(look):
+def check_state(look: Looker) -> None:
     """How things stand after some events, by hand."""
     for place, number, wanted in (
-            (2, 2, {"get": "0", "PUT": "29", "release count": "0", "token": "none", "open numbers": "3", "pending waits":
-                    "number 3 for stream 1 to come to release 1, number 3 for stream 2 to come to release 1"}),
-            (6, 0, {"get": "21", "PUT": "21", "release count": "1", "token": "none", "open numbers": "1", "pending waits": "none"}),
-            (6, 2, {"get": "0", "PUT": "29", "release count": "0", "token": "none", "open numbers": "3",
-                    "pending waits": "number 3 for stream 2 to come to release 1"}),
-            (17, 2, {"get": "29", "release count": "0", "token": "none", "open numbers": "none", "pending waits": "none"})):
+            (2, 2,
+             {"get": "0", "PUT": "29", "release count": "0", "token": "none", "open numbers": "3",
+              "pending waits":
+              "number 3 for stream 1 to come to release 1, number 3 for stream 2 to come to "
+              "release 1"}),
+            (6, 0,
+             {"get": "21", "PUT": "21", "release count": "1", "token": "none", "open numbers": "1",
+              "pending waits": "none"}),
+            (6, 2,
+             {"get": "0", "PUT": "29", "release count": "0", "token": "none", "open numbers": "3",
+              "pending waits": "number 3 for stream 2 to come to release 1"}),
+            (17, 2,
+             {"get": "29", "release count": "0", "token": "none", "open numbers": "none",
+              "pending waits": "none"})):
         look.value(f"choose({place})")
         look.page.settle()
-        got = look.value(f"(list => Object.fromEntries([...list.querySelectorAll('dt')].map(term => "
-                         f"[term.textContent, term.nextSibling.textContent])))(document.querySelectorAll('#streams dl')[{number}])")
+        got = look.value(
+            "(list => Object.fromEntries([...list.querySelectorAll('dt')].map(term => "
+            "[term.textContent, term.nextSibling.textContent])))"
+            f"(document.querySelectorAll('#streams dl')[{number}])")
         look.tell(f"stream {number + 1} after event {place + 1}", got, wanted)
 
 
-def check_dark(look, path):
+def check_dark(look: Looker, path: Path) -> None:
     """Dark colours come by themselves, also on the canvas, and also while the page is open."""
     look.page.open(path)
     light = look.colour(2, 30)
@@ -289,13 +367,14 @@ def check_dark(look, path):
 
 HAND = """gpu-script 1
 stream 1 normal 64
-put 0 20400004 1 2 2 20400004 1 2 2 20800007 3 0 0 1 1 ff 20800007 1 1 1 2 1 ff 20200004 9 1 0 7fe00001
+put 0 20400004 1 2 2 20400004 1 2 2 20800007 3 0 0 1 1 ff 20800007 1 1 1 2 1 ff \
+20200004 9 1 0 7fe00001
 flush 27
 """
 HAND_MARKS = {"failed": [2, 3, 4], "dropped": [5], "lost": [6]}
 
 
-def check_hand(look, program, folder):
+def check_hand(look: Looker, program: Path, folder: Path) -> None:
     """A script with three failed commands, a dropped wait and a loss."""
     ran = subprocess.run([program, "run"], input=HAND.encode(), capture_output=True, check=False)
     path, page = write_page(ran.stdout.decode(), folder / "hand.html"), look.page
@@ -306,13 +385,17 @@ def check_hand(look, program, folder):
         look.tell(f"the count of {mark}", look.text(f"#count-{mark}"), str(len(places)))
         page.click(f"#next-{mark}")
         look.tell(f"the badge of {mark}", look.text("#detail .badge"), mark)
-        look.tell(f"the rows that are {mark}", look.value(f"document.querySelectorAll('#table .{mark}').length"), len(places))
+        look.tell(f"the rows that are {mark}",
+                  look.value(f"document.querySelectorAll('#table .{mark}').length"), len(places))
         px, py = look.value(f"choose({places[0]}), drawNow(), [x({places[0]}), y({places[0]})]")
-        colour = look.value(f"(pen => (pen.fillStyle = colours.{mark}, pen.fillRect(0, 0, 1, 1), [...pen.getImageData(0, 0, 1, 1)"
-                            ".data.subarray(0, 3)].join()))(document.createElement('canvas').getContext('2d'))")
+        colour = look.value(
+            f"(pen => (pen.fillStyle = colours.{mark}, pen.fillRect(0, 0, 1, 1), "
+            "[...pen.getImageData(0, 0, 1, 1).data.subarray(0, 3)].join()))"
+            "(document.createElement('canvas').getContext('2d'))")
         look.tell(f"the mark of {mark} on the chart", look.colour(px, py), colour)
     look.value("choose(2)")
-    look.tell("why it failed", "failed, 0502: image 1 is there already" in look.text("#detail .what"), True)
+    look.tell("why it failed",
+              "failed, 0502: image 1 is there already" in look.text("#detail .what"), True)
     look.value("element('chart').focus(), choose(0)")
     page.key("l")
     look.tell("the loss by a key", look.value("view.chosen"), 6)
@@ -323,11 +406,13 @@ def check_hand(look, program, folder):
 # --- A large run ---
 
 
-def joined(program):
-    """The output of the generated script and a second one like it, with streams and images of its own, in one script."""
-    script = subprocess.run([program, "generate", *SIZE], capture_output=True, check=True).stdout.decode()
+def joined(program: Path) -> str:
+    """The output of one script of two generated ones, each with streams and images of its own."""
+    script = subprocess.run(
+        [program, "generate", *SIZE], capture_output=True, check=True
+    ).stdout.decode()
 
-    def moved(line):
+    def moved(line: str) -> str:
         words = line.split(" ")
         if words[0] == "stream":
             words[1] = str(int(words[1]) + 4)
@@ -338,29 +423,38 @@ def joined(program):
         return " ".join(words)
 
     both = script + "\n".join(map(moved, script.split("\n")[1:]))
-    return subprocess.run([program, "run"], input=both.encode(), capture_output=True, check=True).stdout.decode()
+    return subprocess.run(
+        [program, "run"], input=both.encode(), capture_output=True, check=True
+    ).stdout.decode()
 
 
-def check_large(look, program, path):
-    """A run of 112,032 events opens in time, moves in time, and shows each event that is asked for."""
+def check_large(look: Looker, program: Path, path: Path) -> None:
+    """A run of 112,032 events opens and moves in time, and shows each event by its number."""
     text, page = joined(program), look.page
     events = text[:text.index("\nimage ")].split("\n")
     look.tell("its events", len(events), 112_032)
     write_page(text, path)
     page.size(WIDTHS[0])
-    seconds = [page.open(path)]
-    while min(seconds) > SECONDS and len(seconds) < TRIES:
-        seconds.append(page.open(path))
-    look.tally.tell("a large page opens", None if min(seconds) <= SECONDS else f"it took {min(seconds):.1f} seconds at best")
+    check_opening(look, path)
     for what, begin, step in (("all of it", "fit()", "show(0, total - 40 * at)"),
                               ("a tenth of it", "show(30000, 11000)", "show(30000 + 300 * at)"),
                               ("a small part", "show(50000, 100)", "show(50000 + 9 * at)"),
-                              ("by zooming", "fit()", "zoom(0.8, 500)")):
-        took = min(frame(look, begin, step) for _ in range(TRIES))
-        look.tally.note(f"a frame of {what} takes {took:.0f} ms")
-        look.tally.tell(f"a frame of a large page, {what}", None if took < FRAME else f"it took {took:.0f} ms at best")
+                              ("by zooming", "fit()", "zoom(0.8, 500)"),
+                              ("events next to each other", "show(50000, 100)",
+                               "choose(50000 + at)"),
+                              ("events far from each other", "fit()", "choose(total - 9000 * at)")):
+        look.quick(f"a frame of a large page, {what}", functools.partial(frame, look, begin, step))
+        look.tell(f"what is drawn of it at most, {what}",
+                  look.value("drawn.count <= lanes.length * view.width"), True)
+    for asked in ("ClearRect", "image 3", "nothing like it"):
+        look.quick(f"a search of a large page for {asked}", functools.partial(search, look, asked))
+    check_sight(look)
     look.value("fit()")
-    look.tell("what is folded is told", f"of {len(events):,} are drawn. Single events are folded" in look.text("#drawn"), True)
+    look.tell(
+        "what is folded is told",
+        f"of {len(events):,} are drawn. Single events are folded" in look.text("#drawn"),
+        True,
+    )
     look.value("element('chart').focus()")
     page.key("End")
     look.tell("the last event", look.line(), events[-1])
@@ -368,22 +462,79 @@ def check_large(look, program, path):
     look.tell("an event by its address", look.line(), events[77_776])
     look.click(77_770)
     look.tell("an event by a click", look.line(), events[77_770])
-    look.tell("a search", look.value("search('InsertFence').length"), sum(":20000003" in event for event in events))
+    look.tell("a search", look.value("search('InsertFence').length"),
+              sum(":20000003" in event for event in events))
     final = outputs.images_of(text)
-    got = look.value("imageNumbers.map(image => [image, [...imageAt(image, total - 1).bytes].map(byte => "
-                     "byte.toString(16).padStart(2, '0')).join('')])")
-    look.tell("the last images", dict(got), {number: texels.hex() for number, (_, _, texels) in final.items()})
+    got = look.value(
+        "imageNumbers.map(image => [image, [...imageAt(image, total - 1).bytes].map(byte => "
+        "byte.toString(16).padStart(2, '0')).join('')])")
+    look.tell("the last images", dict(got),
+              {number: texels.hex() for number, (_, _, texels) in final.items()})
     look.tell("the console", complaints(page), [])
 
 
-def complaints(page):
-    """What is on the console, but for advice about the reading of pixels, which this check does."""
+def search(look: Looker, asked: str) -> float:
+    """How many milliseconds a search takes."""
+    return float(
+        look.value(
+            f"(begun => (search({json.dumps(asked)}), performance.now() - "
+            "begun))(performance.now())"))
+
+
+def check_opening(look: Looker, path: Path) -> None:
+    """A page opens in time, and draws its first frames in time."""
+    page = look.page
+    page.before_each_page(CLOCK)
+    opened: list[tuple[float, float]] = []
+    for _ in range(TRIES):
+        seconds = page.open(path)
+        page.settle()
+        opened.append((seconds, max(look.value(f"took.slice(0, {FIRST})"))))
+        if seconds <= SECONDS and opened[-1][1] < FRAME:
+            break
+    seconds, first = min(opened)[0], min(first for _, first in opened)
+    look.tally.note(
+        f"a large page opens in {seconds:.1f} seconds, and its first frames take {first:.0f} ms")
+    look.tally.tell("a large page opens",
+                    None if seconds <= SECONDS else f"it took {seconds:.1f} seconds at best")
+    look.tally.tell("the first frames of a large page",
+                    None if first < FRAME else f"one took {first:.0f} ms at best")
+
+
+SIGHT = """(box => { const chart = element('chart').getBoundingClientRect();
+  const at = chart.top + y(view.chosen);
+  const isBeside = box.left > chart.right;
+  const end = isBeside ? innerHeight : box.top;
+  return [box.top >= 0, box.bottom <= innerHeight, at >= 0, at <= end];
+})(element('detail').getBoundingClientRect())"""
+
+
+def check_sight(look: Looker) -> None:
+    """The chosen event and its box are in sight, though the chart is taller than the window."""
+    page, before = look.page, WIDTHS[0]
+    for width in WIDTHS:
+        page.size(width, 600)
+        for lane in (7, 0, 4):
+            look.value(
+                f"element('chart').focus({{preventScroll: true}}), "
+                f"choose(lanes[{lane}].events[300] - 1)")
+            page.settle()
+            look.value(f"choose(lanes[{lane}].events[299])")
+            page.key("ArrowDown")
+            page.settle()
+            look.tell(f"what is in sight of an event of stream {lane + 1} at {width}",
+                      look.value(SIGHT), [True] * 4)
+    page.size(before)
+
+
+def complaints(page: browser.Browser) -> list[str]:
+    """The lines of the console, but for advice about reading pixels, which this check does."""
     return [text for text in page.errors if "willReadFrequently" not in text]
 
 
-def frame(look, begin, step):
-    """How many milliseconds the middle one of some frames takes, each of which is drawn for sure."""
-    return look.value(f"""(async () => {{ {begin};
+def frame(look: Looker, begin: str, step: str) -> float:
+    """The milliseconds of the middle one of some frames, each of which is really drawn."""
+    return float(look.value(f"""(async () => {{ {begin};
         const next = () => new Promise(done => requestAnimationFrame(done));
         await next();
         const took = [];
@@ -394,10 +545,10 @@ def frame(look, begin, step):
           element('chart').getContext('2d').getImageData(0, 0, 1, 1);
           took.push(performance.now() - begun);
         }}
-        return took.sort((one, other) => one - other)[{FRAMES} >> 1]; }})()""")
+        return took.sort((one, other) => one - other)[{FRAMES} >> 1]; }})()"""))
 
 
-def check_empty(look, path):
+def check_empty(look: Looker, path: Path) -> None:
     """A run without streams has a page too."""
     look.page.open(write_page("", path))
     look.tell("what it says", (look.text("#drawn"), look.page.errors), ("There is no event.", []))

@@ -43,14 +43,14 @@ REFUSED = "src/main.rt:1:1: error[unknown-name]: cannot find value `a` in this s
 
 
 def ended(status: int, own: str = "") -> str:
-    """What the toolchain says of a program that ended, behind the program's own standard error."""
+    """The toolchain's lines about a program that ended, after the program's own standard error."""
     last = f"run=ended status={status} runners=1 races=unchecked proved=no\n"
     return f"{own}checked: ended status={status}\n{NO_RACES}{last}"
 
 
 @dataclass(frozen=True)
 class Case:
-    """What the toolchain says of words, and its status."""
+    """The toolchain's answer to words, and its status."""
 
     words: str
     said: str
@@ -63,7 +63,7 @@ class Case:
 
 @dataclass(frozen=True)
 class Wanted:
-    """What has to come: the status, standard output, and standard error after the notice."""
+    """The wanted answer: the status, standard output, and standard error after the notice."""
 
     status: int
     output: str = ""
@@ -132,7 +132,7 @@ def previews(top: Path, folder: Path) -> Ran:
 
 
 def check(top: Path, program: Path, tally: Tally) -> None:
-    """Tells a fault for each preview that does not end as it has to."""
+    """Reports each preview with a wrong end."""
     with tempfile.TemporaryDirectory() as name:
         folder = Path(name)
         run = previews(top, folder)

@@ -5,7 +5,7 @@ its paragraph or list item. Headings, table cells and code are no sentences. A l
 text, and code within a line by its words. In SHORT, the documents that are read first, a sentence
 has MEAN words on average at most. In every document a sentence has LONGEST at most, a table cell
 WIDEST, and no text has a word of AVOIDED. README.md has LINES lines at most, and names each kind of
-user.
+user. The heads of the crates' root files are held to the same as documents.
 """
 
 import re
@@ -13,7 +13,7 @@ from collections.abc import Iterator
 from dataclasses import dataclass
 from pathlib import Path
 
-from checks.tally import Tally
+from tools.checks.tally import Tally
 
 SHORT = (
     "README.md",
@@ -22,6 +22,7 @@ SHORT = (
     "docs/CHANGING.md",
     "SECURITY.md",
 )
+HEAD = re.compile(r"(?://!(?: [^\n]*)?\n)+")  # of a source
 MESSAGES = "| Why | When |"
 MEAN, LONGEST, WIDEST, LINES = 18, 40, 25, 160
 USERS = (
@@ -58,7 +59,7 @@ WORD = re.compile(r"[^\W_]")
 
 @dataclass(frozen=True)
 class Page:
-    """What stands in a document, without its code: its sentences, and the cells of its tables."""
+    """The prose of a document, without its code: its sentences, and the cells of its tables."""
 
     sentences: tuple[str, ...]
     cells: tuple[str, ...]
@@ -109,7 +110,7 @@ def sentences_of(text: str) -> list[str]:
 
 
 def read(text: str) -> Page:
-    """What stands in the text of a document."""
+    """The prose of the text of a document."""
     parts = list(blocks(plain(text)))
     sentences = [
         sentence for kind, part in parts if kind == "text" for sentence in sentences_of(part)
@@ -133,13 +134,22 @@ def documents(top: Path) -> list[Path]:
     return [path for folder in folders for path in sorted(folder.glob("*.md"))]
 
 
+def heads(top: Path) -> Iterator[tuple[str, str]]:
+    """The head of each crate's root file: what the crate is, and what its contracts say."""
+    for path in sorted((top / "crates").glob("*/src/*.rt")):
+        if path.name in ("lib.rt", "main.rt"):
+            found = HEAD.match(path.read_text(encoding="utf-8"))
+            lines = found[0].splitlines() if found else []
+            yield str(path.relative_to(top)), "\n".join(line[4:] for line in lines)
+
+
 def too_many(texts: list[str], most: int) -> str | None:
-    """What is wrong with the first of the texts that have too many words."""
+    """The fault of the first of the texts that have too many words."""
     return f"{count(texts[0])} words are more than {most}: {texts[0][:90]}" if texts else None
 
 
 def faults(name: str, page: Page) -> Iterator[tuple[str, str | None]]:
-    """What is asked of a document, each with its fault or None."""
+    """The checks of a document, each with its fault or None."""
     long = [text for text in page.sentences if count(text) > LONGEST]
     yield "its sentences", too_many(long, LONGEST)
     wide = [text for text in page.cells if count(text) > WIDEST]
@@ -154,7 +164,7 @@ def faults(name: str, page: Page) -> Iterator[tuple[str, str | None]]:
 
 
 def check(top: Path, _program: Path, tally: Tally) -> None:
-    """Tells of each document what is too long in it, or which avoided word it has."""
+    """Reports the long texts and the avoided words of each document."""
     every = documents(top)
     names = {str(path.relative_to(top)) for path in every}
     for name in SHORT:
@@ -163,11 +173,13 @@ def check(top: Path, _program: Path, tally: Tally) -> None:
         name = str(path.relative_to(top))
         for what, fault in faults(name, read(path.read_text(encoding="utf-8"))):
             tally.tell(f"{name}, {what}", fault)
+    for name, text in heads(top):
+        tally.tell_all(f"the head of {name}", (it for it in faults(name, read(text)) if it[1]))
     check_readme((top / "README.md").read_text(encoding="utf-8"), tally)
 
 
 def check_readme(text: str, tally: Tally) -> None:
-    """Tells of README.md whether it is short, and names each kind of user."""
+    """Reports whether README.md is short, and names each kind of user."""
     lines = len(text.splitlines())
     tally.tell("README.md, its lines", f"{lines} are more than {LINES}" if lines > LINES else None)
     whole = " ".join(text.split())

@@ -10,7 +10,8 @@ from collections.abc import Iterator, Sequence
 from pathlib import Path
 from typing import Any
 
-from checks import refusing
+from tools.checks import refusing
+from tools.checks.tally import Tally
 
 CLIENT, SERVICE, CALLS = (
     "examples/record/client.c",
@@ -45,8 +46,8 @@ close 4294967295
 """
 
 
-def check(top: Path, program: Path, tally: Any) -> None:
-    """Tells a fault for each program that does not compile, or whose text is not taken."""
+def check(top: Path, program: Path, tally: Tally) -> None:
+    """Reports each program that does not compile, or whose text is not accepted."""
     with tempfile.TemporaryDirectory() as folder:
         compiler = ready_compiler(Path(folder))
         if compiler is None:
@@ -70,7 +71,7 @@ def check(top: Path, program: Path, tally: Any) -> None:
                         tally.tell(f"{source} as {name}, {what}", found)
 
 
-def ready_compiler(folder: Path) -> list[Any] | None:
+def ready_compiler(folder: Path) -> list[str] | None:
     """The first compiler that finds the headers of C; that of the toolchain gets HEADERS."""
     source, made = folder / "probe.c", folder / "probe"
     source.write_text(
@@ -79,14 +80,14 @@ def ready_compiler(folder: Path) -> list[Any] | None:
     for name, text in HEADERS.items():
         (folder / name).write_text(text)
     for words in refusing.compilers():
-        for compiler in (list(words), [*words, "-isystem", folder]):
+        for compiler in (words, [*words, "-isystem", str(folder)]):
             if compiled(compiler, LANGUAGES["C99"], source, made) is None:
                 return compiler
     return None
 
 
 def compiled(compiler: Sequence[Any], flags: Sequence[str], source: Path, made: Path) -> str | None:
-    """What a compiler says against a source, or None."""
+    """A compiler's faults of a source, or None."""
     ran = subprocess.run(
         [*compiler, *flags, "-o", made, source], capture_output=True, text=True, check=False
     )
@@ -98,7 +99,7 @@ def compiled(compiler: Sequence[Any], flags: Sequence[str], source: Path, made: 
 
 
 def sanitizer_of(
-    compiler: Sequence[Any], flags: Sequence[str], folder: Path, tally: Any, name: str
+    compiler: Sequence[Any], flags: Sequence[str], folder: Path, tally: Tally, name: str
 ) -> tuple[str, ...]:
     """The flag of the address sanitizer, where a program that has it runs."""
     source, made = folder / "empty.c", folder / "empty"

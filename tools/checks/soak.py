@@ -1,25 +1,30 @@
-"""Hostile scripts that are run with workers, and what is asked of each output.
+"""Hostile scripts that are run with workers, and the checks of each output.
 
-A run is over the script of a seed (tests/hostile.py makes it), with 1 to 8 workers in turn, and in each second round of eight runs
-with viewers, 1 to 4 of them from one such round to the next; what the threads do is not the same again. Its output has to be what
-tools/checks/workers.py asks of one: it ends as its journal says and not for want of memory, `verify` says yes and shows its
-picture, and the model finds a legal and complete history, from which all other lines follow, and which has all that viewers saw.
-Then a line of the journal is changed, taken out, doubled or moved, and `verify` has to say of it what the model says.
+A run is over the script of a seed (tests/hostile.py makes it), with 1 to 8 workers in turn. Each
+second round of eight runs has viewers, 1 to 4 of them from one such round to the next. The threads
+act differently each time. tools/checks/workers.py must accept each output: it ends as its journal
+says and not out of memory; `verify` says yes and shows its picture; the model finds a legal and
+complete history, from which all other lines follow, with all looks of viewers. Then a line of the
+journal is changed, taken out, doubled or moved, and `verify` must agree with the model about it.
 
-The script, the output and the fault of each failure are kept in a folder, a new one where none is given.
+The script, the output and the fault of each failure are kept in a folder, a new one where none is
+given.
 """
 
 import os
 import tempfile
 from collections import Counter, deque
-from concurrent.futures import ThreadPoolExecutor
+from collections.abc import Iterable, Iterator
+from concurrent.futures import Executor, Future, ThreadPoolExecutor
+from dataclasses import replace
 from pathlib import Path
 
-import hostile
-import model_history
-from checks import workers as runs
-from model_script import Reader
+from tests import hostile, model, model_history
+from tests.model_script import Reader
+from tools.checks import workers as runs
+from tools.checks.tally import Tally
 
+Given = tuple[bytes, int, int, int]  # a script, its workers, its viewers, its seed
 SMALL, LARGE = 40, 2000  # runs, from the first seed on
 SECONDS = 60
 CHANGED_AT_MOST = 600
@@ -40,34 +45,49 @@ COUNTS = {
 }
 
 
-def counts_of(history):
+def counts_of(history: model_history.History) -> Counter[str]:
     return Counter({
-        "events": len(history.events), "newer words": history.newer_words, "torn commands": history.torn_commands,
-        "early orders": history.early_orders, "late orders": history.late_orders, "late dumps": history.late_dumps,
-        "looks": history.looks.all, "early looks": history.looks.early, "looks between": history.looks.between,
-        "ended waits": len(history.endings), "closed": sum(s.gone == "closed" for s in history.streams),
+        "events": len(history.events), "newer words": history.newer_words,
+        "torn commands": history.torn_commands,
+        "early orders": history.early_orders, "late orders": history.late_orders,
+        "late dumps": history.late_dumps,
+        "looks": history.looks.all, "early looks": history.looks.early,
+        "looks between": history.looks.between,
+        "ended waits": len(history.endings),
+        "closed": sum(s.gone == "closed" for s in history.streams),
         "lost": sum(s.gone not in (None, "closed") for s in history.streams)})
 
 
 class Attempt:
-    """A run of a script with so many workers and viewers, what is wrong with it, and what it counts."""
+    """A run of a script with `workers` and `viewers`, its fault, and its counts."""
 
-    def __init__(self, program, script, workers, viewers, seed, seconds=SECONDS):
+    def __init__(
+        self,
+        program: Path,
+        script: bytes,
+        workers: int,
+        viewers: int,
+        seed: int,
+        seconds: float = SECONDS,
+    ) -> None:
         self.program, self.seconds = program, seconds
         self.script, self.workers, self.viewers, self.seed = script, workers, viewers, seed
-        self.ran, self.counts = runs.run(program, runs.words_of(workers, viewers), script, seconds), Counter()
+        self.ran = runs.run(program, runs.words_of(workers, viewers), script, seconds)
+        self.counts: Counter[str] = Counter()
         self.fault = self.find()
 
-    def __str__(self):
-        return f"{self.workers} workers" + (f" and {self.viewers} viewers" if self.viewers else "")
+    def __str__(self) -> str:
+        return runs.threads_of(self.workers, self.viewers)
 
-    def find(self):
+    def find(self) -> str | None:
         """The first thing that is wrong, or None."""
         if (fault := runs.fault_of_end(self.ran)) is not None:
             return f"its end: {fault}"
         if self.ran.status == 8:
             return "its end: streams were lost for want of memory"
-        answer, picture = runs.faults_of_verify(self.program, self.script, self.ran.output, self.seconds)
+        answer, picture = runs.faults_of_verify(
+            self.program, self.script, self.ran.output, self.seconds
+        )
         if answer or picture:
             return f"verify: {answer or picture}"
         reader = Reader(self.script)
@@ -79,24 +99,31 @@ class Attempt:
         fault = self.fault_of_changed(reader, history.events)
         return f"a changed journal: {fault}" if fault else None
 
-    def fault_of_changed(self, reader, events):
+    def fault_of_changed(self, reader: Reader, events: list[str]) -> str | None:
         """How `verify` and the model differ about a journal with a changed line."""
         if not 0 < len(events) <= CHANGED_AT_MOST:
             return None
         changed = change(events, hostile.Draw(self.seed * 8 + self.workers))
-        before = model_history.model.head(model_history.History(reader))
+        before = model.head(model_history.History(reader))
         journal = "".join(line + "\n" for line in before + changed).encode()
         wanted, told = model_history.verdict(reader, changed)
-        if wanted == 11:
-            told = f"refused: journal line {self.script.count(bytes([10])) + 1 + len(before) + told}"
-        ran = runs.run(self.program, ["verify"], runs.journal_input(self.script, journal), self.seconds)
+        if isinstance(told, int):
+            line = self.script.count(b"\n") + 1 + len(before) + told
+            told = f"refused: journal line {line}"
+        ran = runs.run(
+            self.program, ["verify"], runs.journal_input(self.script, journal), self.seconds
+        )
         said = ran.fault.decode("latin-1").strip()
         if (ran.status, said) != (wanted, told):
-            self.ran.output = journal
-            return f"verify ends with {ran.status} and {said!r}, and the model with {wanted} and {told!r}"
+            self.ran = replace(self.ran, output=journal)
+            return (
+                f"verify ends with {ran.status} and {said!r}, and the model with {wanted} and "
+                f"{told!r}"
+            )
         return None
 
-    def keep(self, folder):
+    def keep(self, folder: Path) -> Path:
+        """Writes the facts of a failure to files of one name."""
         base = folder / f"{self.seed}-{self.workers}"
         base.with_suffix(".script").write_bytes(self.script)
         base.with_suffix(".stdout").write_bytes(self.ran.output)
@@ -105,27 +132,33 @@ class Attempt:
         return base
 
 
-def change(events, draw):
+def change(events: list[str], draw: hostile.Draw) -> list[str]:
     """The lines of a journal with one of them changed, taken out, doubled or moved."""
     at, kind = draw.below(len(events)), draw.below(4)
     if kind == 0:
         line = list(events[at])
-        digits = [place for place, character in enumerate(line) if character in "0123456789abcdef" and place > 5]
+        digits = [place
+                  for place, character in enumerate(line)
+                  if character in "0123456789abcdef" and place > 5]
         line[draw.of(digits)] = draw.of("0123456789")
         return events[:at] + ["".join(line)] + events[at + 1:]
     rest = events[:at] + events[at + 1:]
     if kind == 1:
         return rest
     to = draw.below(len(rest) + 1) if draw.chance(50) else min(at + 1, len(rest))
-    return (events if kind == 2 else rest)[:to] + [events[at]] + (events if kind == 2 else rest)[to:]
+    return (
+        (events if kind == 2 else rest)[:to] + [events[at]] + (events if kind == 2 else rest)[to:]
+    )
 
 
 # --- Many runs ---
 
 
-def in_order(pool, jobs, program, attempts, seconds):
+def in_order(
+    pool: Executor, jobs: int, program: Path, attempts: Iterable[Given], seconds: float
+) -> Iterator[Attempt]:
     """The attempts in their order, with few of them begun ahead."""
-    begun = deque()
+    begun: deque[Future[Attempt]] = deque()
     for given in attempts:
         begun.append(pool.submit(Attempt, program, *given, seconds))
         if len(begun) > jobs:
@@ -134,19 +167,28 @@ def in_order(pool, jobs, program, attempts, seconds):
         yield begun.popleft().result()
 
 
-def threads_of(seed, workers=None, viewers=None):
-    """How many workers and viewers a seed has, where they are not asked for; no viewer looks where there is no worker."""
+def threads_of(
+    seed: int, workers: int | None = None, viewers: int | None = None
+) -> tuple[int, int]:
+    """The workers and viewers of a seed, where none are asked for; no workers, no viewers."""
     workers = 1 + seed % 8 if workers is None else workers
     viewers = (1 + seed // 16 % 4 if seed // 8 % 2 else 0) if viewers is None else viewers
     return workers, viewers if workers else 0
 
 
-def soak(program, attempts, tally, jobs=1, seconds=SECONDS, folder=None):
-    """Tells of each attempt, which is a script, so many workers and viewers, and a seed; and what all of them count.
+def soak(
+    program: Path,
+    attempts: Iterable[Given],
+    tally: Tally,
+    jobs: int = 1,
+    seconds: float = SECONDS,
+    folder: Path | None = None,
+) -> None:
+    """Reports each attempt (a script, workers, viewers and a seed) and the counts of all of them.
 
     An interrupt ends the runs.
     """
-    total = Counter()
+    total: Counter[str] = Counter()
     with ThreadPoolExecutor(jobs) as pool:
         try:
             for attempt in in_order(pool, jobs, program, attempts, seconds):
@@ -163,10 +205,12 @@ def soak(program, attempts, tally, jobs=1, seconds=SECONDS, folder=None):
     tally.note(f"{tally.passed + tally.failed} runs, {tally.failed} failed; {told}")
 
 
-def check(top, program, tally, count=SMALL):
-    attempts = ((hostile.script(seed).encode(), *threads_of(seed), seed) for seed in range(1, count + 1))
+def check(top: Path, program: Path, tally: Tally, count: int = SMALL) -> None:
+    attempts = (
+        (hostile.script(seed).encode(), *threads_of(seed), seed) for seed in range(1, count + 1)
+    )
     soak(program, attempts, tally, os.cpu_count() or 1)
 
 
-def check_large(top, program, tally):
+def check_large(top: Path, program: Path, tally: Tally) -> None:
     check(top, program, tally, LARGE)

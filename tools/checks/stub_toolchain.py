@@ -1,9 +1,9 @@
-"""A small repository with the real tools/build, and a stub in the place of the toolchain.
+"""A small repository with the real tools/build, and a stub for the toolchain.
 
 The stub keeps others out of the folders of its crate and of those below, as the toolchain does, but
-fails where that would wait. It fails too where a library below is missing, and it makes its own in
-two steps, with a rest between them. The crates of STUB_TOGETHER rest until all of them have begun,
-for a while. STUB_FAULT is CRATE:FAULT.
+fails where that would wait. It fails too where a library below is missing. It makes its own library
+in two steps, with a rest between them. The crates of STUB_TOGETHER rest until all of them have
+begun, for a while. STUB_FAULT is CRATE:FAULT.
 """
 
 import contextlib
@@ -17,9 +17,9 @@ from collections.abc import Iterator
 from dataclasses import dataclass
 from pathlib import Path
 
-from building import crates
+from tools.building import crates
 
-# What each crate stands on, and its seconds. The longest chain: base, long, middle, script_main.
+# The libraries of each crate, and its seconds. Longest chain: base, long, middle, script_main.
 CRATES = {
     "base": ("", 10),
     "one": ("base", 20),
@@ -138,7 +138,7 @@ class Place:
         )
 
     def start(self, *words: str, **more: str) -> "subprocess.Popen[str]":
-        """Starts a build that Ctrl-C ends, also where the check runs in the background and ignores it."""
+        """Starts a build that Ctrl-C ends, also in the background, where a check ignores it."""
         return subprocess.Popen(
             ["env", "--default-signal=INT", self.top / "tools/build", *words],
             stdout=subprocess.PIPE,
@@ -169,7 +169,7 @@ class Place:
         return False
 
     def left_over(self) -> str | None:
-        """What is left that should not be: a room, half a library, or a proof that goes on."""
+        """Remains that should be gone: a room, half a library, or a running proof."""
         for folder in sorted((self.top / "crates").glob("*/out")):
             if (folder / "room").exists():
                 return f"the room of {folder.parent.name} is left"
@@ -183,7 +183,7 @@ class Place:
 def furnish(top: Path, made: Path) -> None:
     """Makes the repository in a folder, with the tools of the real one."""
     (made / "tools").mkdir(parents=True)
-    for name in ("build", "prove_crates"):
+    for name in ("build", "prove_crates", "prove_crates.py", "__init__.py", "places.py"):
         shutil.copy2(top / "tools" / name, made / "tools" / name)
     unwanted = shutil.ignore_patterns("__pycache__")
     shutil.copytree(top / "tools/building", made / "tools/building", ignore=unwanted)

@@ -1,15 +1,20 @@
-"""What passed and what failed in a check, told as it comes."""
+"""The passed and failed items of a check, printed as they come."""
+
+from collections.abc import Iterable
+from dataclasses import dataclass
 
 
+@dataclass
 class Tally:
-    """A quiet one tells nothing, and a talkative one tells what there was too."""
+    """A quiet one prints nothing, and a talkative one prints notes too."""
 
-    def __init__(self, quiet=False, talkative=False):
-        self.passed, self.failed = 0, 0
-        self.quiet, self.talkative = quiet, talkative
+    quiet: bool = False
+    talkative: bool = False
+    passed: int = 0
+    failed: int = 0
 
-    def tell(self, name, fault):
-        """Counts one item, which failed where there is a fault to tell."""
+    def tell(self, name: str, fault: str | None) -> None:
+        """Counts one item, which failed where there is a fault."""
         if fault is None:
             self.passed += 1
             return
@@ -17,24 +22,25 @@ class Tally:
         if not self.quiet:
             print(f"failed: {name}: {fault}", flush=True)
 
-    def tell_all(self, name, faults):
-        """Counts a thing that was tried in many ways: one item, or each of its faults, which are pairs of where and what."""
+    def tell_all(self, name: str, faults: Iterable[tuple[str, str | None]]) -> None:
+        """Counts a thing that was tried in many ways: one item, or each place with a fault."""
         faults = list(faults)
         for where, fault in faults:
             self.tell(f"{name}: {where}", fault)
         if not faults:
             self.tell(name, None)
 
-    def skip(self, name, why):
-        """Tells that an item cannot be looked at here."""
+    def skip(self, name: str, why: str) -> None:
+        """Prints that an item cannot be checked here."""
         if not self.quiet:
             print(f"skipped: {name}: {why}", flush=True)
 
-    def note(self, text):
-        """Tells what there was."""
+    def note(self, text: str) -> None:
+        """Prints a note."""
         if self.talkative:
             print(text, flush=True)
 
-    def end(self):
+    def end(self) -> int:
+        """Prints how many passed and failed, and gives the status of the check."""
         print(f"{self.passed} passed, {self.failed} failed")
         return 1 if self.failed else 0

@@ -7,14 +7,13 @@ none, right would be on it, with 20.
 import re
 import shutil
 import subprocess
-import sys
 import tempfile
 from pathlib import Path
 
 from .tally import Tally
 
 LIST = "low: byteorder\nleft may_wait=1: low\nright: low\ntop: left right\naside: low\n"
-LOG = """0.0 rt ci --anew
+LOG = """0.0 rt ci
 1.0 @ low proof - 0.0 30.0 10.0
 2.0 @ left proof - 30.0 60.0 40.0
 3.0 @ left proof - 30.0 60.0 10.0
@@ -33,18 +32,19 @@ whole run: 95 s (2 min), 1.3 processors in use; 4 passed, 0 failed
 """
 HEAD = "crate\tproof\ttests\tedits\n"
 TIMES = HEAD + "low\t1\t2\t-\naside\t7\t-\t-\ngone\t7\t7\t7\n"
-# What is kept of the log, and what of the log of a build, which measures no tests and no edits.
+# The seconds that are kept of the log; a log of a build measures no tests and no edits.
 KEPT = HEAD + "low\t10\t0\t0\nleft\t50\t0\t0\nright\t20\t33\t4\ntop\t5\t0\t0\naside\t7\t-\t-\n"
 BUILT = HEAD + "low\t10\t2\t-\nleft\t50\t-\t-\nright\t20\t-\t-\ntop\t5\t-\t-\naside\t7\t-\t-\n"
 LOG_OF_A_BUILD = "".join(it for it in LOG.splitlines(True) if not re.search("tests|edit", it))
 
 
 def check(top: Path, program: Path, tally: Tally) -> None:
-    """Tells a fault for each way in which the tool does not say or write what the log has."""
+    """Reports each way in which the tool's lines differ from the log."""
     with tempfile.TemporaryDirectory() as folder:
         copy, log = Path(folder) / "copy", Path(folder) / "log"
         (copy / "tools").mkdir(parents=True)
-        shutil.copy2(top / "tools/gate_times", copy / "tools")
+        for name in ("gate_times", "gate_times.py", "__init__.py", "places.py"):
+            shutil.copy2(top / "tools" / name, copy / "tools")
         shutil.copytree(
             top / "tools/building",
             copy / "tools/building",
@@ -55,7 +55,7 @@ def check(top: Path, program: Path, tally: Tally) -> None:
 
         def of(*words: object) -> "subprocess.CompletedProcess[str]":
             return subprocess.run(
-                [sys.executable, copy / "tools/gate_times", *map(str, words)],
+                [copy / "tools/gate_times", *map(str, words)],
                 capture_output=True,
                 text=True,
                 check=False,
@@ -85,11 +85,11 @@ def check(top: Path, program: Path, tally: Tally) -> None:
         tell("a run", is_so, (ran, lines))
         times.write_text(KEPT)
         ran = of("--expect")
-        is_so = re.fullmatch(
+        said = re.fullmatch(
             r"the gate takes about [1-3] min on \d+ processors where it proves all; .*\n",
             ran.stdout,
         )
-        tell("how long a gate takes", ran.returncode == 0 and is_so is not None, ran)
+        tell("how long a gate takes", ran.returncode == 0 and said is not None, ran)
         for words in ((), (log, "--expect"), (Path(folder) / "none",)):
             ran = of(*words)
             tell(f"the words {words}", ran.returncode == 2 and "Traceback" not in ran.stderr, ran)

@@ -1,13 +1,16 @@
-"""Sees that each name that a `use` line brings into a file of src/, specs/ or proofs/ stands in that file.
+"""Checks that a file of src/, specs/ or proofs/ uses each name that its `use` lines bring in.
 
-A name of `ghost use` has to stand in what is ghost: in a clause, or in an item that begins with `ghost`. An operator stands where
-each part of its name does, and `◌>>=◌` where `do` does. What a `pub use` passes on may stand nowhere else, and a trait of TRAITS
-is there for its methods.
+A name of `ghost use` must be in ghost code: in a clause, or in an item that begins with `ghost`. An
+operator is used where each part of its name is, and `◌>>=◌` where `do` is. A name of a `pub use`
+may be unused. A trait of TRAITS is there for its methods.
 """
 
 import re
+from collections.abc import Iterator
+from pathlib import Path
 
-from checks.crates import REMARK
+from tools.checks.crates import REMARK
+from tools.checks.tally import Tally
 
 USE = {
     ".rt": re.compile(r"^[ \t]*(pub(?:\(\w+\))? )?(ghost )?use ([^;]+);", re.MULTILINE),
@@ -19,11 +22,9 @@ DEFAULT = re.compile(r"\s*=\s*\{")
 LAST = re.compile(r"[\w']+$")
 PART = r"(?<![\w'])%s(?![\w'])"
 TRAITS = ("Abort", "ByteOrder", "Gate")
-# Names that go with the next change of their crate: without them all that stands on it would be proved again.
-LEFT = {"crates/sync_core/src/ends.rt": ("Wait",), "crates/sync_core/src/records.rt": ("ContainsKey", "SameValues")}
 
 
-def ghost_part(text):
+def ghost_part(text: str) -> str:
     """The clauses and the ghost items of a source."""
     parts = []
     for found in GHOST.finditer(text):
@@ -34,8 +35,8 @@ def ghost_part(text):
     return "\n".join(parts)
 
 
-def behind_braces(text, end):
-    """The place behind the brace that closes the one before this place."""
+def behind_braces(text: str, end: int) -> int:
+    """The place after the brace that closes the one before this place."""
     depth = 1
     while depth and end < len(text):
         depth += (text[end] == "{") - (text[end] == "}")
@@ -43,16 +44,17 @@ def behind_braces(text, end):
     return end
 
 
-def brought(what):
+def brought(what: str) -> Iterator[str]:
     """The names that a `use` of this brings in."""
     braces = BRACES.search(what)
-    for item in braces[2].split(",") if braces else [what]:
-        item = braces[1] if item.strip() == "self" else item.strip()
+    folder, items = (braces[1], braces[2].split(",")) if braces else ("", [what])
+    for item in map(str.strip, items):
+        item = folder if item == "self" else item
         name = LAST.search(item)
         yield item if name is None or "◌" in item else name[0]
 
 
-def stands(name, text):
+def stands(name: str, text: str) -> bool:
     """Whether a name stands in a text that holds no `use` line."""
     if name == "◌>>=◌" and re.search(r"\bdo\b", text):
         return True
@@ -60,7 +62,7 @@ def stands(name, text):
     return all(re.search(PART % part if LAST.match(part) else part, text) for part in parts)
 
 
-def unused(path):
+def unused(path: Path) -> Iterator[str]:
     """The names that a file brings in and does not use."""
     text = REMARK[path.suffix].sub("", path.read_text(encoding="utf-8"))
     rest = USE[path.suffix].sub("", text)
@@ -72,13 +74,15 @@ def unused(path):
                     yield name
 
 
-def check(top, tally):
-    """Tells of each crate the first name that one of its files brings in and does not use."""
+def check(top: Path, _program: Path, tally: Tally) -> None:
+    """Reports each crate's first name that one of its files brings in and does not use."""
     for crate in sorted((top / "crates").iterdir()):
         fault = None
-        for path in sorted(path for part in ("src", "specs", "proofs") for path in (crate / part).rglob("*")):
+        for path in sorted(
+            path for part in ("src", "specs", "proofs") for path in (crate / part).rglob("*")
+        ):
             if fault is None and path.suffix in USE:
                 place = str(path.relative_to(top))
-                name = next((name for name in unused(path) if name not in LEFT.get(place, ())), None)
+                name = next(unused(path), None)
                 fault = name and f"{place} does not use {name}"
         tally.tell(f"use lines of {crate.name}", fault)

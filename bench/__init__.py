@@ -1,0 +1,1 @@
+"""How long the built program takes on large inputs."""

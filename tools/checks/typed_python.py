@@ -1,0 +1,63 @@
+"""The types of all Python of the repository, by mypy --strict with pyproject.toml's settings."""
+
+import ast
+import os
+import shutil
+import subprocess
+import sys
+from collections.abc import Iterator
+from pathlib import Path
+
+from tools.checks.tally import Tally
+
+PACKAGES = ("tools", "tests", "bench", "view", "command_line", "python/zorvleid")
+SCRIPTS = ("tools/preview", "bench/once", "python/pack_zorvleid.py")
+COMMANDS = ([sys.executable, "-m", "mypy"], ["mypy"])
+ENVIRONMENT = {name: text for name, text in os.environ.items() if name != "PYTHONPATH"}
+
+
+def run(words: list[str], top: Path) -> "subprocess.CompletedProcess[str]":
+    """The answer of a command that is run at the top."""
+    return subprocess.run(
+        words, cwd=top, capture_output=True, text=True, check=False, env=ENVIRONMENT
+    )
+
+
+def checker(top: Path) -> list[str] | None:
+    """The command of mypy, or None where it is missing."""
+    return next(
+        (
+            words
+            for words in COMMANDS
+            if shutil.which(words[0]) and run([*words, "--version"], top).returncode == 0
+        ),
+        None,
+    )
+
+
+def sources(top: Path) -> Iterator[Path]:
+    """Each source of Python."""
+    yield from (path for folder in PACKAGES for path in sorted((top / folder).rglob("*.py")))
+    yield from (top / name for name in SCRIPTS)
+
+
+def path_changes(path: Path) -> Iterator[int]:
+    """The lines in which a source names `sys.path`."""
+    for node in ast.walk(ast.parse(path.read_text(encoding="utf-8"))):
+        if isinstance(node, ast.Attribute) and node.attr == "path":
+            if isinstance(node.value, ast.Name) and node.value.id == "sys":
+                yield node.lineno
+
+
+def check(top: Path, _program: Path, tally: Tally) -> None:
+    """Reports each source that changes the path of modules, and the faults of mypy."""
+    for path in sources(top):
+        line = next(path_changes(path), None)
+        fault = None if line is None else f"line {line} names sys.path: start it as a module"
+        tally.tell(str(path.relative_to(top)), fault)
+    mypy = checker(top)
+    if mypy is None:
+        tally.skip("the types of the Python", "mypy is missing (apt install mypy)")
+        return
+    ran = run([*mypy, "--cache-dir", os.devnull, *PACKAGES, *SCRIPTS], top)
+    tally.tell("the types of the Python", None if ran.returncode == 0 else ran.stdout.strip())
