@@ -17,14 +17,17 @@ USAGE, WRITE_FAULT, MISSING = 2, 4, 127
 
 def write(text: str) -> int:
     """Writes a text to standard output."""
+    why: str | None = "it is closed"
     try:
-        sys.stdout.write(text)
-        sys.stdout.flush()
+        if sys.stdout is not None:
+            sys.stdout.write(text)
+            sys.stdout.flush()
+            return 0
     except OSError as error:
         os.dup2(os.open(os.devnull, os.O_WRONLY), 1)
-        print(f"write fault: standard output: {error.strerror}", file=sys.stderr)
-        return WRITE_FAULT
-    return 0
+        why = error.strerror
+    print(f"write fault: standard output: {why}", file=sys.stderr)
+    return WRITE_FAULT
 
 
 def start(words: list[str]) -> int:

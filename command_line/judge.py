@@ -33,7 +33,8 @@ def is_option(word: str) -> bool:
 def takes(command: Command) -> str:
     """What stands behind a command, beside its options."""
     if command.operands:
-        return f"{command.name} takes {listed(list(dict.fromkeys(value.what for value in command.operands)))}"
+        parts = dict.fromkeys(value.what for value in command.operands)
+        return f"{command.name} takes {listed(list(parts))}"
     return f"{command.name} takes {'options alone' if command.options else 'no word behind it'}"
 
 
@@ -42,6 +43,8 @@ def check_operands(command: Command, words: Sequence[str]) -> None:
     for word, value in zip(words, command.operands):
         if not value.fits(word):
             raise Wrong(f"{takes(command)}, not '{word}'")
+    if words and not command.operands and command.reads and os.path.isfile(words[0]):
+        raise Wrong(f"{takes(command)}, and reads standard input: {command.name} < {words[0]}")
     if len(words) > (count := len(command.operands)):
         extra = "and '{}' is one word too many" if count else "not '{}'"
         raise Wrong(f"{takes(command)}, {extra.format(words[count])}")
@@ -54,6 +57,8 @@ def option_of(command: Command, word: str) -> Option:
     name = word.partition("=")[0]
     if (option := command.option(name)) is not None:
         return option
+    if name in HELP:
+        raise Wrong(f"{name} takes no value, not '{word.partition('=')[2]}'")
     if command.operands and os.path.exists(word):
         raise Wrong(f"{command.name} has no option '{word}'; the file is called './{word}'")
     names = [option.name for option in command.options]
@@ -105,7 +110,8 @@ def check_words(command: Command, words: Sequence[str]) -> None:
         if option.behind:
             check_place(option, words, here)
     check_operands(command, operands)
-    if command.needs_one and all(option.is_aside for option in command.options if option.name in seen):
+    named = (option for option in command.options if option.name in seen)
+    if command.needs_one and all(option.is_aside for option in named):
         choices = (option.words for option in command.options if not option.is_aside)
         raise Wrong(f"{command.name} needs {' or '.join(choices)}")
 

@@ -92,13 +92,17 @@ PICTURES = (
 TIMELINE = (
     Option("--trace", FILE, "the history for Perfetto and chrome://tracing"),
     Option("--page", FILE, "the history as one HTML file that needs nothing else"),
-    Option("--script", FILE, "the script of the run, which tells PUT and all fences", is_aside=True),
+    Option("--script", FILE, "the script of the run, which tells PUT and all fences",
+           is_aside=True),
 )
 LOG = (
     Option("--json", None, "as JSON, an object a line, by docs/log.schema.json"),
-    Option("--stream", numbers("S", "the number of a stream", 0, 2**32 - 1, 10), "events of stream S alone"),
-    Option("--order", numbers("N", "an order number", 0, 2**32 - 1, 10), "events of order number N alone"),
-    Option("--command", Value("NAME", "the name of a command"), "steps and losses of this command alone"),
+    Option("--stream", numbers("S", "the number of a stream", 0, 2**32 - 1, 10),
+           "events of stream S alone"),
+    Option("--order", numbers("N", "an order number", 0, 2**32 - 1, 10),
+           "events of order number N alone"),
+    Option("--command", Value("NAME", "the name of a command"),
+           "steps and losses of this command alone"),
     Option("--failed", None, "image commands that changed nothing"),
     Option("--lost", None, "losses of streams"),
     Option("--waits", None, "what made, dropped or ended a wait"),

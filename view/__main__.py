@@ -15,7 +15,9 @@ from typing import NoReturn
 
 from view import explain, files, looking, pictures, timeline
 from view.compare import NotOfOneScript
-from view.sources import NoScript, ReadFault, read_script
+from view.sources import NoScript, WrongOutput, read, read_filled, read_script
+from zorvleid import console
+from zorvleid.errors import printable
 from zorvleid.output import OutputRefused, read_output
 
 USAGE, READ_FAULT, WRITE_FAULT, REFUSED, NO_MEMORY = 2, 3, 4, 5, 6
@@ -77,14 +79,6 @@ def words() -> argparse.Namespace:
     return asked
 
 
-def read() -> bytes:
-    """Standard input, with line feeds alone at the ends of its lines."""
-    try:
-        return sys.stdin.buffer.read().replace(b"\r\n", b"\n")
-    except (OSError, AttributeError):
-        raise SystemExit(complain("read fault", READ_FAULT)) from None
-
-
 def complain(line: object, status: int) -> int:
     print(line, file=sys.stderr)
     return status
@@ -92,11 +86,6 @@ def complain(line: object, status: int) -> int:
 
 def show(asked: argparse.Namespace, data: bytes) -> int:
     """Writes what was asked for, of an output."""
-    if not data:
-        return complain(
-            "refused: the output is empty, and nothing is written: did the run before fail?",
-            REFUSED,
-        )
     output = read_output(data)
     if asked.tool == "pictures":
         pictures.write(output, asked.into, asked.scale, asked.at)
@@ -111,17 +100,16 @@ def main() -> int:
         asked = words()
         if asked.tool in looking.TOOLS:
             return looking.TOOLS[asked.tool](asked)
-        data = read()
-        return (
-            explain.explain(data, asked.program) if asked.tool == "explain" else show(asked, data)
-        )
-    except (OutputRefused, NoScript, NotOfOneScript) as refused:
+        if asked.tool == "explain":
+            return explain.explain(read(console.STANDARD), asked.program)
+        return show(asked, read_filled(console.STANDARD))
+    except (OutputRefused, NoScript, WrongOutput, NotOfOneScript) as refused:
         return complain(refused, REFUSED)
-    except ReadFault as fault:
+    except console.ReadFault as fault:
         return complain(fault, READ_FAULT)
     except (pictures.TooLarge, pictures.NoEvent, files.WrongName) as wrong:
-        return complain(f"bad command line: {wrong}", USAGE)
-    except files.WriteFault as fault:
+        return complain(f"bad command line: {printable(str(wrong))}", USAGE)
+    except console.WriteFault as fault:
         return complain(fault, WRITE_FAULT)
     except MemoryError:
         return complain("no memory", NO_MEMORY)

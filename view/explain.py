@@ -5,11 +5,14 @@ nothing.
 """
 
 import re
+import signal
 import subprocess
 import sys
 from collections.abc import Iterable, Iterator
 from pathlib import Path
 
+from zorvleid import console
+from zorvleid.errors import printable
 from zorvleid.output import HEAD, NO_LINE_FEED, Event, Lines, read_event
 
 from . import commands, due, rules
@@ -17,7 +20,7 @@ from .script import BLANKS, Script
 from .standing import Stand, Standing
 
 WRAPPER = Path(__file__).resolve().parent.parent / "zorvleid"
-NO, NOT_COMPLETE, NO_JOURNAL = 9, 10, 11
+NO, NOT_COMPLETE, NO_JOURNAL, NOT_STARTED = 9, 10, 11, 126
 ANSWER = re.compile(r"no: event \d+ rule \d+|not complete|refused: journal line \d+")
 EVENT_FORMS = "order S N C, step S I:V .., finish S N, lost S CODE I:V .., lost S memory, close S"
 
@@ -130,25 +133,27 @@ def meaning(status: int, said: str, data: bytes) -> Iterable[str]:
     return ()
 
 
-def printable(text: str) -> str:
-    return "".join(char if char.isprintable() else f"\\x{ord(char):02x}" for char in text)
-
-
 def explain(data: bytes, program: Path | None = None) -> int:
     """Runs `verify`, passes on what it writes, adds what it means, and answers its status."""
+    path = (program or WRAPPER).resolve()
+    signal.signal(signal.SIGPIPE, signal.SIG_IGN)  # the program may end before it has read all
     try:
-        ran = subprocess.run(
-            [program or WRAPPER, "verify"], input=data, capture_output=True, check=False
-        )
+        ran = subprocess.run([path, "verify"], input=data, capture_output=True, check=False)
     except OSError as error:
-        print(f"the program does not start: {error.strerror}", file=sys.stderr)
-        return 126
+        why = f"{printable(str(program))}: {error.strerror}"
+        print(f"the program does not start: {why}", file=sys.stderr)
+        return NOT_STARTED
+    signal.signal(signal.SIGPIPE, signal.SIG_DFL)
     sys.stderr.buffer.write(ran.stderr)
     sys.stderr.flush()
-    sys.stdout.buffer.write(ran.stdout)
+    console.write(answer(ran, data))
+    return ran.returncode
+
+
+def answer(ran: "subprocess.CompletedProcess[bytes]", data: bytes) -> Iterator[bytes]:
+    """What the program wrote, and the lines that say what its answer means."""
+    yield ran.stdout
     if ran.returncode in (NO, NOT_COMPLETE, NO_JOURNAL):
         said = next(filter(ANSWER.fullmatch, ran.stderr.decode("latin-1").split("\n")), "")
         for line in meaning(ran.returncode, said, data):
-            sys.stdout.buffer.write(printable(line).encode() + b"\n")
-    sys.stdout.flush()
-    return ran.returncode
+            yield printable(line).encode() + b"\n"

@@ -14,15 +14,9 @@ from dataclasses import dataclass
 from pathlib import Path
 from typing import BinaryIO
 
-STANDARD_OUTPUT = "-"
+from zorvleid.console import STANDARD, WriteFault
+
 LINKS_AT_MOST = 40
-
-
-class WriteFault(Exception):
-    """A file that could not be written."""
-
-    def __init__(self, name: str | Path, error: OSError) -> None:
-        super().__init__(f"write fault: {name}: {error.strerror}")
 
 
 class WrongName(Exception):
@@ -68,7 +62,7 @@ def target_of(name: str | Path) -> Target:
     text = str(name)
     if not text:
         raise WrongName("the name of a file is empty")
-    if text == STANDARD_OUTPUT:
+    if text == STANDARD:
         return Target(text, 1)
     path = Path(text)
     for _ in range(LINKS_AT_MOST):
@@ -139,7 +133,8 @@ def write_all(files: Iterable[tuple[str | Path, Data]]) -> None:
         for part, (at, place) in parts.items():
             os.replace(part, place)
     except OSError as error:
-        raise WriteFault(at.name if at else "", error) from None
+        name = at.name if at else ""
+        raise WriteFault("standard output" if name == STANDARD else name, error) from None
     finally:
         for part in parts:
             part.unlink(missing_ok=True)
@@ -149,6 +144,8 @@ def make_folder(path: str | Path) -> None:
     """Makes a folder and those above it."""
     try:
         Path(path).mkdir(parents=True, exist_ok=True)
+    except FileExistsError:
+        raise WriteFault(path, NotADirectoryError(errno.ENOTDIR, "it is no folder")) from None
     except OSError as error:
         raise WriteFault(path, error) from None
 

@@ -3,7 +3,10 @@
 import argparse
 import difflib
 import sys
+from collections.abc import Iterable
 from typing import Any
+
+from zorvleid import console
 
 from . import compare, comparing, files, log, sources
 from .history import History
@@ -38,7 +41,7 @@ def add_tools(tools: Any) -> None:
     tool = tools.add_parser(
         "log", allow_abbrev=False, help="write the events of an output in words, one a line"
     )
-    tool.add_argument("output", metavar="OUTPUT", nargs="?", default=sources.STANDARD_INPUT)
+    tool.add_argument("output", metavar="OUTPUT", nargs="?", default=console.STANDARD)
     tool.add_argument("--json", action="store_true", help="as JSON, an object a line")
     tool.add_argument("--stream", metavar="S", type=number, action="append", default=[],
                       help="those of stream S alone")
@@ -76,7 +79,7 @@ def run_log(asked: argparse.Namespace) -> int:
 def run_compare(asked: argparse.Namespace) -> int:
     """Says how two outputs differ, and writes their page."""
     names = (asked.first, asked.second)
-    if names == (sources.STANDARD_INPUT, sources.STANDARD_INPUT):
+    if names == (console.STANDARD, console.STANDARD):
         raise files.WrongName("standard input cannot be both outputs")
     comparison = compare.Comparison(*(History(sources.read_journal(name)) for name in names))
     if asked.page is not None:
@@ -85,13 +88,8 @@ def run_compare(asked: argparse.Namespace) -> int:
     return 0 if comparison.is_same else DIFFERENT
 
 
-def write_lines(lines: Any) -> None:
-    try:
-        for line in lines:
-            sys.stdout.write(line + "\n")
-        sys.stdout.flush()
-    except OSError as error:
-        raise files.WriteFault("standard output", error) from None
+def write_lines(lines: Iterable[str]) -> None:
+    console.write(line.encode() + b"\n" for line in lines)
 
 
 def note(history: History) -> None:

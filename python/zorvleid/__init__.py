@@ -13,12 +13,26 @@
 from .assembler import assemble
 from .disassembler import disassemble
 from .errors import Refused, ScriptError
-from .output import Output, OutputRefused, read_output
+from .output import (
+    Dump,
+    Event,
+    Image,
+    Mark,
+    Output,
+    OutputRefused,
+    StreamEnd,
+    View,
+    read_output,
+)
 from .reader import read_script
 from .script import Script, Stream
 from .verdict import ProgramFault, Verdict, verify
 
 __all__ = [
+    "Dump",
+    "Event",
+    "Image",
+    "Mark",
     "Output",
     "OutputRefused",
     "ProgramFault",
@@ -26,7 +40,9 @@ __all__ = [
     "Script",
     "ScriptError",
     "Stream",
+    "StreamEnd",
     "Verdict",
+    "View",
     "assemble",
     "disassemble",
     "read_output",

@@ -9,7 +9,7 @@ import signal
 import sys
 from typing import NoReturn
 
-from . import assembler, disassembler
+from . import assembler, console, disassembler
 from .errors import Refused, ScriptError
 from .reader import read_script
 from .script import BYTES_AT_MOST
@@ -29,7 +29,7 @@ def add_file(tool: argparse.ArgumentParser, what: str) -> None:
         "file",
         metavar="FILE",
         nargs="?",
-        default="-",
+        default=console.STANDARD,
         help=f"{what} (left out, or -: standard input)",
     )
 
@@ -54,28 +54,6 @@ def words() -> argparse.Namespace:
     return parser.parse_args()
 
 
-def read(file: str) -> bytes:
-    """The bytes of a file, or of standard input."""
-    if file == "-":
-        return sys.stdin.buffer.read()
-    with open(file, "rb") as opened:
-        return opened.read()
-
-
-def why(error: Exception) -> str:
-    """Why a file cannot be read or written."""
-    match error:
-        case FileNotFoundError():
-            return "no such file"
-        case IsADirectoryError():
-            return "it is a folder"
-        case PermissionError():
-            return "it may not be read"
-        case OSError() if error.strerror:
-            return error.strerror
-    return "it is closed"
-
-
 def turned(asked: argparse.Namespace, data: bytes) -> str:
     """The text that was asked for."""
     if asked.tool == "disassemble":
@@ -92,30 +70,32 @@ def complain(line: object, status: int) -> int:
     return status
 
 
-def main() -> int:
-    signal.signal(signal.SIGPIPE, signal.SIG_DFL)
-    asked = words()
-    try:
-        data = read(asked.file)
-    except (OSError, AttributeError, ValueError) as error:
-        return complain(
-            f"read fault: {'standard input' if asked.file == '-' else asked.file}: {why(error)}",
-            READ_FAULT,
-        )
+def write(asked: argparse.Namespace) -> int:
+    """Reads and writes what was asked for, and answers the status."""
+    data = console.read(asked.file)
     if asked.tool == "disassemble" and len(data) > BYTES_AT_MOST:
         return complain("input too long", TOO_LONG)
+    console.write([turned(asked, data).encode("utf-8", "surrogateescape")])
+    return 0
+
+
+def main() -> int:
+    signal.signal(signal.SIGPIPE, signal.SIG_DFL)
     try:
-        text = turned(asked, data).encode("utf-8", "surrogateescape")
+        return write(words())
+    except console.ReadFault as fault:
+        return complain(fault, READ_FAULT)
+    except console.WriteFault as fault:
+        return complain(fault, WRITE_FAULT)
     except Refused as refused:
         return complain(refused, REFUSED)
     except MemoryError:
         return complain("no memory", NO_MEMORY)
-    try:
-        sys.stdout.buffer.write(text)
-        sys.stdout.flush()
-    except (OSError, AttributeError, ValueError) as error:
-        return complain(f"write fault: standard output: {why(error)}", WRITE_FAULT)
-    return 0
+    except KeyboardInterrupt:
+        return 128 + signal.SIGINT
+    except Exception as fault:  # a fault of the tool itself
+        said = f"{type(fault).__name__}: {' '.join(str(fault).split())}"
+        return complain(f"fault of the tool: {said}", WRITE_FAULT)
 
 
 if __name__ == "__main__":

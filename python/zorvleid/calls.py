@@ -1,6 +1,7 @@
 """A method for each command of the table, as `create_image(image=1, width=2, height=1)`."""
 
 from collections.abc import Mapping, Sequence
+from typing import TypeAlias
 
 from .commands import FORMATS
 from .errors import ScriptError
@@ -15,6 +16,9 @@ def format_number(form: int | str) -> int:
     if form not in FORMAT_NAMED:
         raise ScriptError("format", "format", names=", ".join(FORMAT_NAMED), given=form)
     return FORMAT_NAMED[form]
+
+
+Bytes: TypeAlias = bytes | bytearray | memoryview
 
 
 def entries_of_bytes(data: bytes) -> list[int]:
@@ -61,12 +65,15 @@ class Calls:
         self.command("SetBucketData", {**span, "memory": memory, "memory_offset": memory_offset})
 
     def set_bucket_data_immediate(
-        self, *, bucket: int, offset: int, data: bytes | Sequence[int], size: int | None = None
+        self, *, bucket: int, offset: int, data: Bytes | Sequence[int], size: int | None = None
     ) -> None:
         """Writes bytes of the command itself into a bucket, given as bytes or as entries."""
-        entries = entries_of_bytes(data) if isinstance(data, bytes) else data
-        if size is None:
-            size = len(data) if isinstance(data, bytes) else 4 * len(data)
+        if isinstance(data, (bytes, bytearray, memoryview)):
+            told = bytes(data)
+            entries, count = entries_of_bytes(told), len(told)
+        else:
+            entries, count = list(data), 4 * len(data)
+        size = count if size is None else size
         self.command(
             "SetBucketDataImmediate", {"bucket": bucket, "offset": offset, "size": size}, entries
         )

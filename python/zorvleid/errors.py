@@ -6,6 +6,8 @@ docs/FORMATS.md lists them, and tests/command_faults.tsv has cases of them.
 MESSAGES = {
     # Lines and words
     "head": "the first line has to be `{head} 1` or `{head} 2`",
+    "mark": "the text begins with a byte-order mark: save it without one",
+    "utf-16": "the text is UTF-16: save it as plain ASCII",
     "line": "no line begins with '{word}'; the nearest word is '{nearest}'",
     "form": "the line has to be `{form}`",
     "number": "{what} has to be a number from {least} to {greatest}, not '{given}'",
@@ -55,11 +57,20 @@ MESSAGES = {
 }
 
 
-def printable(said: object) -> object:
+GIVEN, LETTERS_AT_MOST = ("word", "given", "key"), 60  # what may be long, and how much is shown
+
+
+def printable(text: str) -> str:
     """A text with an escape for each byte or letter that would not be seen."""
+    return "".join(letter if letter.isprintable() else escape(ord(letter)) for letter in text)
+
+
+def shown(name: str, said: object) -> object:
+    """A part of a sentence. A long word of the text is cut."""
     if not isinstance(said, str):
         return said
-    return "".join(letter if letter.isprintable() else escape(ord(letter)) for letter in said)
+    is_cut = name in GIVEN and len(said) > LETTERS_AT_MOST
+    return printable(said[:LETTERS_AT_MOST]) + ".." if is_cut else printable(said)
 
 
 def escape(code: int) -> str:
@@ -72,7 +83,7 @@ class ScriptError(ValueError):
 
     def __init__(self, kind: str, at: str = "", /, **said: object) -> None:
         super().__init__(
-            MESSAGES[kind].format(**{name: printable(it) for name, it in said.items()})
+            MESSAGES[kind].format(**{name: shown(name, it) for name, it in said.items()})
         )
         self.kind, self.at = kind, at
 
@@ -81,7 +92,7 @@ class Refused(ValueError):
     """A fault of a text with its place; lines and columns count from 1."""
 
     def __init__(self, file: str, line: int, column: int, error: ScriptError) -> None:
-        super().__init__(f"{file}:{line}:{column}: {error}")
+        super().__init__(f"{printable(file)}:{line}:{column}: {error}")
         self.file, self.line, self.column, self.kind, self.why = (
             file,
             line,

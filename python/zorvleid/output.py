@@ -314,9 +314,10 @@ def read_endings(lines: Lines, output: Output) -> None:
         output.views.append(View(int(found[1]), int(found[2]), int(found[3], 16)))
 
 
-def read_output(data: bytes) -> Output:
+def read_output(data: bytes | str) -> Output:
     """The content of an output; the output of `verify` has images alone."""
-    lines, output = Lines(data), Output()
+    told = data.encode("utf-8", "surrogateescape") if isinstance(data, str) else data
+    lines, output = Lines(told), Output()
     if (found := lines.take(VERDICT)) is not None:
         output.is_verdict, output.event_count = True, int(found[1])
         read_images(lines, output)

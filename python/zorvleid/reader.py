@@ -11,6 +11,8 @@ from .script import BYTES_AT_MOST, PRIORITIES, Fence, Name, Script, Stream
 
 WORDS = re.compile(r"[^ \t\r]+")
 VALUE = re.compile(r"[0-9a-fA-F]{1,8}")
+LETTERS = 60  # of a word are compared with other words
+MARKS = {b"\xef\xbb\xbf": "mark", b"\xff\xfe": "utf-16", b"\xfe\xff": "utf-16"}
 DECIMAL = {WORD: re.compile(r"[0-9]{1,10}"), LONG: re.compile(r"[0-9]{1,20}")}
 
 
@@ -50,6 +52,10 @@ class Reader:
         if lines[-1] == "":
             lines.pop()
         try:
+            for mark, kind in MARKS.items():
+                if data.startswith(mark):
+                    self.number = 1
+                    raise ScriptError(kind)
             for self.number, line in enumerate(lines, 1):
                 self.read_line(line)
             if not self.has_head:
@@ -219,7 +225,7 @@ class Reader:
 def nearest(word: str, words: Sequence[str]) -> str:
     """The word that is most like another one."""
     low = {each.lower(): each for each in words}
-    return low[get_close_matches(word.lower(), low, 1, 0)[0]]
+    return low[get_close_matches(word[:LETTERS].lower(), low, 1, 0)[0]]
 
 
 def read_script(data: bytes | str, file: str = "-") -> Script:

@@ -7,7 +7,7 @@ import subprocess
 from dataclasses import dataclass
 from pathlib import Path
 
-from .output import Image, read_output
+from .output import Image, Output, OutputRefused, read_output
 from .script import Script
 
 YES, REFUSED, NO, NOT_COMPLETE, NO_JOURNAL = 0, 5, 9, 10, 11
@@ -34,6 +34,10 @@ class Verdict:
         """Whether the journal is a legal and complete history of the script."""
         return self.status == YES
 
+    def __bool__(self) -> bool:
+        """As `is_yes`, so that `if verify(..):` asks what it seems to ask."""
+        return self.is_yes
+
 
 def program_here() -> Path:
     """The program: $ZORVLEID, `zorvleid` of this repository, or `zorvleid` on the path."""
@@ -46,6 +50,17 @@ def program_here() -> Path:
     return Path(found)
 
 
+def output_of(written: bytes) -> Output:
+    """The answer of a program that says yes. Another program may end with the same status."""
+    try:
+        output = read_output(written)
+    except OutputRefused as refused:
+        raise ProgramFault(f"the program does not answer as `verify` does: {refused}") from None
+    if not output.is_verdict:
+        raise ProgramFault("the program does not answer as `verify` does")
+    return output
+
+
 def verify(
     script: Script | str | bytes, journal: str | bytes, program: Path | str | None = None
 ) -> Verdict:
@@ -54,16 +69,15 @@ def verify(
     before = text.encode("utf-8", "surrogateescape") if isinstance(text, str) else text
     after = journal.encode("utf-8", "surrogateescape") if isinstance(journal, str) else journal
     whole = before + (b"" if before.endswith(b"\n") or not before else b"\n") + b"journal\n" + after
+    path = Path(program or program_here()).resolve()
     try:
-        ran = subprocess.run(
-            [program or program_here(), "verify"], input=whole, capture_output=True, check=False
-        )
+        ran = subprocess.run([path, "verify"], input=whole, capture_output=True, check=False)
     except OSError as error:
-        raise ProgramFault(f"the program does not start: {error.strerror}") from None
+        raise ProgramFault(f"the program does not start: {path}: {error.strerror}") from None
     lines = ran.stderr.decode("utf-8", "replace").splitlines() or [""]
     said = next((line for line in lines if SAID.fullmatch(line)), lines[0])
     if ran.returncode == YES:
-        output = read_output(ran.stdout)
+        output = output_of(ran.stdout)
         return Verdict(YES, f"yes events {output.event_count}", images=tuple(output.images))
     if ran.returncode not in (REFUSED, NO, NOT_COMPLETE, NO_JOURNAL):
         raise ProgramFault(f"the program ends with status {ran.returncode}: {said}")

@@ -7,7 +7,7 @@ from pathlib import Path
 from tools.checks.tally import Tally
 from tools.checks.typed_python import SCRIPTS
 
-FOLDERS = ("tools", "tests", "bench", "view", "python")
+FOLDERS = ("tools", "tests", "bench", "view", "command_line", "python")
 
 
 def sources(top: Path) -> Iterator[Path]:
