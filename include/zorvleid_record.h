@@ -13,7 +13,8 @@
  *   ERANGE   a number is out of range, or a limit of scripts is passed
  *   other    a sink failed
  * After EINVAL or ERANGE nothing was written, and the recorder can go on. A fault of a sink sticks: from then on nothing is
- * written, and every call returns it, the last one too, which is zv_script_end or zv_journal_end.
+ * written, and every call returns it, the last one too, which is zv_script_end or zv_journal_end. A fault of the call that
+ * begins a recorder sticks as well.
  *
  * No call takes a lock, and recorders share nothing.
  *   - One zv_script is used by one thread at a time, as a rule the thread of its client. A client records a store before it
@@ -55,11 +56,11 @@ static inline int zv_write_file(void *to, const char *text, size_t length)
     return errno != 0 ? errno : EIO;
 }
 
-/* The sink of a file, which stays the caller's to close. */
+/* The sink of a file, which stays the caller's to close. NULL is no file: a recorder with this sink does not begin. */
 static inline zv_sink zv_file(FILE *file)
 {
     zv_sink sink;
-    sink.write = zv_write_file;
+    sink.write = file == NULL ? NULL : zv_write_file;
     sink.to = file;
     return sink;
 }
@@ -121,12 +122,12 @@ static inline int zv_text_line(zv_text *text)
     return text->fault;
 }
 
-static inline int zv_text_begin(zv_text *text, zv_sink sink)
+static inline int zv_text_begin(zv_text *text, zv_sink sink, unsigned version)
 {
     text->sink = sink;
-    text->fault = 0;
     text->used = 0;
-    return sink.write == NULL ? EINVAL : 0;
+    text->fault = sink.write == NULL || version < 1 || version > 2 ? EINVAL : 0;
+    return text->fault;
 }
 
 static inline int zv_text_end(zv_text *text)
@@ -160,16 +161,17 @@ typedef struct zv_script {
     int is_closed;
 } zv_script;
 
-/* Begins the part of a script that has the streams after so many others. It has no head line. */
+/* Begins the part of a script that has the streams after so many others. It has no head line. Each part counts its own
+ * actions and flushes, and all parts together must keep the limits. */
 static inline int zv_script_part(zv_script *script, zv_sink sink, unsigned version, uint32_t streams_before)
 {
     script->version = version;
     script->streams = streams_before;
     script->ring = script->actions = script->all = script->flushes = 0;
     script->is_closed = 0;
-    if (zv_text_begin(&script->text, sink) != 0 || version < 1 || version > 2)
-        return EINVAL;
-    return streams_before < ZV_STREAMS ? 0 : ERANGE;
+    if (zv_text_begin(&script->text, sink, version) == 0 && streams_before >= ZV_STREAMS)
+        script->text.fault = ERANGE;
+    return script->text.fault;
 }
 
 /* Begins a script of version 1, in which streams have numbers, or of version 2, in which they have names. */
@@ -188,9 +190,14 @@ static inline int zv_script_end(zv_script *script)
     return zv_text_end(&script->text);
 }
 
-static inline int zv_begin_stream(zv_script *script, uint32_t space, uint64_t id, zv_priority priority, uint32_t ring)
+static inline int zv_begin_stream(zv_script *script, unsigned version, uint32_t space, uint64_t id, zv_priority priority,
+                                  uint32_t ring)
 {
     int at;
+    if (script->text.fault != 0)
+        return script->text.fault;
+    if (script->version != version)
+        return EINVAL;
     if (priority != ZV_HIGH && priority != ZV_NORMAL && priority != ZV_LOW)
         return EINVAL;
     if (script->streams == ZV_STREAMS || space > 255 || ring < 16 || ring > 4096)
@@ -213,23 +220,21 @@ static inline int zv_begin_stream(zv_script *script, uint32_t space, uint64_t id
 /* Begins the next stream of a script of version 1, with a ring of so many entries. */
 static inline int zv_stream(zv_script *script, zv_priority priority, uint32_t ring)
 {
-    if (script->version != 1)
-        return EINVAL;
-    return zv_begin_stream(script, 0, (uint64_t)script->streams + 1, priority, ring);
+    return zv_begin_stream(script, 1, 0, (uint64_t)script->streams + 1, priority, ring);
 }
 
 /* Begins the next stream of a script of version 2. The caller sees that no two streams have one name. */
 static inline int zv_stream_named(zv_script *script, uint32_t space, uint64_t id, zv_priority priority, uint32_t ring)
 {
-    if (script->version != 2)
-        return EINVAL;
-    return zv_begin_stream(script, space, id, priority, ring);
+    return zv_begin_stream(script, 2, space, id, priority, ring);
 }
 
 static inline int zv_declare(zv_script *script, const char *line, uint32_t *words, uint32_t number, uint32_t count)
 {
     uint32_t sum = 0;
     int at;
+    if (script->text.fault != 0)
+        return script->text.fault;
     if (script->ring == 0 || script->actions != 0)
         return EINVAL;
     for (at = 0; at < ZV_MEMORIES; at++)
@@ -417,10 +422,8 @@ static inline int zv_journal_begin(zv_journal *journal, zv_sink sink, unsigned v
 {
     journal->version = version;
     journal->names = 0;
-    if (zv_text_begin(&journal->text, sink) != 0 || version < 1 || version > 2)
-        return EINVAL;
-    if (version == 1)
-        return 0;
+    if (zv_text_begin(&journal->text, sink, version) != 0 || version == 1)
+        return journal->text.fault;
     zv_text_word(&journal->text, "gpu-journal 2");
     return zv_text_line(&journal->text);
 }
@@ -434,6 +437,8 @@ static inline int zv_journal_end(zv_journal *journal)
 /* The name of the next stream, in version 2. */
 static inline int zv_name(zv_journal *journal, uint32_t space, uint64_t id)
 {
+    if (journal->text.fault != 0)
+        return journal->text.fault;
     if (journal->version != 2)
         return EINVAL;
     zv_text_word(&journal->text, "name");
@@ -466,6 +471,8 @@ static inline int zv_fetched(zv_journal *journal, const zv_word *words, size_t c
 /* A command of a stream was executed; these are the words that were fetched of it, in their order. */
 static inline int zv_step(zv_journal *journal, uint32_t stream, const zv_word *words, size_t count)
 {
+    if (journal->text.fault != 0)
+        return journal->text.fault;
     if (words == NULL && count != 0)
         return EINVAL;
     zv_text_word(&journal->text, "step");
@@ -485,6 +492,8 @@ static inline int zv_finish_order(zv_journal *journal, uint32_t stream, uint32_t
 /* A stream was lost, by the error of a command with these words, or out of memory, which has no words. */
 static inline int zv_lost(zv_journal *journal, uint32_t stream, zv_error error, const zv_word *words, size_t count)
 {
+    if (journal->text.fault != 0)
+        return journal->text.fault;
     if ((words == NULL || error == ZV_MEMORY) && count != 0)
         return EINVAL;
     if ((int)error < 0 || (int)error > 6 || (int)error == 5)

@@ -23,7 +23,7 @@ from tools.places import PROGRAM
 
 ROWS = Path("tests/command_lines.tsv")
 PARTS = ("zorvleid", "command_line", "view", "python", "docs", "examples", "crates.txt", "HANDLES")
-COMMANDS = ("sh", "cat", "dirname", "readlink", "find", "head", "mktemp", "rm")
+COMMANDS = ("sh", "cat", "dirname", "readlink", "find", "head", "mktemp", "rm", "tr")
 SHELL = ("zorvleid", "tools/build", ".ci/run", "view/run")
 LEAST = {"command lines": 60, "right lines": 40, "wrong lines": 60}
 SECONDS, WORKERS = 600, 4
@@ -366,15 +366,28 @@ def check_second_lines(top: Path, program: Path, tally: Tally) -> None:
                    told(refused.why(data, f"refused: line 3: {kind}"), None))
 
 
+OUTPUT = "write fault: standard output"
+WRITING = ("--help", "--version", "assemble examples/names.commands", "log examples/names.stdout",
+           "disassemble examples/names.script",
+           "compare examples/names.stdout examples/names.stdout")
+READING = ("assemble", "disassemble", "log", "compare - examples/names.stdout", "pictures",
+           "timeline --page page", "explain")
+
+
 def check_streams(tree: Tree, folder: Path, tally: Tally) -> None:
     """A failed read or write is reported in one line, and leaves no file."""
     for line, status, said in (
-        ("$Z check < .", 3, "read fault"),
-        ("$Z check <&-", 3, "read fault: standard input cannot be read, or not "
-         f"be kept in {folder}"),
+        ("$Z check < .", 3, "read fault: standard input: it is a folder"),
+        ("$Z check <&-", 3, "read fault: standard input: it is closed"),
         ("$Z check examples/names.script > /dev/full", 4, "write fault"),
-        ("$Z check examples/names.script >&-", 4, "write fault: standard output is closed"),
-        ("$Z --help > /dev/full", 4, "write fault: standard output: No space left on device"),
+        ("$Z check examples/names.script >&-", 4, f"{OUTPUT}: it is closed"),
+        *((f"$Z {words} > /dev/full", 4, f"{OUTPUT}: No space left on device")
+          for words in WRITING),
+        *((f"$Z {words} >&-", 4, f"{OUTPUT}: it is closed") for words in WRITING),
+        *((f"$Z {words} {closed}", 3, "read fault: standard input: it is closed, or a folder")
+          for words in READING for closed in ("<&-", "< .")),
+        ("$Z explain --program ./README.md < examples/names.stdout", 126,
+         "the program does not start: README.md: No such file or directory"),
         ("yes | $Z check", 7, "input too long"), ("$Z run < /dev/zero", 7, "input too long"),
     ):
         ran = tree.shell(f"export TMPDIR='{folder}' PATH=$PATH:/usr/bin:/bin; {line}")

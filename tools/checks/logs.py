@@ -260,12 +260,15 @@ def check_calls(top: Path, tally: Tally) -> None:
             (["log", "--stream", "x"], "", 2,
              "bad command line: argument --stream: 'x' is no number"),
             (["log"], "x\n", 5, "refused: line 1: "),
+            (["log"], "", 5, "refused: the output is empty"),
+            (["log", "names.script"], "", 5, "refused: names.script: line 1: "),
+            (["log", "no\nfile"], "", 3, "read fault: no\\x0afile: no such file"),
             (["log"], "yes events 0\n", 5, "refused: line 1: "),
             (["log", "names.stdout", "--script", "compositor.script"], "", 5,
              "refused: the script is of another run"),
             (["log", "names.stdout", "--script", "names.stdout"], "", 5,
              "refused: names.stdout: it is no lawful script"),
-            (["log", "nowhere"], "", 3, "read fault: nowhere: No such file or directory")):
+            (["log", "nowhere"], "", 3, "read fault: nowhere: no such file")):
         ran = called(top, words, text)
         is_told = (
             ran.returncode == status
