@@ -4,6 +4,7 @@ import difflib
 import os
 from collections.abc import Iterable, Sequence
 
+from .marks import LETTERS_AT_MOST
 from .table import COMMANDS, Command, Option
 
 HELP, VERSION = ("help", "--help", "-h"), ("version", "--version")
@@ -16,7 +17,7 @@ class Wrong(Exception):
 
 def meant(word: str, names: Iterable[str]) -> str:
     """A question for the name that may have been meant."""
-    near = difflib.get_close_matches(word.lower(), list(names), 1)
+    near = difflib.get_close_matches(word[:LETTERS_AT_MOST].lower(), list(names), 1)
     return f"; did you mean '{near[0]}'?" if near else ""
 
 

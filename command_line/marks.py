@@ -21,7 +21,8 @@ def printable(text: str) -> str:
 
 def shown(word: str) -> str:
     """A word, each byte of it a character, as it can be printed; cut where it is long."""
-    text = printable(word.encode("latin-1").decode("utf-8", "backslashreplace"))
+    front = word[:4 * LETTERS_AT_MOST]  # a letter has at most 4 bytes
+    text = printable(front.encode("latin-1").decode("utf-8", "backslashreplace"))
     return text if len(text) <= LETTERS_AT_MOST else text[:LETTERS_AT_MOST] + ".."
 
 

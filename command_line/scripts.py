@@ -10,7 +10,7 @@ import re
 from collections.abc import Callable, Iterable, Iterator, Sequence
 from dataclasses import dataclass, field
 
-from .marks import Fault
+from .marks import LETTERS_AT_MOST, Fault
 
 BLANKS = re.compile(r"[ \t\r]+")
 PRIORITIES = ("high", "normal", "low")
@@ -130,8 +130,8 @@ def count_of(first: str, rest: Sequence[str]) -> int:
 
 
 def near(word: str, names: Iterable[str]) -> str:
-    """The name that may have been meant."""
-    found = difflib.get_close_matches(word.lower(), list(names), 1)
+    """The name that may have been meant. No name is like a very long word."""
+    found = difflib.get_close_matches(word[:LETTERS_AT_MOST].lower(), list(names), 1)
     return f"; did you mean '{found[0]}'?" if found else ""
 
 
