@@ -172,7 +172,7 @@ function drawEdge(pen, lane, bar, left, right) {
 function drawLabel(pen, lane, bar, left, right, labelled) {
   if (right - left < 12) return;
   const text = right - left > 64 ? `order ${shown(bar.index + 1)}` : shown(bar.index + 1), wide = pen.measureText(text).width;
-  const at = limited(left - 4, 2, Math.max(2, Math.min(view.width, right) - wide));
+  const at = limited(left + 3, 2, Math.max(2, Math.min(view.width, right) - wide));
   if (at < labelled[bar.row]) return;
   labelled[bar.row] = at + wide + 4;
   pen.fillStyle = colours.faint;
@@ -285,7 +285,10 @@ function drawChosen(pen) {
   pen.roundRect(cx - wide / 2, cy - tall / 2, wide, tall, 3);
   pen.stroke();
   pen.fillStyle = colours.focus;
-  pen.fillRect(cx - 1, AXIS - 6, 2, Math.max(0, cy - tall / 2 - AXIS + 6));
+  pen.fillRect(cx - 1, AXIS - 6, 2, 8);
+  pen.globalAlpha = 0.35; // the names of lanes and numbers that it crosses stay readable
+  pen.fillRect(cx - 1, AXIS + 2, 2, Math.max(0, cy - tall / 2 - AXIS - 2));
+  pen.globalAlpha = 1;
 }
 
 // A pen for a canvas of this size in pixels, as sharp as the screen.
@@ -318,25 +321,40 @@ function drawChart() {
 
 // ---- The strip of the whole run
 
+// Its lanes are drawn one by one: at once for STRIP_TAKES milliseconds, and then while the page is
+// idle, so that the strip of a long run holds up no frame.
+const STRIP_TAKES = 8;
 let strip;
 function drawStrip() {
-  const tall = limited(72 / Math.max(1, lanes.length), 4, 12), height = Math.max(8, lanes.length * tall);
-  strip = document.createElement("canvas");
-  const pen = penOf(strip, view.width, height);
-  strip.tall = height;
-  lanes.forEach((lane, number) => {
-    const top = () => number * tall + 1;
-    pen.fillStyle = colours.queue;
-    fillRows(pen, lane.whole, stripScale, top, tall - 2);
-    pen.fillStyle = colours.run;
-    fillRows(pen, lane.running, stripScale, top, tall - 2);
-    for (const mark of ["dropped", "failed", "lost"]) {
-      const high = mark === "lost" ? tall : tall / 3;
-      pen.fillStyle = colours[mark];
-      fillTicks(lane.marks[mark], stripScale, mark === "dropped" ? 1 : 2, (from, wide) =>
-        pen.fillRect(from, (number + 1) * tall - high, wide, high));
-    }
+  const tall = limited(72 / Math.max(1, lanes.length), 4, 12), made = strip = document.createElement("canvas");
+  made.tall = Math.max(8, lanes.length * tall);
+  const pen = penOf(made, view.width, made.tall), begun = performance.now();
+  let count = 0;
+  const part = () => {
+    if (made !== strip) return true;
+    if (count < lanes.length) drawStripLane(pen, lanes[count], count * tall, tall);
+    count += 1;
+    return count >= lanes.length;
+  };
+  while (performance.now() - begun < STRIP_TAKES) if (part()) return;
+  whileIdle(() => {
+    const isLast = part();
+    drawOverview();
+    return isLast;
   });
+}
+
+function drawStripLane(pen, lane, from, tall) {
+  const top = () => from + 1;
+  pen.fillStyle = colours.queue;
+  fillRows(pen, lane.whole, stripScale, top, tall - 2);
+  pen.fillStyle = colours.run;
+  fillRows(pen, lane.running, stripScale, top, tall - 2);
+  for (const mark of ["dropped", "failed", "lost"]) {
+    const high = mark === "lost" ? tall : tall / 3;
+    pen.fillStyle = colours[mark];
+    fillTicks(lane.marks[mark], stripScale, mark === "dropped" ? 1 : 2, (at, wide) => pen.fillRect(at, from + tall - high, wide, high));
+  }
 }
 
 function drawOverview() {

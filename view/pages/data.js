@@ -14,12 +14,12 @@ const counted = (number, one, more = one + "s") => number === 1 ? `1 ${one}` : `
 const limited = (value, least, most) => Math.max(least, Math.min(most, value));
 
 // Does a long work part by part while the page is idle. A part answers whether it was the last one.
-const IDLE_LEFT = 4; // milliseconds that a part may take
+const IDLE_LEFT = 4, IDLE_AFTER = 200; // milliseconds that a part may take, and that it waits at most
 function whileIdle(part) {
   requestIdleCallback(deadline => {
-    while (deadline.timeRemaining() > IDLE_LEFT) if (part()) return;
+    do if (part()) return; while (deadline.timeRemaining() > IDLE_LEFT);
     whileIdle(part);
-  });
+  }, { timeout: IDLE_AFTER });
 }
 
 function tag(parent, name, text, className) {

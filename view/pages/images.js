@@ -150,17 +150,17 @@ function paint(canvas, shown, texel) {
   }
   const thick = Math.max(1, Math.ceil(canvas.width / 200));
   for (const { x, y, w, h } of wrote) if (w && h) outline(pen, x * scale, y * scale, w * scale, h * scale, thick);
-  if (texel) outline(pen, texel.x * scale, texel.y * scale, scale, scale, thick, "--match");
+  if (texel) outline(pen, texel.x * scale, texel.y * scale, scale, scale, thick, colours.match);
 }
 
-function outline(pen, x, y, w, h, thick, colour = "--focus") {
+function outline(pen, x, y, w, h, thick, colour = colours.focus) {
   const edge = (style, inset) => {
     pen.strokeStyle = style;
     pen.lineWidth = thick;
     pen.strokeRect(x + inset, y + inset, Math.max(1, w - 2 * inset), Math.max(1, h - 2 * inset));
   };
   edge("#fff", 1.5 * thick);
-  edge(getComputedStyle(document.documentElement).getPropertyValue(colour).trim(), 0.5 * thick);
+  edge(colour, 0.5 * thick);
 }
 
 const picked = { image: -1, x: 0, y: 0 };

@@ -22,6 +22,7 @@ function drawNow() {
   if (total) drawOverview();
   element("slider").max = Math.max(1, Math.ceil(total - view.count) + 1);
   element("slider").value = Math.round(view.from) + 1;
+  element("slider").disabled = whole;
   element("earlier").disabled = view.from <= 0;
   element("later").disabled = until() >= total;
   element("closer").disabled = view.count <= Math.min(LEAST_COUNT, total);

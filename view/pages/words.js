@@ -93,12 +93,22 @@ function tellState() {
 
 // ---- The table
 
+// The first row of the table. The rows stay while the chosen event is one of them.
+let firstRow = -1;
 function fillTable() {
   const body = element("table"), rows = Math.min(total, TABLE_ROWS);
-  const first = limited(view.chosen - Math.floor(rows / 2), 0, total - rows);
+  if (firstRow < 0 || view.chosen < firstRow || view.chosen >= firstRow + rows) {
+    firstRow = limited(view.chosen - Math.floor(rows / 2), 0, total - rows);
+    fillRowsOfTable(body, rows);
+  }
+  body.querySelector(".chosen")?.classList.remove("chosen");
+  body.children[view.chosen - firstRow]?.classList.add("chosen");
+}
+
+function fillRowsOfTable(body, rows) {
   body.replaceChildren();
-  for (let place = first; place < first + rows; place += 1) {
-    const row = tag(body, "tr", undefined, place === view.chosen ? "chosen" : "");
+  for (let place = firstRow; place < firstRow + rows; place += 1) {
+    const row = tag(body, "tr");
     link(tag(row, "td"), place, shown(place + 1));
     tag(row, "td", String(streamOf(place) + 1));
     tag(row, "td", numberOf(place) ? shown(numberOf(place)) : "");
@@ -109,7 +119,7 @@ function fillTable() {
   }
   const rest = total - rows;
   element("rows").textContent = rows === 0 ? "There is no event."
-    : `Rows ${shown(first + 1)} to ${shown(first + rows)} of ${shown(total)}`
+    : `Rows ${shown(firstRow + 1)} to ${shown(firstRow + rows)} of ${shown(total)}`
       + (rest ? "; the table goes with the chosen event." : ".");
 }
 
