@@ -41,7 +41,7 @@ def start(words: list[str]) -> int:
 
 
 def answer(words: list[str]) -> int:
-    """Answers the words behind the name of the program."""
+    """Answers the words after the name of the program."""
     if words and words[0] in COMMANDS and not {"--help", "-h"}.isdisjoint(words[1:]):
         words = ["help", words[0]]
     if (why := judge.reason(words)) is not None:

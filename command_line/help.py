@@ -73,7 +73,7 @@ def whole() -> Iterator[str]:
             yield from rows_of(command)
     yield ""
     yield from row("help [COMMAND]", "this text, or the part of one command")
-    yield from row("--help, -h", "the same, also behind a command")
+    yield from row("--help, -h", "the same, also after a command")
     yield from row("--version, version", "the version, the commit, the kit and the program at hand")
     yield from ("", BUILD, "", STATUSES, "", EXAMPLES, "")
     yield "The manual page says more: man ./docs/zorvleid.1"

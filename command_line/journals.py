@@ -66,7 +66,7 @@ def heads_of(lines: Sequence[str]) -> list[str]:
 
 
 def fault_of(lines: Sequence[str], number: int) -> Fault:
-    """What is wrong with a line of the input of `verify`, which may be the one behind the last."""
+    """What is wrong with a line of the input of `verify`, which may be the one after the last."""
     begin = next((at for at, line in enumerate(lines, 1) if words_of(line) == ["journal"]), None)
     if begin is None:
         return Fault(0, NO_JOURNAL)

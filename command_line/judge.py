@@ -32,11 +32,11 @@ def is_option(word: str) -> bool:
 
 
 def takes(command: Command) -> str:
-    """What stands behind a command, beside its options."""
+    """What stands after a command, beside its options."""
     if command.operands:
         parts = dict.fromkeys(value.what for value in command.operands)
         return f"{command.name} takes {listed(list(parts))}"
-    return f"{command.name} takes {'options alone' if command.options else 'no word behind it'}"
+    return f"{command.name} takes {'options alone' if command.options else 'no word after it'}"
 
 
 def check_operands(command: Command, words: Sequence[str]) -> None:
@@ -70,18 +70,18 @@ def option_of(command: Command, word: str) -> Option:
 
 
 def check_place(option: Option, words: Sequence[str], at: int) -> None:
-    """Refuses an option that does not stand behind the one that it needs."""
+    """Refuses an option that does not stand after the one that it needs."""
     if option.behind not in (word.partition("=")[0] for word in words):
         raise Wrong(f"{option.name} needs {option.behind}")
     if words[at] != option.name or at < 2 or words[at - 2] != option.behind:
         example = f"{option.behind} 4 {option.name} 2"
-        raise Wrong(f"{option.name} stands behind {option.behind}, as in '{example}'")
+        raise Wrong(f"{option.name} stands after {option.behind}, as in '{example}'")
     if words[at - 1] == "0":
         raise Wrong(f"{option.name} needs {option.behind} from 1 to 8, not '0'")
 
 
 def check_words(command: Command, words: Sequence[str]) -> None:
-    """Refuses the first word behind a command that is wrong."""
+    """Refuses the first word after a command that is wrong."""
     seen: set[str] = set()
     operands: list[str] = []
     at = 0
@@ -92,7 +92,7 @@ def check_words(command: Command, words: Sequence[str]) -> None:
             continue
         option = option_of(command, word)
         if operands and command.operands:
-            raise Wrong(f"{option.name} stands before '{operands[0]}', not behind it")
+            raise Wrong(f"{option.name} stands before '{operands[0]}', not after it")
         if option.name in seen:
             raise Wrong(f"{option.name} stands twice")
         seen.add(option.name)
@@ -104,7 +104,7 @@ def check_words(command: Command, words: Sequence[str]) -> None:
             continue
         if word == option.name:
             if at == len(words):
-                raise Wrong(f"{option.name} takes {option.value.what}, and has nothing behind it")
+                raise Wrong(f"{option.name} takes {option.value.what}, and has nothing after it")
             value, at = words[at], at + 1
         if not option.value.fits(value):
             raise Wrong(f"{option.name} takes {option.value.what}, not '{value}'")
@@ -134,7 +134,7 @@ def check(words: Sequence[str]) -> None:
         raise Wrong(f"a command is missing; {NAMES_ALL}")
     name, rest = words[0], words[1:]
     if name in VERSION and rest:
-        raise Wrong(f"{name} takes no word behind it, not '{rest[0]}'")
+        raise Wrong(f"{name} takes no word after it, not '{rest[0]}'")
     if name in HELP and len(rest) > 1:
         raise Wrong(f"{name} takes one command, and '{rest[1]}' is one word too many")
     if name in HELP + VERSION:

@@ -8,7 +8,7 @@ WORDS_AROUND, LETTERS_AT_MOST = 3, 40
 
 @dataclass(frozen=True)
 class Fault:
-    """The place of the wrong word, which may be the one behind the last; and what was expected."""
+    """The place of the wrong word, which may be the one after the last; and what was expected."""
 
     place: int
     expected: str
@@ -36,5 +36,5 @@ def marked(words: Sequence[str], place: int) -> str:
 
 
 def told(words: Sequence[str], fault: Fault) -> str:
-    """A fault behind the line that has it."""
+    """A fault after the line that has it."""
     return f"{marked(words, fault.place)}: {fault.expected}" if words else fault.expected

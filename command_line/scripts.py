@@ -31,7 +31,7 @@ class Form:
         return " ".join((self.first, *self.once, *self.group, *([".."] if self.group else [])))
 
     def names(self, count: int) -> list[str]:
-        """The names of so many words behind the first, or of more where a group has to end."""
+        """The names of so many words after the first, or of more where a group has to end."""
         names = [*self.once, *self.group * self.least]
         while self.group and len(names) < count:
             names += self.group
@@ -173,7 +173,7 @@ def of_number(before: Before, words: Sequence[str]) -> Iterator[Fault]:
 
 
 def of_order(before: Before, words: Sequence[str]) -> Iterator[Fault]:
-    """S is not the next number, or the line stands before a stream, behind an action or a close."""
+    """S is not the next number, or the line stands before a stream, after an action or a close."""
     if words[0] == "stream":
         yield Fault(1, f"streams count from 1, and the next one is {len(before.streams) + 1}")
         return
@@ -186,7 +186,7 @@ def of_order(before: Before, words: Sequence[str]) -> Iterator[Fault]:
                        "and this has to stand before it")
     elif stream.closes:
         yield Fault(0, f"stream {stream.number} is closed in line {stream.closes}, "
-                       "and no action stands behind that")
+                       "and no action stands after that")
 
 
 def of_double(before: Before, words: Sequence[str]) -> Iterator[Fault]:
@@ -203,7 +203,7 @@ def of_double(before: Before, words: Sequence[str]) -> Iterator[Fault]:
 
 
 def of_place(before: Before, words: Sequence[str]) -> Iterator[Fault]:
-    """A value would stand behind its ring or memory, or a memory or a word is not there."""
+    """A value would stand past its ring or memory, or a memory or a word is not there."""
     stream = before.streams[-1]
     if words[0] == "put":
         start, what, noun, end = 2, f"the ring of stream {stream.number}", "place", stream.ring

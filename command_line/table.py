@@ -59,7 +59,7 @@ class Command:
     may_lack: int = 0  # how many of the last operands may be left out
     options: tuple[Option, ...] = ()
     needs_one: bool = False  # whether one of the options has to be there
-    takes_command: bool = False  # whether a command line of the program stands behind the name
+    takes_command: bool = False  # whether a command line of the program stands after the name
     reads: str = ""  # what standard input is
 
     def option(self, name: str) -> Option | None:
@@ -80,7 +80,7 @@ RUN = (
     Option("--workers", numbers("N", "1 to 8", 0, 8),
            "on threads, with 1 to 8 workers; left out, or 0: on one thread"),
     Option("--views", numbers("V", "1 to 4", 1, 4),
-           "behind --workers N: with 1 to 4 viewers, which look meanwhile", "--workers"),
+           "after --workers N: with 1 to 4 viewers, which look meanwhile", "--workers"),
 )
 PICTURES = (
     Option("--into", FOLDER, "where the files go; left out: pictures"),

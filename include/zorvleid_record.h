@@ -317,7 +317,7 @@ static inline int zv_fill(zv_script *script, uint32_t memory, uint32_t index, co
     return zv_stored(script, index, values, count);
 }
 
-/* The client hands over its ring up to a place, behind fences. `action`, where it is not NULL, is set to how many actions
+/* The client hands over its ring up to a place, after fences. `action`, where it is not NULL, is set to how many actions
  * stand before: what the service has to tell to zv_order when it takes this flush. */
 static inline int zv_flush(zv_script *script, uint32_t put, const zv_fence *fences, size_t count, uint32_t *action)
 {

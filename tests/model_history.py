@@ -367,10 +367,10 @@ def judged(script: Reader, output: bytes, viewers: int = 0) -> History:
     for line, (want, have) in enumerate(zip(due, rest), 1):
         if want != have:
             raise Wrong(
-                f"line {line} behind the journal: {want[:90]!r} follows from it, and {have[:90]!r} "
+                f"line {line} after the journal: {want[:90]!r} follows from it, and {have[:90]!r} "
                 "stands there")
     if len(rest) < len(due):
-        raise Wrong(f"line {len(rest) + 1} behind the journal is missing: {due[len(rest)][:90]!r}")
+        raise Wrong(f"line {len(rest) + 1} after the journal is missing: {due[len(rest)][:90]!r}")
     rest = rest[len(due):]
     end = next((at for at, line in enumerate(rest) if line.startswith("view ")), len(rest))
     history.judge_dumps(rest[:end])

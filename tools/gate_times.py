@@ -308,7 +308,7 @@ def main() -> int:
     )
     add = parser.add_argument
     add("log", type=Path, nargs="?", help="the log, which --run writes")
-    add("--run", action="store_true", help="run `rt ci --anew`, or the command behind --")
+    add("--run", action="store_true", help="run `rt ci --anew`, or the command after --")
     add("--crates", type=Path, default=TOP / crates.LIST, help="the crates.txt of the run")
     add("--keep", action="store_true", help=f"write the seconds of the log to {crates.TIMES}")
     add("--expect", action="store_true", help="say how long the gate takes here")

@@ -58,7 +58,7 @@ static ssize_t moved(char of, size_t count) {
     return -1;
 }
 
-/* The call of that name that stands behind this one. */
+/* The call of that name that stands after this one. */
 #define NEXT(name) \
     static __typeof__(&name) next; \
     if (!next) { \

@@ -37,7 +37,7 @@ def next_flush(event: Event, standing: Standing) -> Iterator[str]:
     if stand.ordered < len(stand.known.flushes):
         actions = stand.known.flushes[stand.ordered]
         yield (
-            f"the flush that stands behind {counted(actions, 'action')}, "
+            f"the flush after {counted(actions, 'action')}, "
             f"so order {event.stream} {event.number} {actions}"
         )
     else:
@@ -212,6 +212,6 @@ def left_of(number: int, stand: Stand, standing: Standing) -> Iterator[str]:
             yield f"get stands at {stand.get}, and PUT of number {first} is {stand.put}"
     without = stand.known.flushes[stand.ordered:]
     if without:
-        yield f"to order {len(without)} more, the next behind {counted(without[0], 'action')}"
+        yield f"to order {len(without)} more, the next after {counted(without[0], 'action')}"
     if stand.known.closes():
         yield "to close it"

@@ -98,8 +98,8 @@ def on_no_journal(given: Input, line: int) -> Iterator[str]:
     """The line of no journal, and the lines that could replace it."""
     if given.journal is None:
         yield (
-            "the input has no line whose only word is `journal`: behind the script has to come "
-            "such a line, and the journal"
+            "the input has no line whose only word is `journal`: such a line and "
+            "the journal must come after the script"
         )
         return
     text = given.text(line)

@@ -1,6 +1,6 @@
 /* Two clients that record what they do while they do it: ./client | ./zorvleid run
  *
- * The first paints an image and releases it. The second copies it, behind a fence. They take turns here, as threads might,
+ * The first paints an image and releases it. The second copies it, after a fence. They take turns here, as threads might,
  * so each has a recorder of its own; the text of the second is kept in an array until the first is done.
  */
 #include <string.h>

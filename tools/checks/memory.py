@@ -89,7 +89,7 @@ def check(top: Path, program: Path, tally: Tally) -> None:
     known, found = allowed(), list(places_of(top))
     for place in found:
         where, guard, line = place
-        fault = f"want of memory is answered behind `{guard}`, and no reason is listed"
+        fault = f"out of memory is answered after `{guard}`, and no reason is listed"
         tally.tell(f"crates/{where}: {line}", None if place in known else fault)
     for place in known:
         if place not in found:
