@@ -90,6 +90,11 @@ def without_number(event: Event) -> tuple[object, ...]:
     return event.kind, event.actions, event.code, event.words
 
 
+def firsts(count: int) -> str:
+    """The events before two rows part, as the subject of a sentence."""
+    return "first event is" if count == 1 else f"first {counted(count, 'event')} are"
+
+
 class Comparison:
     """Two histories of one script, and all in which they differ."""
 
@@ -107,8 +112,10 @@ class Comparison:
         self.ends = list(self.differing_ends())
 
     def parting_of(self, number: int) -> Parting:
-        return parting(*([without_number(output.events[place]) for place in places[number]]
-                         for output, places in zip(self.outputs, self.places)))
+        """Where a stream parts: at another event, or at a command that failed in one run alone."""
+        return parting(*([(without_number(history.output.events[place]), history.deeds[place].error)
+                          for place in places[number]]
+                         for history, places in zip((self.first, self.second), self.places)))
 
     def differing_ends(self) -> Iterator[str]:
         """The differences of the streams' lines, the waits that ended, and the dumps."""
@@ -197,16 +204,14 @@ def lines(comparison: Comparison) -> Iterator[str]:
     if comparison.whole.is_none:
         yield f"journal: the same, {counted(len(comparison.outputs[0].events), 'event')}"
     else:
-        yield f"journal: the first {counted(comparison.whole.same, 'event')} are the same, and then"
+        yield f"journal: the {firsts(comparison.whole.same)} the same, and then"
         yield from told(both, (comparison.whole.first, comparison.whole.second))
     for number, found in enumerate(comparison.streams):
         places = [side[number] for side in comparison.places]
         if found.is_none:
             yield f"stream {number + 1}: the same, {counted(len(places[0]), 'event')}"
             continue
-        yield (
-            f"stream {number + 1}: its first {counted(found.same, 'event')} are the same, and then"
-        )
+        yield f"stream {number + 1}: its {firsts(found.same)} the same, and then"
         yield from told(
             both, [at if at is None else side[at] for side, at in zip(places, found[1:])]
         )

@@ -51,7 +51,11 @@ SAID_B = (
     "    A  1  stream 1  order 1  order: drawn for the flush after 14 actions, up to PUT 14",
     "    B  1  stream 2  order 1  order: drawn for the flush after 13 actions, up to PUT 13",
     "stream 1: the same, 5 events",
-    "stream 2: the same, 4 events",
+    "stream 2: its first 2 events are the same, and then",
+    "    A  8  stream 2  order 2  CopyRect: source 7, x 1, y 0, target 8, x2 0, y2 0, w 1, h 1; "
+    "copies 1 texel to image 8",
+    "    B  4  stream 2  order 1  CopyRect: source 7, x 1, y 0, target 8, x2 0, y2 0, w 1, h 1; "
+    "failed, 0502: image 7, the source, is not there",
     "image 7: the same",
     "image 8: 1 texel of 1 differs, first at 0, 0: 336699ff in A, 00000000 in B",
     "stream 2: errors 0502 0 in A and 1 in B",
