@@ -6,7 +6,7 @@ import subprocess
 from pathlib import Path
 
 from tools.checks import outputs
-from tools.checks.looker import FRAME, TRIES, WIDTHS, Looker, busy, complaints, write_page
+from tools.checks.looker import FRAME, TRIES, WIDTHS, Looker, complaints, write_page
 
 # of the generated script that is joined with itself: its run has 112,032 events
 SIZE = ("2000", "1")
@@ -106,7 +106,7 @@ def check_opening(look: Looker, path: Path) -> None:
         seconds = page.open(path)
         page.settle()
         first = max(look.value(f"took.slice(0, {FIRST})"))
-        opened.append((seconds / busy(), first / busy()))
+        opened.append((seconds, first))
         if opened[-1][0] <= SECONDS and opened[-1][1] < FRAME:
             break
     seconds, first = min(opened)[0], min(first for _, first in opened)

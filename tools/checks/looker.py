@@ -1,6 +1,5 @@
 """A browser that looks at one page, and reports its faults."""
 
-import os
 from collections.abc import Callable
 from pathlib import Path
 from typing import Any
@@ -16,11 +15,6 @@ FRAME = 100  # the most milliseconds of a frame
 TEXT = "document.querySelector('{}').textContent"
 
 
-def busy() -> float:
-    """How many programs share a processor now, at least 1: a measured time is divided by it."""
-    return max(1.0, os.getloadavg()[0] / (os.cpu_count() or 1))
-
-
 class Looker:
     """A browser that looks at one page, and reports its faults."""
 
@@ -32,13 +26,10 @@ class Looker:
                         None if got == wanted else f"wanted {wanted!r}, got {got!r}")
 
     def quick(self, what: str, measured: Callable[[], float]) -> None:
-        """Reports a fault where each of some tries takes longer than a frame may.
-
-        The time is that of a machine that does nothing else.
-        """
+        """Reports a fault where each of some tries takes longer than a frame may."""
         took: float = FRAME
         for _ in range(TRIES):
-            took = min(took, measured() / busy())
+            took = min(took, measured())
             if took < FRAME:
                 break
         self.tally.note(f"{what} takes {took:.0f} ms")
