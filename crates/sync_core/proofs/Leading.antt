@@ -1,17 +1,18 @@
 -- The lines lead to each wait.
-use Rattle.std.proofs.Common.{◌≡◌, ◌≢◌, ◌⊎◌, ℕ, ◌+◌, ◌<◌, length, eqb, Bool, true, false, ◌&&◌, List, [], ◌∷◌, Option, Some, None, Result, Ok, Err, set, refl, sym, ap, subst, ◌∙◌, arith, inl, inr, Contains}
+use Rattle.std.proofs.Common.{◌≡◌, ◌≢◌, ◌⊎◌, ℕ, ◌+◌, ◌<◌, ◌≤◌, length, eqb, Bool, true, false, ◌&&◌, List, [], ◌∷◌, Option, Some, None, Result, Ok, Err, set, refl, sym, ap, subst, ◌∙◌, arith, inl, inr, Contains}
 use Rattle.std.specs.Prelude.{IfSome, OnSome, OnOk, OnErr}
 use Rattle.std.specs.List.Sorted.{IsPermutation}
 use Rattle.std.proofs.lemmas.Bool.{cases_eq, eq-eqb}
 use Rattle.std.proofs.lemmas.List.{get_or-set_same, get_or-set_other}
 use Rattle.std.proofs.lemmas.List.Sorted.{Contains-permutation, length_permutation}
+use Rattle.std.proofs.lemmas.List.Sums.{sum_by-set}
 use Rattle.slab.proofs.SlabLemmas.{Contains-cons, Contains-cons_cases}
 use Rattle.slab.specs.Slab.{Slab, get, Updates}
 use Rattle.sync_core.specs.declared.wait.Wait.{Wait}
 use Rattle.sync_core.specs.declared.which.Which.{Which}
 use Rattle.sync_core.specs.declared.which.Which.TheVariants.{Released, UpTo, On}
 use Rattle.sync_core.specs.Lines.{line_at, is_within, Loses}
-use Rattle.sync_core.specs.Queues.{takes, Leads, LeadToAll, LeadToOthers}
+use Rattle.sync_core.specs.Queues.{takes, Leads, LeadToAll, LeadToOthers, entry_count}
 
 second : (a b : Bool) → a ≡ true → (a && b) ≡ false → b ≡ false
 second true b e k = k
@@ -59,9 +60,13 @@ module _ (old new : List (List (ℕ × ℕ))) (same : List (List (ℕ × ℕ))) 
   }
 
 -- and its line is shorter
-pub shorter : (limit : Option ℕ) (old new : List (ℕ × ℕ)) (r : Option ℕ) → IfSome r (Loses limit old new) → OnSome r (length new < length old)
-shorter limit old new None l = l
-shorter limit old new (Some slot) l = let same = length_permutation old ((l.key, slot) ∷ new) l.moved in omega (arith, same)
+pub shorter : (limit : Option ℕ) (lines : List (List (ℕ × ℕ))) (target : ℕ) (new : List (ℕ × ℕ)) (r : Option ℕ) → target < length lines → IfSome r (Loses limit (line_at lines target) new)
+    → OnSome r (entry_count (set lines target new) < entry_count lines)
+shorter limit lines target new None within l = l
+shorter limit lines target new (Some slot) within l =
+    let less = length_permutation (line_at lines target) ((l.key, slot) ∷ new) l.moved in
+    let all = sum_by-set (λ (l : List (ℕ × ℕ)). length l) lines target new [] within in
+    omega (arith, less, all)
 
 -- a wait that is taken leaves its slot
 pub leads_taken : (releases orders : List (List (ℕ × ℕ))) (a b : Slab Wait) (slot : ℕ) (which : Which) → LeadToOthers slot which releases orders a → Updates a b slot None → LeadToAll releases orders b
@@ -107,6 +112,18 @@ olds_stay lines target old new within is more t e here = by (cases_eq t target)
 pub new_there : {T E : Type 0} (lines : List (List (ℕ × ℕ))) (target : ℕ) (x : ℕ × ℕ) (old new : List (ℕ × ℕ)) (r : Result T E) → target < length lines → OnOk r (IsPermutation (x ∷ old) new) → OnOk r (Contains (line_at (set lines target new) target) x)
 new_there lines target x old new (Ok v) within moved = subst (λ (l : List (ℕ × ℕ)). Contains l x) (sym (get_or-set_same lines target new [] within)) (Contains-permutation (x ∷ old) new x moved (0, omega arith, refl))
 new_there lines target x old new (Err v) within moved = moved
+
+pub longer : {T E : Type 0} (lines : List (List (ℕ × ℕ))) (target : ℕ) (x : ℕ × ℕ) (old new : List (ℕ × ℕ)) (r : Result T E) → target < length lines → old ≡ line_at lines target → OnOk r (IsPermutation (x ∷ old) new) → OnErr r (new ≡ old)
+    → entry_count (set lines target new) ≤ entry_count lines + 1
+longer lines target x old new (Ok v) within is moved same =
+    let more = length_permutation (x ∷ old) new moved in
+    let all = sum_by-set (λ (l : List (ℕ × ℕ)). length l) lines target new [] within in
+    let was = ap length is in
+    omega (arith, more, all, was)
+longer lines target x old new (Err v) within is moved same =
+    let all = sum_by-set (λ (l : List (ℕ × ℕ)). length l) lines target new [] within in
+    let was = ap length (same ∙ is) in
+    omega (arith, all, was)
 
 -- and lines that lead to the waits below a slot, and to that in it, lead to those below the next one
 pub leads_next : (rs os rs' os' : List (List (ℕ × ℕ))) (a : Slab Wait) (slot : ℕ) → ((i : ℕ) (w : Wait) → i < slot → get a i ≡ Some w → Leads rs os i w) → ((i : ℕ) (w : Wait) → Leads rs os i w → Leads rs' os' i w)

@@ -1,4 +1,4 @@
-ghost use Rattle.std.specs.Prelude.{◌≡◌, ◌≢◌, ℕ, ◌+◌, ◌<◌, ◌≤◌, [], All, Contains, true, false, ◌==◌, filter, length, vec_len, vec_capacity, OnOk, OnErr, OnSome, IfSome, IfNone, IfOk, Some};
+ghost use Rattle.std.specs.Prelude.{◌≡◌, ◌≢◌, ℕ, ◌+◌, ◌*◌, ◌^◌, ◌<◌, ◌≤◌, [], All, Contains, true, false, ◌==◌, filter, length, vec_len, vec_capacity, OnOk, OnErr, OnSome, IfSome, IfNone, IfOk, Some};
 ghost use Rattle.std.specs.List.{list_any};
 ghost use Rattle.std.specs.List.Sorted.{IsStrictlySortedBy};
 ghost use Rattle.std.specs.BTreeMap.{is_at};
@@ -8,7 +8,7 @@ ghost use Rattle.sync_core.specs.declared.wait.Wait.{Wait};
 ghost use Rattle.sync_core.specs.Keys.{wait_cmp};
 ghost use Rattle.sync_core.specs.Pending.{placed};
 ghost use Rattle.sync_core.specs.Lines.{line_at, is_within, Loses};
-ghost use Rattle.sync_core.specs.Queues.{takes, leaves, is_other, has, GoesLast, Leads, LeadToAll, LeadToOthers, to_go};
+ghost use Rattle.sync_core.specs.Queues.{takes, leaves, is_other, has, GoesLast, Leads, LeadToAll, LeadToOthers, AreLines, entry_count};
 
 use crate::line::Line;
 use crate::records::Records;
@@ -17,7 +17,7 @@ use crate::which::{Which, Whose, takes};
 use std::alloc::{AllocError, Global};
 use std::marker::Model;
 
-/// Lines with fewer entries than four times this are never made anew.
+/// Lines are never made anew where fewer than three times this many waits were added.
 const FEW: usize = 256;
 
 /// The pending waits: their records, with a line by release and one by order number for each
@@ -25,13 +25,14 @@ const FEW: usize = 256;
 ///
 /// A wait that ends leaves its slot, while its entries may stay in the lines:
 /// - what comes out of a line is looked up in the records, and is let go where it leads to no wait that must end
-/// - the count of entries only tells when it pays to make the lines anew: no clause rests on it
+/// - the lines are made anew after three times as many waits were added as there are slots
+/// - so they have at most eight entries for each slot, and 1,536 more
 #[derive(Drop)]
 pub struct Queues {
     all: Records,
     releases: Vec<Line>,
     orders: Vec<Line>,
-    entries: usize,
+    added: usize,
     alloc: Global,
 }
 
@@ -39,13 +40,13 @@ impl Model for Queues {
     ghost use Rattle.std.specs.Prelude.{List};
     ghost use Rattle.sync_core.specs.declared.wait.Wait.{Wait};
     ghost use Rattle.sync_core.specs.Records.{waits_of};
-    ghost use Rattle.sync_core.specs.Queues.{LeadToAll};
+    ghost use Rattle.sync_core.specs.Queues.{AreLines};
 
     ghost Value = { List Wait };
 
     ghost view = { λ q. waits_of q.all.slab };
 
-    ghost invariant = { λ q. LeadToAll q.releases.items q.orders.items q.all.slab };
+    ghost invariant = { λ q. AreLines q.all.slab q.added q.releases.items q.orders.items };
 }
 
 /// Adds a slot to the line of a target.
@@ -59,6 +60,7 @@ fn push(
     ensures olds { (t : ℕ) (e : ℕ × ℕ) → Contains (line_at lines.old.items t) e
         → Contains (line_at lines.new.items t) e }
     ensures new { OnOk result (Contains (line_at lines.new.items target) (key, slot)) }
+    ensures count { entry_count lines.new.items ≤ entry_count lines.old.items + 1 }
 {
     while lines.len() <= target as usize {
         lines.push(Line::new(alloc))?;
@@ -77,6 +79,8 @@ fn lead(
     ensures olds { (i : ℕ) (w : Wait) → Leads releases.old.items orders.old.items i w
         → Leads releases.new.items orders.new.items i w }
     ensures new { OnOk result (Leads releases.new.items orders.new.items slot wait) }
+    ensures count { entry_count releases.new.items + entry_count orders.new.items
+        ≤ entry_count releases.old.items + entry_count orders.old.items + 2 }
 {
     push(releases, alloc, wait.target, wait.release, slot)?;
     push(orders, alloc, wait.target, wait.order as u64, slot)
@@ -90,6 +94,7 @@ fn pop(lines: &mut Vec<Line>, target: u32, limit: Option<u64>) -> Option<usize>
     ensures none { IfNone result
         (All (λ (e : ℕ × ℕ). is_within e.0 limit ≡ false) (line_at lines.old.items target)) }
     ensures same { IfNone result (lines.new.items ≡ lines.old.items) }
+    ensures fewer { OnSome result (entry_count lines.new.items < entry_count lines.old.items) }
 {
     if lines.len() <= target as usize {
         return None;
@@ -103,8 +108,8 @@ fn next_slot(releases: &mut Vec<Line>, orders: &mut Vec<Line>, which: Which) -> 
         (λ slot. (slab : Slab Wait) → LeadToAll releases.old.items orders.old.items slab
         → LeadToOthers slot which releases.new.items orders.new.items slab) }
     ensures fewer { OnSome result
-        (to_go which releases.new.items orders.new.items
-        < to_go which releases.old.items orders.old.items) }
+        (entry_count releases.new.items + entry_count orders.new.items
+        < entry_count releases.old.items + entry_count orders.old.items) }
     ensures none { IfNone result
         ((slab : Slab Wait) → LeadToAll releases.old.items orders.old.items slab
         → (i : ℕ) (w : Wait) → get slab i ≡ Some w → takes which w ≡ false) }
@@ -120,7 +125,10 @@ fn next_slot(releases: &mut Vec<Line>, orders: &mut Vec<Line>, which: Which) -> 
 
 /// Makes lines that lead to each of these waits, and have nothing else.
 fn lines_to(all: &Records, alloc: Global) -> Result<(Vec<Line>, Vec<Line>), AllocError>
-    ensures { IfOk result (λ lines. LeadToAll lines.0.items lines.1.items all.now.slab) }
+    ensures lead { IfOk result (λ lines. LeadToAll lines.0.items lines.1.items all.now.slab) }
+    ensures count { IfOk result
+        (λ lines. entry_count lines.0.items + entry_count lines.1.items
+        ≤ 2 * all.now.slab.capacity) }
 {
     let mut releases = Vec::new(alloc);
     let mut orders = Vec::new(alloc);
@@ -132,6 +140,31 @@ fn lines_to(all: &Records, alloc: Global) -> Result<(Vec<Line>, Vec<Line>), Allo
     Ok((releases, orders))
 }
 
+/// Makes the lines anew where many waits were added since they were made.
+///
+/// The pass over the slots comes only after three times as many waits were added.
+fn tidy(
+    all: &Records,
+    added: &mut usize,
+    releases: &mut Vec<Line>,
+    orders: &mut Vec<Line>,
+    alloc: Global,
+) -> Result<(), AllocError>
+    requires { AreLines all.now.slab added.old releases.old.items orders.old.items }
+    ensures lines { AreLines all.now.slab added.new releases.new.items orders.new.items }
+    ensures room { OnOk result (added.new < 3 * (all.now.slab.capacity + FEW)) }
+    ensures fits { OnOk result (added.new + 1 < 2 ^ 64) }
+{
+    let most = all.bound().saturating_add(FEW).saturating_mul(3);
+    if most <= *added {
+        let (by_release, by_order) = lines_to(all, alloc)?;
+        *releases = by_release;
+        *orders = by_order;
+        *added = 0;
+    }
+    Ok(())
+}
+
 impl Queues {
     /// No waits.
     pub fn new(alloc: Global) -> Queues
@@ -141,7 +174,7 @@ impl Queues {
             all: Records::new(alloc),
             releases: Vec::new(alloc),
             orders: Vec::new(alloc),
-            entries: 0,
+            added: 0,
             alloc,
         }
     }
@@ -154,23 +187,6 @@ impl Queues {
         self.all.len()
     }
 
-    /// Makes the lines anew where most of their entries lead to no wait.
-    ///
-    /// Each wait that ends leaves an entry or two. So the lines stay in proportion to the slots of
-    /// the records, and a pass over these comes only after as many entries were added.
-    fn tidy(&mut self) -> Result<(), AllocError>
-        ensures { self.new ≡ self.old }
-    {
-        if self.entries / 4 <= self.all.bound().max(FEW) {
-            return Ok(());
-        }
-        let (releases, orders) = lines_to(&self.all, self.alloc)?;
-        self.releases = releases;
-        self.orders = orders;
-        self.entries = self.all.len().saturating_mul(2);
-        Ok(())
-    }
-
     /// Puts a wait after all waits of its number and of lower ones.
     pub fn insert(&mut self, wait: Wait) -> Result<(), AllocError>
         requires { GoesLast wait self.old }
@@ -178,17 +194,17 @@ impl Queues {
         ensures len { OnOk result (length self.new ≡ length self.old + 1) }
         ensures err { OnErr result (self.new ≡ self.old) }
     {
-        self.tidy()?;
         let Queues {
             all,
             releases,
             orders,
-            entries,
+            added,
             alloc,
         } = self;
+        tidy(all, added, releases, orders, *alloc)?;
         let slot = all.reserve(wait.order)?;
+        *added += 1;
         lead(releases, orders, *alloc, wait, slot)?;
-        *entries = entries.saturating_add(2);
         all.insert(wait);
         Ok(())
     }
@@ -212,11 +228,9 @@ impl Queues {
             all,
             releases,
             orders,
-            entries,
             ..
         } = self;
         while let Some(slot) = next_slot(releases, orders, which) {
-            *entries = entries.saturating_sub(1);
             if let Some(wait) = all.get(slot) {
                 if takes(which, wait) {
                     all.remove(slot, wait);

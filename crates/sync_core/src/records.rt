@@ -1,4 +1,4 @@
-ghost use Rattle.std.specs.Prelude.{◌≡◌, ℕ, ◌<◌, ◌==◌, [], length, filter, false, Some, None, OnOk, IfOk};
+ghost use Rattle.std.specs.Prelude.{◌≡◌, ℕ, ◌<◌, ◌≤◌, ◌==◌, [], length, filter, false, Some, None, OnOk, IfOk};
 ghost use Rattle.std.specs.List.{list_any};
 ghost use Rattle.std.specs.List.Sorted.{IsStrictlySortedBy};
 ghost use Rattle.std.specs.BTreeMap.{is_at};
@@ -78,6 +78,7 @@ impl Records {
         ensures counted { OnOk result (order < self.new.numbers) }
         ensures slot { IfOk result (λ slot. slot ≡ self.new.slab.vacant_key) }
         ensures same { self.new.slab.slots ≡ self.old.slab.slots }
+        ensures grows { self.old.slab.capacity ≤ self.new.slab.capacity }
     {
         self.slots.reserve(1)?;
         while self.counts.len() <= order as usize {
@@ -94,6 +95,7 @@ impl Records {
         ensures vacant { get self.old.slab self.old.slab.vacant_key ≡ None }
         ensures updates { Updates self.old.slab self.new.slab self.old.slab.vacant_key (Some wait) }
         ensures waits { waits_of self.new.slab ≡ insert_key wait_cmp (waits_of self.old.slab) wait }
+        ensures capacity { self.new.slab.capacity ≡ self.old.slab.capacity }
     {
         let _slot = self.slots.insert_reserved(wait);
         let _waiting = self.slots.len();
@@ -106,6 +108,7 @@ impl Records {
         ensures updates { Updates self.old.slab self.new.slab slot None }
         ensures waits { waits_of self.new.slab
             ≡ remove_key (is_at (wait_cmp wait)) (waits_of self.old.slab) }
+        ensures capacity { self.new.slab.capacity ≡ self.old.slab.capacity }
     {
         let _wait = self.slots.remove(slot);
         self.counts[wait.order as usize] -= 1;
@@ -117,6 +120,7 @@ impl Records {
         ensures gone { (w : Wait) → get self.new.slab slot ≡ Some w → is_of whose w ≡ false }
         ensures others { filter (is_other whose) (waits_of self.new.slab)
             ≡ filter (is_other whose) (waits_of self.old.slab) }
+        ensures capacity { self.new.slab.capacity ≡ self.old.slab.capacity }
     {
         if let Some(wait) = self.get(slot) {
             if is_of(whose, wait) {
@@ -125,9 +129,10 @@ impl Records {
         }
     }
 
-    /// A number above all slots that have a wait.
+    /// How many slots there are, which is above all slots that have a wait.
     pub fn bound(&self) -> usize
-        ensures { (i : ℕ) (w : Wait) → get self.now.slab i ≡ Some w → i < result }
+        ensures value { result ≡ self.now.slab.capacity }
+        ensures above { (i : ℕ) (w : Wait) → get self.now.slab i ≡ Some w → i < result }
     {
         self.slots.capacity()
     }
@@ -136,6 +141,7 @@ impl Records {
     pub fn drop_all(&mut self, whose: Whose)
         ensures fewer { (i : ℕ) (w : Wait) → get self.new.slab i ≡ Some w → get self.old.slab i ≡ Some w }
         ensures waits { waits_of self.new.slab ≡ filter (is_other whose) (waits_of self.old.slab) }
+        ensures capacity { self.new.slab.capacity ≡ self.old.slab.capacity }
     {
         for slot in 0..self.bound() {
             self.drop_in(slot, whose);
