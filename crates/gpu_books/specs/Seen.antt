@@ -1,5 +1,5 @@
 -- What contracts see of a half, and what ties books and halves to their tables and seats.
-use Rattle.std.specs.Prelude.{◌≡◌, ℕ, List, [], length, Option, Some, None, refl}
+use Rattle.std.specs.Prelude.{◌≡◌, ℕ, List, [], Option, Some, None, refl}
 use Rattle.std.specs.Coded.{Coded, code_by, coded×, coded_ℕ, coded_list}
 use Rattle.atomic_table.specs.Seated.{TableId, table_id_coded}
 use Rattle.atomic_table.specs.declared.shared.Seat.{Seat}
@@ -20,9 +20,9 @@ half_coded = code_by (TableId × List ℕ) (coded× table_id_coded (coded_list c
 abbrev pub blank_half : TableId → HalfData
 blank_half book = record { book = book; numbers = six_zeros }
 
--- the table has six words and no slots
+-- the table has one word and no slots
 abbrev pub IsBook : TableId → Type 0
-IsBook table = (table.words ≡ 6) × (table.slots ≡ 0)
+IsBook table = (table.words ≡ 1) × (table.slots ≡ 0)
 
 -- the name of no book
 abbrev pub no_book : TableId
@@ -33,11 +33,11 @@ abbrev pub half_of : Option (Seat (Unit {0}) View) → HalfData
 half_of (Some seat) = record { book = seat.table_id; numbers = numbers_of seat.me.0 }
 half_of None = record { book = no_book; numbers = [] }
 
--- there is a seat, which has a half of six numbers
+-- there is a seat, which has a half
 abbrev pub IsHalf : Option (Seat (Unit {0}) View) → Type 0
-IsHalf (Some seat) = (seat.me ≡ (Halved (numbers_of seat.me.0), [])) × (length (numbers_of seat.me.0) ≡ 6)
+IsHalf (Some seat) = seat.me ≡ (Halved (numbers_of seat.me.0), [])
 IsHalf None = ⊥
 
--- the seat has all of the book, and six numbers
+-- the seat has all of the book
 abbrev pub IsFull : Sat → Type 0
-IsFull seat = (weight seat.0 ≡ 2) × (seat.1 ≡ []) × (length (numbers_of seat.0) ≡ 6)
+IsFull seat = (weight seat.0 ≡ 2) × (seat.1 ≡ [])

@@ -1,5 +1,5 @@
 -- What each seat at a book knows, and what each step makes of it.
-use Rattle.std.specs.Prelude.{◌≡◌, ℕ, List, [], slice_set, replicate}
+use Rattle.std.specs.Prelude.{◌≡◌, ℕ, List, [], replicate}
 use Rattle.atomic_table.specs.Table.{Me, Step}
 use Rattle.gpu_books.specs.declared.table.View.{View}
 use Rattle.gpu_books.specs.declared.table.View.TheVariants.{Full, Joined, Halved, Spent}
@@ -49,6 +49,6 @@ joined view other = Joined (numbers_of view) (numbers_of other)
 abbrev pub compares : Step (Unit {0}) → Sat → ℕ → Sat → Type 0
 compares step before value after = (after ≡ before) × (numbers_of before.0 ≡ joined_of before.0)
 
--- a store sets the number of its word
-abbrev pub sets_one : Step (Unit {0}) → Sat → ℕ → Sat → Type 0
-sets_one step before value after = after ≡ (Full (slice_set (numbers_of before.0) step.word step.first), before.1)
+-- a load through a full view gives it other numbers: they are named at the call, and no word has them
+abbrev pub renumbers : List ℕ → Step (Unit {0}) → Sat → ℕ → Sat → Type 0
+renumbers numbers step before value after = after ≡ (Full numbers, before.1)

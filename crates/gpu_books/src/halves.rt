@@ -1,16 +1,16 @@
 ghost use Rattle.std.specs.Prelude.{◌≡◌, IfOk};
 ghost use Rattle.gpu_books.specs.Seen.{blank_half};
 
-use crate::steps::{Holder, compare, cut, join, store_all};
+use crate::steps::{Holder, compare, cut, join, renumber};
 use crate::table::Book;
 use atomic_table::Table;
 use gpu_word::Memory;
 use std::alloc::Global;
-use std::marker::Model;
+use std::marker::{Brand, Model};
 
 /// One of the two halves of a book, which can go to another thread.
 ///
-/// Seen as the name of its book, and its six numbers.
+/// Seen as the name of its book, and its numbers, which take no memory.
 #[derive(Drop)]
 pub struct Half {
     // None inside a call alone, while both halves are joined.
@@ -29,17 +29,16 @@ impl Model for Half {
     ghost invariant = { λ h. IsHalf h.seat };
 }
 
-/// A new book with its two halves, whose numbers are all 0.
+/// A new book with its two halves, whose numbers are six zeros.
 ///
 /// # Errors
 ///
-/// `Memory`: for the six words, 8 bytes each.
+/// `Memory`: for the shared word.
 pub fn make(alloc: Global) -> Result<(Book, Half, Half), Memory>
     ensures kept { IfOk result (λ made. made.1 ≡ blank_half made.0) }
     ensures out { IfOk result (λ made. made.2 ≡ blank_half made.0) }
 {
-    let zeros = [0u64; 6];
-    let (table, seat) = Table::of_words(alloc, &zeros, &())?;
+    let (table, seat) = Table::of_words(alloc, &[0u64], &())?;
     let book = Book { table };
     let (one, other) = cut(&book, seat);
     let kept = Half { seat: Some(one) };
@@ -63,7 +62,7 @@ pub fn agree(book: &Book, kept: &mut Half, out: &mut Half)
     out.seat = Some(other);
 }
 
-/// Gives both halves of a book these numbers.
+/// Gives both halves of a book these numbers. They are for contracts alone: nothing stores them.
 pub fn set(book: &Book, kept: &mut Half, out: &mut Half, numbers: &[u64; 6])
     requires kept { kept.old.book ≡ book.now }
     requires out { out.old.book ≡ book.now }
@@ -72,7 +71,7 @@ pub fn set(book: &Book, kept: &mut Half, out: &mut Half, numbers: &[u64; 6])
     ensures out { out.new ≡ record { book = book.now; numbers = numbers.now } }
 {
     let mut full = join(book, kept.seat.take(), out.seat.take());
-    store_all(book, &mut full, numbers);
+    renumber::<Brand>(book, &mut full, numbers);
     let (one, other) = cut(book, full);
     kept.seat = Some(one);
     out.seat = Some(other);

@@ -4,7 +4,7 @@ ghost use Rattle.gpu_books.specs.declared.table.View.TheVariants.{Joined};
 ghost use Rattle.gpu_books.specs.Views.{numbers_of, joined_of};
 ghost use Rattle.gpu_books.specs.Seen.{half_of, IsHalf, IsFull};
 
-use crate::table::{Book, Compares, Halves, SetsOne, View};
+use crate::table::{Book, Compares, Halves, Numbers, Renumbers, View};
 use atomic_table::Seat;
 
 // A seat at a book.
@@ -26,7 +26,7 @@ pub(crate) fn join(book: &Book, kept: Option<Holder>, out: Option<Holder>) -> Ho
     full
 }
 
-// Loads a word, which tells that the numbers of both halves were equal.
+// Loads the word, which tells that the numbers of both halves were equal.
 pub(crate) fn compare(book: &Book, full: &mut Holder)
     requires book { full.old.table_id ≡ book.now }
     requires full { IsFull full.old.me }
@@ -38,18 +38,17 @@ pub(crate) fn compare(book: &Book, full: &mut Holder)
     book.table.shared.load::<Compares>(full, 0);
 }
 
-// Stores each number into its word.
-pub(crate) fn store_all(book: &Book, full: &mut Holder, numbers: &[u64; 6])
+// Gives a full view other numbers, which N names: no code reads the argument.
+pub(crate) fn renumber<N: Numbers>(book: &Book, full: &mut Holder, _numbers: &[u64; 6])
     requires book { full.old.table_id ≡ book.now }
     requires full { IsFull full.old.me }
+    requires named { _numbers.now ≡ N.numbers }
 
     ensures book { full.new.table_id ≡ book.now }
     ensures full { IsFull full.new.me }
-    ensures numbers { numbers_of full.new.me.0 ≡ numbers.now }
+    ensures numbers { numbers_of full.new.me.0 ≡ _numbers.now }
 {
-    for i in 0..6 {
-        book.table.shared.store::<SetsOne>(full, i, numbers[i]);
-    }
+    book.table.shared.load::<Renumbers<N>>(full, 0);
 }
 
 // Cuts a full view into two halves.

@@ -2,7 +2,7 @@
 
 use atomic_table::{Join, Play, Split, Table, TableRule};
 use std::alloc::Global;
-use std::marker::Model;
+use std::marker::{Brand, Model, PhantomData};
 
 /// What a seat knows. No value of it is ever made.
 pub enum View {
@@ -28,7 +28,7 @@ impl TableRule<(), View, ()> for BookRule {
     ghost first = { λ _. opened };
 }
 
-/// The six words in which the numbers of two halves lie, 64 bits each.
+/// What ties two halves: one shared word, whose steps change what both know. The word itself says nothing.
 ///
 /// Seen as the name of its table: the halves of this book name the same one.
 #[derive(Drop)]
@@ -78,11 +78,26 @@ impl Play<(), View> for Compares {
     ghost then = { compares };
 }
 
-// Stores one word through a full view.
-pub(crate) struct SetsOne;
+/// The numbers that a book gets. A load has no operand that could say them.
+pub trait Numbers {
+    ghost use Rattle.std.specs.Prelude.{ℕ, List};
 
-impl Play<(), View> for SetsOne {
-    ghost use Rattle.gpu_books.specs.Views.{sets_one};
+    ghost numbers: { List ℕ };
+}
 
-    ghost then = { sets_one };
+impl Numbers for Brand {
+    ghost use Rattle.std.specs.Prelude.{[]};
+
+    ghost numbers = { [] };
+}
+
+// Gives a full view other numbers, with a load of the word.
+pub(crate) struct Renumbers<N: Numbers> {
+    of: PhantomData<N>,
+}
+
+impl<N: Numbers> Play<(), View> for Renumbers<N> {
+    ghost use Rattle.gpu_books.specs.Views.{renumbers};
+
+    ghost then = { renumbers N.numbers };
 }

@@ -1,8 +1,8 @@
 -- What is fetched of a command, at each point where the fetching stops.
-use Rattle.std.proofs.Common.{◌≡◌, ℕ, zero, suc, ◌+◌, ◌-◌, ◌<◌, ◌≤◌, Result, Ok, Err, inr, List, [], ◌∷◌, ◌++◌, length, drop, map, refl, sym, ap, ◌∙◌, subst, arith, append_assoc, IsOkAnd}
+use Rattle.std.proofs.Common.{◌≡◌, ℕ, zero, suc, ◌+◌, ◌-◌, ◌<◌, ◌≤◌, Result, Ok, Err, inl, inr, List, [], ◌∷◌, ◌++◌, length, drop, map, refl, sym, ap, ◌∙◌, subst, arith, append_assoc, IsOkAnd}
 use Rattle.std.specs.Prelude.{slice_index, slice_range}
 use Rattle.std.specs.List.{range_with_len}
-use Rattle.std.proofs.lemmas.List.{map-append, length-drop, take_all}
+use Rattle.std.proofs.lemmas.List.{map-append, append-nil, length-drop, take_all}
 use Rattle.gpu_cmd.specs.declared.error.CmdError.{CmdError}
 use Rattle.gpu_cmd.specs.declared.error.CmdError.TheVariants.{OutOfBounds}
 use Rattle.gpu_cmd.specs.declared.facts.StreamFacts.{StreamFacts}
@@ -132,7 +132,27 @@ ring_refused s t facts entry shape list entries error ring are put head decoding
     let same = ring_entries s t facts entry shape list entries ring are in
     rw ring.listed (entries_refused facts shape (entry ∷ ring.values) error put head ring.all (ap (λ values. decoded values facts) (sym same) ∙ decoding))
 
+-- the header alone
+pub header_fetched : (facts : StreamFacts) (list : List (ℕ × ℕ)) (entry : ℕ) (error : CmdError) → list ≡ (facts.get, entry) ∷ [] → facts.put < facts.areas.ring → headed entry facts ≡ Err error → IsCopy list facts (Err error)
+header_fetched facts list entry error is put head = rw is (header_refused facts entry error put head)
+
+-- and of a command that is refused by it
+pub header_some : (s t : SideData) (facts : StreamFacts) (entry : ℕ) (error : CmdError) → Fetches s t ((facts.get, entry) ∷ []) → facts.put < facts.areas.ring → headed entry facts ≡ Err error → FetchesSome s t facts
+header_some s t facts entry error fetches put head = record {
+  words = (facts.get, entry) ∷ [];
+  rest = [];
+  fetches = fetches;
+  first = sym (header_fetched facts ((facts.get, entry) ∷ []) entry error refl put head).places ∙ sym (append-nil (facts.get ∷ []));
+}
+
 -- ---- where the fetching stops between two rows
+
+pub rows_header : (s t u : SideData) (facts : StreamFacts) (entry : ℕ) → Fetches s t ((facts.get, entry) ∷ []) → u ≡ t → FetchesRows s u facts
+rows_header s t u facts entry fetches same = record {
+  words = (facts.get, entry) ∷ [];
+  fetches = subst (λ (x : SideData). Fetches s x ((facts.get, entry) ∷ [])) (sym same) fetches;
+  rows = inr (inl refl);
+}
 
 pub rows_ring : (s t u : SideData) (facts : StreamFacts) (entry : ℕ) (shape : Shape) (list : List (ℕ × ℕ)) → RingFetched s t facts entry shape list → u ≡ t → headed entry facts ≡ Ok shape → FetchesRows s u facts
 rows_ring s t u facts entry shape list ring same head =
@@ -166,6 +186,3 @@ transfer_some s t u facts entry shape list entries found ring are part put head 
 
 pub nothing_fetched : (facts : StreamFacts) (list : List (ℕ × ℕ)) → list ≡ [] → facts.areas.ring ≤ facts.put → IsCopy list facts (Err OutOfBounds)
 nothing_fetched facts list none far = let out = put_out_of_range [] facts far in rw none (record { places = sym out.1; verdict = out.0 })
-
-pub header_fetched : (facts : StreamFacts) (list : List (ℕ × ℕ)) (entry : ℕ) (error : CmdError) → list ≡ (facts.get, entry) ∷ [] → facts.put < facts.areas.ring → headed entry facts ≡ Err error → IsCopy list facts (Err error)
-header_fetched facts list entry error is put head = rw is (header_refused facts entry error put head)

@@ -11,4 +11,4 @@ words_in (part ∷ more) = part.count + words_in more
 -- what was fetched of each: the first has the first words of the list, and each further one those after
 abbrev pub parts_of : List (ℕ × ℕ) → List FetchedPart → List FetchedData
 parts_of list [] = []
-parts_of list (part ∷ more) = record { words = take part.count list; verdict = part.verdict; facts = part.facts } ∷ parts_of (drop part.count list) more
+parts_of list (part ∷ more) = record { words = take part.count list; verdict = part.verdict; facts = part.facts.facts } ∷ parts_of (drop part.count list) more

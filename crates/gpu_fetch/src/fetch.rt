@@ -7,13 +7,14 @@ ghost use Rattle.gpu_fetch.specs.Side.{Fetches};
 ghost use Rattle.gpu_fetch.specs.Fetched.{added, FetchesRow, FetchesRowInPart, FetchesSome, FetchesRows};
 
 use crate::fetched::Fetched;
+use crate::seen_facts::SeenFacts;
 use crate::side::ServiceSide;
 use fetched_words::Words;
 use gpu_cmd::{CmdError, Command, StreamFacts, decode, head};
 use gpu_word::{Memory, copy_values};
 use std::alloc::Global;
 
-/// For how many words room is made at first: most commands have no more ring entries.
+/// For how many values room is made at first: most commands have no more ring entries.
 const USUAL_ENTRIES: usize = 16;
 
 // Fetches the words of a given number of places that follow one another, in rising order, and appends them to a list.
@@ -87,13 +88,16 @@ pub fn fetch_onto<P: ServiceSide>(
         return Ok(Err(CmdError::OutOfBounds));
     }
     let from = list.len();
-    list.reserve(USUAL_ENTRIES)?;
     let entry = side.fetch(words, facts.get)?;
-    list.push((facts.get, entry))?;
     let shape = match head(entry, facts) {
         Ok(shape) => shape,
-        Err(error) => return Ok(Err(error)),
+        Err(error) => {
+            list.push((facts.get, entry))?;
+            return Ok(Err(error));
+        }
     };
+    list.reserve(shape.ring_words as usize)?;
+    list.push_reserved((facts.get, entry));
     fetch_row(side, words, list, facts.get + 1, shape.ring_words - 1)?;
     values.clear();
     values.reserve(USUAL_ENTRIES)?;
@@ -144,5 +148,5 @@ pub fn fetch_command<P: ServiceSide>(
 {
     let mut list = Vec::new(alloc);
     let verdict = fetch_onto(side, words, facts, &mut list, values)?;
-    Ok(Fetched::of(Words::taken(list), verdict, facts))
+    Ok(Fetched::of(Words::taken(list), verdict, SeenFacts::of(facts)))
 }

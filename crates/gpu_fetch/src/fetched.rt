@@ -3,17 +3,18 @@ ghost use Rattle.std.specs.List.Sorted.{IsStrictlyIncreasing};
 ghost use Rattle.gpu_cmd.specs.Lawful.{IsLawfulFacts};
 ghost use Rattle.gpu_cmd.specs.Copied.{IsCopy, copied, fetched_places, places_listed};
 
+use crate::seen_facts::SeenFacts;
 use fetched_words::Words;
-use gpu_cmd::{CmdError, Command, StreamFacts};
+use gpu_cmd::{CmdError, Command};
 use std::marker::Model;
 
-/// What was fetched of a command: its words, each once and in order, the verdict of checks 1 to 10 on them, and the facts
-/// of the stream that the verdict rests on.
+/// What was fetched of a command: its words, each once and in order, and the verdict of checks 1 to 10 on them. Contracts see
+/// the facts of the stream beside it, which the verdict rests on: they are lawful, and `get` is not `put`.
 #[derive(Debug, Drop)]
 pub struct Fetched {
     words: Words,
     verdict: Result<Command, CmdError>,
-    facts: StreamFacts,
+    facts: SeenFacts,
 }
 
 impl Model for Fetched {
@@ -21,32 +22,28 @@ impl Model for Fetched {
 
     ghost Value = { FetchedData };
 
-    ghost view = { λ f. record { words = f.words; verdict = f.verdict; facts = f.facts } };
+    ghost view = { λ f. record { words = f.words; verdict = f.verdict; facts = f.facts.facts } };
 
     ghost invariant = { λ f. IsFetched
-        (record { words = f.words; verdict = f.verdict; facts = f.facts }) };
+        (record { words = f.words; verdict = f.verdict; facts = f.facts.facts }) };
 }
 
 impl Fetched {
     // The words of a command with the verdict on them.
-    pub(crate) fn of(
-        words: Words,
-        verdict: Result<Command, CmdError>,
-        facts: &StreamFacts,
-    ) -> Fetched
-        requires lawful { IsLawfulFacts facts.now }
-        requires more { facts.now.get ≢ facts.now.put }
-        requires copy { IsCopy words facts.now verdict }
+    pub(crate) fn of(words: Words, verdict: Result<Command, CmdError>, facts: SeenFacts) -> Fetched
+        requires lawful { IsLawfulFacts facts.facts }
+        requires more { facts.facts.get ≢ facts.facts.put }
+        requires copy { IsCopy words facts.facts verdict }
 
-        ensures is { result ≡ record { words = words; verdict = verdict; facts = facts.now } }
-        ensures places { places_listed result.words ≡ fetched_places result.words facts.now }
+        ensures is { result ≡ record { words = words; verdict = verdict; facts = facts.facts } }
+        ensures places { places_listed result.words ≡ fetched_places result.words facts.facts }
         ensures once { IsStrictlyIncreasing (places_listed result.words) }
-        ensures verdict { copied result.words facts.now ≡ result.verdict }
+        ensures verdict { copied result.words facts.facts ≡ result.verdict }
     {
         Fetched {
             words,
             verdict,
-            facts: *facts,
+            facts,
         }
     }
 
@@ -76,14 +73,5 @@ impl Fetched {
         ensures copy { IsCopy self.now.words self.now.facts result }
     {
         self.verdict
-    }
-
-    /// The facts of the stream. They are lawful, and `get` is not `put`.
-    pub fn facts(&self) -> &StreamFacts
-        ensures value { result.now ≡ self.now.facts }
-        ensures lawful { IsLawfulFacts result.now }
-        ensures more { result.now.get ≢ result.now.put }
-    {
-        &self.facts
     }
 }

@@ -21,6 +21,7 @@
 //!   - `StirredPass` is for tests: its client does more puts between two fetches.
 //!
 //! Notes:
+//! - The facts that a verdict rests on are data of contracts alone, so what was fetched is its words and their verdict.
 //! - A note of plain words is its mark alone, and plain words and their side keep no copy of the plan. Their list of
 //!   fetches is data of contracts alone, which no code reads. The calls that make it are proved by hand.
 //! - Where memory runs out, a word that is missing counts as 0 among the places that must be fetched.
@@ -32,6 +33,7 @@
 mod fetch;
 mod fetched;
 mod plain;
+mod seen_facts;
 mod shared;
 mod sharing;
 mod side;
@@ -40,6 +42,7 @@ mod stirred;
 pub use fetch::{fetch_command, fetch_onto};
 pub use fetched::Fetched;
 pub use plain::{PlainNote, PlainPass, PlainWords};
+pub use seen_facts::SeenFacts;
 pub use sharing::{FetchedPart, share};
 pub use side::ServiceSide;
 pub use stirred::{StirNote, StirredPass};

@@ -91,6 +91,3 @@ impl ServiceSide for ServicePass {
 
     ghost without_note = { λ s w n h. h.0 };
 }
-
-#[cfg(test)]
-mod tests;

@@ -5,21 +5,22 @@ ghost use Rattle.gpu_fetch.specs.Fetched.{IsFetched};
 ghost use Rattle.gpu_fetch.specs.Parts.{words_in, parts_of};
 
 use crate::fetched::Fetched;
+use crate::seen_facts::SeenFacts;
 use fetched_words::WordList;
-use gpu_cmd::{CmdError, Command, StreamFacts};
+use gpu_cmd::{CmdError, Command};
 use gpu_word::Memory;
 use std::alloc::Global;
 
 /// What was fetched of a command whose words stand in a list after those of others: how many they are, the verdict on
 /// them, and the facts of the stream that it rests on.
-#[derive(Clone, Copy, Debug)]
+#[derive(Debug, Drop)]
 pub struct FetchedPart {
     /// How many words the command has.
     pub count: usize,
     /// The verdict of checks 1 to 10.
     pub verdict: Result<Command, CmdError>,
     /// The facts that the verdict rests on.
-    pub facts: StreamFacts,
+    pub facts: SeenFacts,
 }
 
 /// Cuts a list of words into those of each command. The words are not copied: all commands share the list.
@@ -41,7 +42,7 @@ pub fn share(
     let mut from = 0;
     for part in parts {
         let end = from + part.count;
-        all.push(Fetched::of(shared.part(from, end)?, part.verdict, &part.facts))?;
+        all.push(Fetched::of(shared.part(from, end)?, part.verdict, part.facts.again()))?;
         from = end;
     }
     Ok(all)

@@ -18,6 +18,7 @@ use Rattle.gpu_cmd.proofs.Fitting.{accepted_leaves_room}
 use Rattle.gpu_plan.specs.Plans.{PlansData}
 use Rattle.gpu_plan.proofs.Dumps.{found_behind}
 use Rattle.gpu_fetch.specs.Side.{SideData, Fetches}
+use Rattle.gpu_fetch.specs.declared.seen_facts.SeenFacts.{SeenFacts}
 use Rattle.gpu_fetch.specs.declared.sharing.FetchedPart.{FetchedPart}
 use Rattle.gpu_fetch.specs.Fetched.{FetchedData, added, IsFetched, FetchesSome}
 use Rattle.gpu_fetch.specs.Parts.{words_in, parts_of}
@@ -212,12 +213,12 @@ pub record IsOneMore (old between new : SideData) (first next : StreamFacts) (li
   pub adds : longer ≡ list ++ added list longer
   pub fetches : Fetches between new (added list longer)
   pub copy : IsCopy (added list longer) next verdict
-  pub pushed : again ≡ parts ++ record { count = count; verdict = verdict; facts = next } ∷ []
+  pub pushed : again ≡ parts ++ record { count = count; verdict = verdict; facts = record { facts = next } } ∷ []
   pub counted : count ≡ length longer - length list
 
 module _ {old between new : SideData} {first next : StreamFacts} {list longer : List (ℕ × ℕ)} {parts again : List FetchedPart} {verdict : Result Command CmdError} {count : ℕ} (more : IsOneMore old between new first next list longer parts again verdict count) where
   abbrev last_part : FetchedPart
-  last_part = record { count = count; verdict = verdict; facts = next }
+  last_part = record { count = count; verdict = verdict; facts = record { facts = next } }
 
   abbrev last_member : FetchedData
   last_member = record { words = added list longer; verdict = verdict; facts = next }

@@ -9,7 +9,7 @@ ghost use Rattle.house_core.specs.Answers.{further};
 ghost use Rattle.gpu_house.specs.Batches.{facts_after, batch_words, AreChained, is_heard, ends_by, EndsExactly, FetchesInPart};
 
 use gpu_cmd::{CmdError, Command, StreamFacts};
-use gpu_fetch::{Fetched, FetchedPart, ServiceSide, fetch_onto, share};
+use gpu_fetch::{Fetched, FetchedPart, SeenFacts, ServiceSide, fetch_onto, share};
 use gpu_word::{Memory, split};
 use std::alloc::Global;
 use std::marker::Model;
@@ -144,7 +144,7 @@ impl Batch {
             parts.push(FetchedPart {
                 count,
                 verdict,
-                facts: next,
+                facts: SeenFacts::of(&next),
             })?;
             match facts_behind(&next, &list[from..], &verdict) {
                 Some(facts) if parts.len() < MOST_MEMBERS => next = facts,

@@ -3,6 +3,7 @@ ghost use Rattle.gpu_cmd.specs.Lawful.{IsLawfulFacts};
 ghost use Rattle.house_core.specs.Desks.{Agree, at_home, run_of};
 ghost use Rattle.step_parts.specs.Executing.{areas_of, IsReady, Executes};
 ghost use Rattle.house_core.specs.Stepping.{stepped_desk};
+ghost use Rattle.stream_state.specs.State.{facts_of};
 
 use crate::desk::Desk;
 use gpu_books::Half;
@@ -11,6 +12,7 @@ use gpu_plan::Plan;
 use gpu_word::Memory;
 use std::marker::Model;
 use step_parts::{Acted, Scene, Taken};
+use stream_state::StreamState;
 
 /// What a run carries outside the lock.
 #[derive(Drop)]
@@ -60,6 +62,15 @@ impl Model for Carried {
           paused = r.paused;
           book = r.half.book;
         })) };
+}
+
+// The facts of the next command, once the state of the stream went on.
+fn refresh(facts: &mut StreamFacts, state: &StreamState)
+    requires { IsLawfulFacts facts.old }
+    ensures { facts.new ≡ facts_of facts.old.areas facts.old.put state.now }
+{
+    facts.get = (state.entries() % u64::from(facts.areas.ring)) as u32;
+    facts.fetched = state.fetched();
 }
 
 impl Carried {
@@ -187,7 +198,7 @@ impl Carried {
     {
         let acted = desk.step(&mut self.half, scene, taken)?;
         self.entries = desk.state().entries();
-        self.facts = desk.state().facts(&self.facts.areas, self.facts.put);
+        refresh(&mut self.facts, desk.state());
         self.greatest = desk.greatest();
         self.paused = acted.kept;
         Ok(acted)

@@ -12,10 +12,10 @@ join_seat-requires c =
     let there' : c.args.out ≡ Some two = cc in
     let mine = subst IsHalf there c.requires.halves.0 in
     let theirs = subst IsHalf there' c.requires.halves.1 in
-    let six = c.book.invariant.0 in (
+    let one_word = c.book.invariant.0 in (
       ap (λ o. (half_of o).book) (sym there) ∙ c.requires.kept ∙ sym c.book.view_is,
       ap (λ o. (half_of o).book) (sym there') ∙ c.requires.out ∙ sym c.book.view_is,
-      ap (λ (m : Sat). m.1) theirs.0,
+      ap (λ (m : Sat). m.1) theirs,
       omega arith,
-      joins one.id one.me two.id two.me (numbers_of one.me.0) (numbers_of two.me.0) (ap (λ (m : Sat). m.0) mine.0) (ap (λ (m : Sat). m.0) theirs.0),
+      joins one.id one.me two.id two.me (numbers_of one.me.0) (numbers_of two.me.0) (ap (λ (m : Sat). m.0) mine) (ap (λ (m : Sat). m.0) theirs),
     )

@@ -9,10 +9,10 @@ use Rattle.gpu_cmd.specs.Checks.{headed}
 use Rattle.gpu_fetch.specs.Side.{SideData, Fetches}
 use Rattle.gpu_fetch.specs.Fetched.{added, FetchesSome, FetchesRow, FetchesRows}
 use Rattle.gpu_fetch.proofs.Fetching.{fetches_one, added_is, row_behind, row_appends, row_shown}
-use Rattle.gpu_fetch.proofs.Parts.{RingFetched, nothing_fetched, header_fetched, header_onto, ring_onto, added_read, ring_headed, ring_some, ring_part_some, ring_refused, command_fetched, command_accepted, transfer_some, rows_ring}
+use Rattle.gpu_fetch.proofs.Parts.{RingFetched, nothing_fetched, header_fetched, header_some, header_onto, rows_header, ring_onto, added_read, some_ring, ring_headed, ring_some, ring_part_some, ring_refused, command_fetched, command_accepted, transfer_some, rows_ring}
 use Rattle.gpu_fetch.proofs.fetch.fetch_onto.Given.{Over}
 use Rattle.gpu_fetch.proofs.fetch.fetch_onto.Goals as goal
-use Rattle.gpu_fetch.proofs.fetch.fetch_onto.Goals.{After-deref-2, In_ok-fetch_row, In_ok-fetch_row-in-Ok-decode, In_ok-push}
+use Rattle.gpu_fetch.proofs.fetch.fetch_onto.Goals.{After-deref-2, In_ok-entry, After-push_reserved, In_ok-fetch_row, In_ok-fetch_row-in-Ok-decode}
 
 -- ---- before all ring words are fetched
 
@@ -21,9 +21,15 @@ returns-then-facts-clause-copy g c =
     let were = c.args.list.now.items in
     nothing_fetched c.args.facts.now (added were were) (added_is were [] were (sym (append-nil were))) c.if-facts.true
 
--- the list, once the header is pushed
-pushed : (g : Over) (c : goal.In_ok-push g) → c.push.new.self.items ≡ c.args.list.now.items ++ (c.args.facts.now.get, c.in_ok-entry.entry) ∷ []
-pushed g c = header_onto c.args.facts.now c.in_ok-entry.entry c.args.list.now.items c.reserve.new.self.items c.push.new.self.items c.reserve.ensures.items c.in_ok-push.ensures.items
+-- the header that was fetched
+header : (g : Over) (c : goal.In_ok-entry g) → Fetches (g.P.ServiceSide.side c.args.side.now) (g.P.ServiceSide.side c.fetch.new.self) ((c.args.facts.now.get, c.in_ok-entry.entry) ∷ [])
+header g c = fetches_one _ _ c.args.facts.now.get c.in_ok-entry.entry c.in_ok-entry.ensures.grows c.in_ok-entry.ensures.may
+
+pub returns-in_err-push-in-Err-clause-some : goal.returns-in_err-push-in-Err-clause-some
+returns-in_err-push-in-Err-clause-some g c =
+    let fetched = header g (goal.at.returns-in_err-push-in-Err-clause-some g c).In_ok-entry in
+    let here = header_some _ _ c.args.facts.now c.in_ok-entry.entry c.in-Err.error fetched c.if-facts.false (sym c.in-Err.ensures.verdict) in
+    MatchResult-from_err c.from_residual-in_err-push-in-Err.result _ _ c.from_residual-in_err-push-in-Err.ensures.0 (λ _. here)
 
 pub returns-in-Err-clause-copy : goal.returns-in-Err-clause-copy
 returns-in-Err-clause-copy g c =
@@ -31,17 +37,29 @@ returns-in-Err-clause-copy g c =
     let entry = c.in_ok-entry.entry in
     let were = c.args.list.now.items in
     let list = c.push.new.self.items in
-    header_fetched facts (added were list) entry c.in-Err.error (added_is were ((facts.get, entry) ∷ []) list (pushed g (goal.at.returns-in-Err-clause-copy g c).In_ok-push)) c.if-facts.false (sym c.in-Err.ensures.verdict)
+    header_fetched facts (added were list) entry c.in-Err.error (added_is were ((facts.get, entry) ∷ []) list c.in_ok-push-in-Err.ensures.items) c.if-facts.false (sym c.in-Err.ensures.verdict)
+
+pub returns-in_err-reserve-clause-some : goal.returns-in_err-reserve-clause-some
+returns-in_err-reserve-clause-some g c =
+    let fetched = header g (goal.at.returns-in_err-reserve-clause-some g c).In_ok-entry in
+    let some = c.in-Ok.ensures.some in
+    let here = some_ring _ _ c.args.facts.now c.in-Ok.shape c.in_ok-entry.entry [] c.if-facts.false (sym c.in-Ok.ensures.verdict) (omega arith) fetched in
+    MatchResult-from_err c.from_residual-in_err-reserve.result _ _ c.from_residual-in_err-reserve.ensures.0 (λ _. here)
+
+-- the list, once the header is pushed
+pushed : (g : Over) (c : goal.After-push_reserved g) → c.push_reserved.new.self.items ≡ c.args.list.now.items ++ (c.args.facts.now.get, c.in_ok-entry.entry) ∷ []
+pushed g c = header_onto c.args.facts.now c.in_ok-entry.entry c.args.list.now.items c.reserve.new.self.items c.push_reserved.new.self.items c.reserve.ensures.items c.push_reserved.ensures.items
 
 pub returns-in_err-fetch_row-clause-some : goal.returns-in_err-fetch_row-clause-some
 returns-in_err-fetch_row-clause-some g c =
-    let facts = c.args.facts.now in
-    let entry = c.in_ok-entry.entry in
-    let s = g.P.ServiceSide.side c.args.side.now in
-    let m = g.P.ServiceSide.side c.fetch.new.self in
-    let t = g.P.ServiceSide.side c.fetch_row.new.side in
-    let header = fetches_one s m facts.get entry c.in_ok-entry.ensures.grows c.in_ok-entry.ensures.may in
-    let here = ring_part_some s m t facts entry c.in-Ok.shape header c.in-Ok.ensures.some c.in_err-fetch_row.ensures.part c.if-facts.false (sym c.in-Ok.ensures.verdict) in
+    let fetched = header g (goal.at.returns-in_err-fetch_row-clause-some g c).In_ok-entry in
+    let here = ring_part_some _ _ (g.P.ServiceSide.side c.fetch_row.new.side) c.args.facts.now c.in_ok-entry.entry c.in-Ok.shape fetched c.in-Ok.ensures.some c.in_err-fetch_row.ensures.part c.if-facts.false (sym c.in-Ok.ensures.verdict) in
+    MatchResult-from_err c.from_residual-in_err-fetch_row.result _ _ c.from_residual-in_err-fetch_row.ensures.0 (λ _. here)
+
+pub returns-in_err-fetch_row-clause-rows : goal.returns-in_err-fetch_row-clause-rows
+returns-in_err-fetch_row-clause-rows g c =
+    let fetched = header g (goal.at.returns-in_err-fetch_row-clause-rows g c).In_ok-entry in
+    let here = ⊎_elim (λ w. inl w) (λ same. inr (rows_header _ _ _ c.args.facts.now c.in_ok-entry.entry fetched same)) c.in_err-fetch_row.ensures.whole in
     MatchResult-from_err c.from_residual-in_err-fetch_row.result _ _ c.from_residual-in_err-fetch_row.ensures.0 (λ _. here)
 
 -- ---- once all ring words are fetched
@@ -72,17 +90,17 @@ module _ (g : Over) (c : goal.In_ok-fetch_row g) where
   passed = sym c.in-Ok.ensures.verdict
 
   ring : RingFetched old ringed facts c.in_ok-entry.entry c.in-Ok.shape own
-  ring = ring_onto old begun ringed facts c.in_ok-entry.entry c.in-Ok.shape were c.reserve.new.self.items c.push.new.self.items c.fetch_row.new.list.items c.in_ok-entry.ensures.grows c.in_ok-entry.ensures.may c.reserve.ensures.items c.in_ok-push.ensures.items c.in-Ok.ensures.some c.in_ok-fetch_row.ensures.row
+  ring = ring_onto old begun ringed facts c.in_ok-entry.entry c.in-Ok.shape were c.reserve.new.self.items c.push_reserved.new.self.items c.fetch_row.new.list.items c.in_ok-entry.ensures.grows c.in_ok-entry.ensures.may c.reserve.ensures.items c.push_reserved.ensures.items c.in-Ok.ensures.some c.in_ok-fetch_row.ensures.row
 
   -- the list has them after all that it had, and each may be shown
   behind : c.fetch_row.new.list.items ≡ were ++ own
-  behind = row_appends begun ringed (facts.get + 1) (c.in-Ok.shape.ring_words - 1) were ((facts.get, c.in_ok-entry.entry) ∷ []) c.push.new.self.items c.fetch_row.new.list.items (pushed g (goal.at.In_ok-fetch_row g c).In_ok-push) c.in_ok-fetch_row.ensures.row
+  behind = row_appends begun ringed (facts.get + 1) (c.in-Ok.shape.ring_words - 1) were ((facts.get, c.in_ok-entry.entry) ∷ []) c.push_reserved.new.self.items c.fetch_row.new.list.items (pushed g (goal.at.In_ok-fetch_row g c).After-push_reserved) c.in_ok-fetch_row.ensures.row
 
   shown : All (g.P.ServiceSide.shows c.args.words.now) own
   shown =
       let S = g.P.ServiceSide.shows c.args.words.now in
       let header = All-cons S (facts.get, c.in_ok-entry.entry) [] c.in_ok-entry.ensures.shows (All-nil S) in
-      row_shown S begun ringed (facts.get + 1) (c.in-Ok.shape.ring_words - 1) were ((facts.get, c.in_ok-entry.entry) ∷ []) c.push.new.self.items c.fetch_row.new.list.items (pushed g (goal.at.In_ok-fetch_row g c).In_ok-push) c.in_ok-fetch_row.ensures.row header c.in_ok-fetch_row.ensures.shows
+      row_shown S begun ringed (facts.get + 1) (c.in-Ok.shape.ring_words - 1) were ((facts.get, c.in_ok-entry.entry) ∷ []) c.push_reserved.new.self.items c.fetch_row.new.list.items (pushed g (goal.at.In_ok-fetch_row g c).After-push_reserved) c.in_ok-fetch_row.ensures.row header c.in_ok-fetch_row.ensures.shows
 
   -- where the fetching stops here
   stops_some : FetchesSome old ringed facts

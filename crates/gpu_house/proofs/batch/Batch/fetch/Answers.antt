@@ -1,8 +1,10 @@
 -- Each goal is a lemma of Members on the commands that were fetched so far.
-use Rattle.std.proofs.Common.{◌≡◌, ◌-◌, inl, inr, List, ℕ, length, length-append, sym, ap, subst, ◌∙◌, arith}
+use Rattle.std.proofs.Common.{◌≡◌, ◌-◌, inl, inr, List, [], ◌∷◌, ◌++◌, ℕ, length, length-append, sym, ap, subst, ◌∙◌, arith}
 use Rattle.std.specs.Prelude.{slice_range}
 use Rattle.std.specs.List.{All}
 use Rattle.gpu_fetch.specs.Side.{SideData, Fetches}
+use Rattle.gpu_cmd.specs.declared.facts.StreamFacts.{StreamFacts}
+use Rattle.gpu_fetch.specs.declared.seen_facts.SeenFacts.{SeenFacts}
 use Rattle.gpu_fetch.specs.declared.sharing.FetchedPart.{FetchedPart}
 use Rattle.gpu_fetch.specs.Fetched.{FetchedData, IsFetched, added}
 use Rattle.gpu_fetch.specs.Parts.{words_in, parts_of}
@@ -40,7 +42,7 @@ module _ (g : Over) (c : goal.After-deref g) where
         adds = e.adds;
         fetches = e.fetches;
         copy = e.copy;
-        pushed = c.in_ok-push.ensures.items;
+        pushed = c.in_ok-push.ensures.items ∙ ap (λ (f : StreamFacts). c.loop-parts.parts.items ++ record { count = c.len.result - c.len-from.result; verdict = c.in_ok-verdict.verdict; facts = record { facts = f } } ∷ []) c.of.ensures;
         counted = omega (arith, c.len-from.ensures);
       }
 
