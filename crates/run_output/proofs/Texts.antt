@@ -1,5 +1,5 @@
 -- The texts of the parts of the output.
-use Rattle.std.proofs.Common.{◌≡◌, ℕ, zero, suc, List, [], ◌∷◌, ◌++◌, ◌+◌, ◌<◌, Option, Some, map, length, get_or, sym, ap, ◌∙◌, refl, arith}
+use Rattle.std.proofs.Common.{◌≡◌, ℕ, zero, suc, List, [], ◌∷◌, ◌++◌, ◌+◌, ◌<◌, Option, Some, map, length, get_or, sym, ap, ◌∙◌, refl, arith, append_assoc}
 use Rattle.std.proofs.lemmas.Bool.{ne_eqb}
 use Rattle.std.specs.Prelude.{◌≢◌, slice_index_or, Vec}
 use Rattle.std.specs.declared.alloc.Global.{Global}
@@ -22,7 +22,9 @@ use Rattle.gpu_journal.specs.Lines.{journal_head, name_text, mark_text}
 use Rattle.gpu_journal.specs.World.{state_of}
 use Rattle.gpu_journal.specs.Waits.{endings_in}
 use Rattle.gpu_journal.specs.Output.{streams_of, end_of, head_lines, stream_lines, mark_lines, output}
-use Rattle.run_output.specs.Runs.{OutputData, behind_text, run_text}
+use Rattle.run_output.specs.declared.output.Section.{Section}
+use Rattle.run_output.specs.declared.output.Section.TheVariants.{Names, Journal, Images, Streams, Marks, Dumps, Looks}
+use Rattle.run_output.specs.Runs.{OutputData, section_text, behind_text, run_text}
 use Rattle.run_output.specs.Parts.{heads, streams, marks, image_lines, dump_read_text, dump_texts, look_text, view_texts}
 
 -- the text of each item is that of all of them
@@ -116,3 +118,29 @@ serial_text run are none =
     ap (λ (d : List (List (ℕ × ℕ × ℕ))). output run.report.plans (mark run.report.base) run.report.past ++ behind_text d run.looks) are
     ∙ ap (λ (l : List (Vec Look Global)). output run.report.plans (mark run.report.base) run.report.past ++ behind_text (all_dumps run.report.plans run.report.past) l) none
     ∙ ap (λ (r : List ℕ). output run.report.plans (mark run.report.base) run.report.past ++ r) (append-nil (concat (dump_texts 1 (all_dumps run.report.plans run.report.past))) ∙ dumps_text run.report.plans run.report.past)
+
+-- ---- sections
+
+-- in their order
+abbrev pub sections : List Section
+sections = Names ∷ Journal ∷ Images ∷ Streams ∷ Marks ∷ Dumps ∷ Looks ∷ []
+
+abbrev pub section_texts : OutputData → List (List ℕ)
+section_texts run = map (section_text run) sections
+
+pub section_at : (run : OutputData) (i : ℕ) (d : Section) → i < 7 → section_text run (get_or sections i d) ≡ slice_index_or (section_texts run) i []
+section_at run i d lt = sym (get_or-map (section_text run) sections i d [] lt)
+
+joined : (a b c d e f g : List ℕ) → a ++ (b ++ (c ++ (d ++ (e ++ (f ++ (g ++ [])))))) ≡ a ++ b ++ c ++ d ++ e ++ (f ++ g)
+joined a b c d e f g =
+    ap (λ (r : List ℕ). a ++ (b ++ (c ++ (d ++ (e ++ (f ++ r)))))) (append-nil g)
+    ∙ sym (append_assoc (a ++ b ++ c ++ d) e (f ++ g)
+    ∙ append_assoc (a ++ b ++ c) d (e ++ (f ++ g))
+    ∙ append_assoc (a ++ b) c (d ++ (e ++ (f ++ g)))
+    ∙ append_assoc a b (c ++ (d ++ (e ++ (f ++ g)))))
+
+-- all sections are the output and the lines after it
+pub sections_text : (run : OutputData) → concat (section_texts run) ≡ run_text run
+unfolding output
+sections_text run =
+    joined (section_text run Names) (section_text run Journal) (section_text run Images) (section_text run Streams) (section_text run Marks) (section_text run Dumps) (section_text run Looks)

@@ -3,8 +3,8 @@
 //! What the contracts say:
 //! - `RunOutput::make` takes all room that writing needs: that of the piece that is written at once, and of the longest
 //!   line.
-//! - `write` then adds exactly the output of the run, the lines of its dumps and those of its looks to a sink. Where the
-//!   sink fails, it adds a prefix of them.
+//! - `write` then adds exactly the output of the run to a sink, section by section: names, journal, images, streams, marks,
+//!   dumps and looks. Where the sink fails, it adds a prefix of them.
 //! - `PictureOutput` does so with a text and images.
 //! - Nothing is written before 65,536 bytes are gathered, or all is.
 //!
@@ -20,6 +20,7 @@ mod lines;
 mod look_lines;
 mod mark_lines;
 mod name_lines;
+mod outcome;
 mod output;
 mod page;
 mod pictures;

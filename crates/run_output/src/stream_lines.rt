@@ -3,6 +3,7 @@ ghost use Rattle.gpu_journal.specs.Output.{streams_of, end_of};
 ghost use Rattle.run_output.specs.Parts.{streams};
 
 use crate::lines::Lines;
+use crate::outcome::Outcome;
 use gpu_house::Report;
 use gpu_journal::{End, Sheet};
 
@@ -18,14 +19,14 @@ pub(crate) struct StreamLines<'a> {
 }
 
 impl<'a> StreamLines<'a> {
-    /// The lines of a run's streams, which ended so.
-    pub(crate) fn of(report: &'a Report, ends: &'a [End]) -> StreamLines<'a>
-        requires { ends.now ≡ map (end_of report.now.past) (streams_of report.now.plans) }
-        ensures { result.report.now ≡ report.now }
+    /// The lines of a run's streams.
+    pub(crate) fn of(run: &'a Outcome) -> StreamLines<'a>
+        ensures { result.report.now ≡ run.now.report }
     {
+        let report = run.report();
         StreamLines {
             report,
-            ends,
+            ends: run.ends(),
             count: report.plans().count(),
         }
     }

@@ -1,9 +1,13 @@
+ghost use Rattle.std.specs.Prelude.{IfOk};
+ghost use Rattle.std.specs.List.{All};
+ghost use Rattle.run_output.specs.Parts.{HasRoom};
+
 use crate::event_lines::EventLines;
 use crate::page::Page;
 use crate::writing::write_all;
 use gpu_io::MemorySink;
 use gpu_journal::Event;
-use std::alloc::Global;
+use std::alloc::{AllocError, Global};
 use std::test::Fail;
 
 // What stands after these bytes were written in pieces of two into so much room, and a '!' where that failed.
@@ -30,35 +34,58 @@ fn a_front_stands_after_a_failed_write(rt: HostRuntime) -> Result<(), Fail> {
     Ok(())
 }
 
-#[test]
+// Three closes, whose lines have eight bytes each.
 #[tactic(auto, using(crate::proofs::Closing::close_pushed))]
-fn lines_are_gathered_before_they_are_written(rt: HostRuntime) -> Result<(), Fail> {
-    let mut events = Vec::new(rt.alloc());
+fn closes(alloc: Global) -> Result<Vec<Event>, Fail>
+    ensures { IfOk result (λ events. All HasRoom events.items) }
+{
+    let mut events = Vec::new(alloc);
     for stream in 1..4u32 {
         events.push(Event::Close { stream })?;
     }
-    let Ok(mut page) = Page::within(rt.alloc(), 16) else {
-        return Err(Fail::from("memory is ample"));
-    };
-    let Ok(mut sink) = MemorySink::make(rt.alloc(), 64, 64, Vec::new(rt.alloc())) else {
-        return Err(Fail::from("memory is ample"));
-    };
-    let lines = EventLines { events: &events };
-    assert!(rt; page.put_all(&mut sink, &lines).is_ok());
-    assert_eq!(rt; sink.bytes(), b"close 1\nclose 2\n".as_slice());
-    assert!(rt; page.give(&mut sink).is_ok());
-    assert_eq!(rt; sink.bytes(), b"close 1\nclose 2\nclose 3\n".as_slice());
+    Ok(events)
+}
 
-    // The sink counts its calls, and its second one fails: the lines are put by one, and the rest is given by the next.
-    let Ok(mut page) = Page::within(rt.alloc(), 16) else {
+// Notes what stands in a sink, and whether the call before went well.
+fn note(trace: &mut Vec<u8>, sink: &MemorySink, done: bool) -> Result<(), AllocError> {
+    trace.extend_from_slice(sink.bytes())?;
+    trace.push(if done { b'|' } else { b'!' })?;
+    Ok(())
+}
+
+// What stands in a sink, whose calls of these numbers fail, once a page of 16 bytes has put the lines of these events, and
+// once it has given the rest.
+fn put_and_given(alloc: Global, events: &[Event], fails: &[u32]) -> Result<Vec<u8>, Fail>
+    requires { All HasRoom events.now }
+{
+    let Ok(mut page) = Page::within(alloc, 16) else {
         return Err(Fail::from("memory is ample"));
     };
-    let second = Vec::from_slice(rt.alloc(), &[2])?;
-    let Ok(mut counting) = MemorySink::make(rt.alloc(), 64, 64, second) else {
+    let fails = Vec::from_slice(alloc, fails)?;
+    let Ok(mut sink) = MemorySink::make(alloc, 64, 64, fails) else {
         return Err(Fail::from("memory is ample"));
     };
-    assert!(rt; page.put_all(&mut counting, &lines).is_ok());
-    assert!(rt; page.give(&mut counting).is_err());
-    assert_eq!(rt; counting.bytes(), b"close 1\nclose 2\n".as_slice());
+    let mut trace = Vec::new(alloc);
+    let put = page.put_all(&mut sink, &EventLines { events }).is_ok();
+    note(&mut trace, &sink, put)?;
+    let given = page.give(&mut sink).is_ok();
+    note(&mut trace, &sink, given)?;
+    Ok(trace)
+}
+
+// Lines that were put before a call that fails stand there, and the next call gives the rest.
+#[test]
+fn lines_are_gathered_before_they_are_written(rt: HostRuntime) -> Result<(), Fail> {
+    let events = closes(rt.alloc())?;
+    for (fails, want) in [
+        (
+            [9],
+            b"close 1\nclose 2\n|close 1\nclose 2\nclose 3\n|".as_slice(),
+        ),
+        ([2], b"close 1\nclose 2\n|close 1\nclose 2\n!".as_slice()),
+    ] {
+        let trace = put_and_given(rt.alloc(), &events, &fails)?;
+        assert_eq!(rt; trace.as_slice(), want);
+    }
     Ok(())
 }

@@ -2,4 +2,4 @@ use Rattle.std.proofs.Common.{sym}
 use Rattle.run_output.proofs.run.RunOutput.write.Goals as goal
 
 pub returns : goal.returns
-returns g c = rw (sym c.self.view_is, sym c.deref.ensures.value, sym c.deref-2.ensures.value) c.write_output-written.ensures
+returns g c = rw (sym c.self.view_is) c.write_output-written.ensures

@@ -1,0 +1,114 @@
+ghost use Rattle.std.specs.Prelude.{◌≡◌, ◌≤◌, length, map, reverse, IfOk};
+ghost use Rattle.std.specs.List.{All};
+ghost use Rattle.gpu_journal.specs.Output.{streams_of, end_of};
+ghost use Rattle.run_output.specs.Parts.{HasRoom};
+
+use crate::ends::ends_of;
+use gpu_house::Report;
+use gpu_journal::End;
+use gpu_run::Dumps;
+use gpu_word::Memory;
+use live_view::Look;
+use serial_laws::plans_are_lawful;
+use std::alloc::Global;
+use std::marker::Model;
+
+// How each stream of a run ended.
+fn ends_in(alloc: Global, report: &Report) -> Result<Vec<End>, Memory>
+    ensures { IfOk result (λ ends. ends.items
+        ≡ map (end_of report.now.past) (streams_of report.now.plans)) }
+{
+    let count = report.plans().count();
+    ends_of(alloc, count, report.journal().events())
+}
+
+// The lines of a run's events have room, and its streams are few.
+#[tactic(auto, using(crate::proofs::Rooms::legal_room))]
+fn lines_have_room(report: &Report)
+    ensures room { All HasRoom (reverse report.now.past) }
+    ensures few { length report.now.plans.plans ≤ 16 }
+{
+    plans_are_lawful(report.plans());
+    report.journal();
+}
+
+/// What is written of a run: the run, the dumps that its clients have read, and the looks of its viewers. How each stream ended
+/// is kept beside them.
+#[derive(Drop)]
+pub(crate) struct Outcome {
+    report: Report,
+    dumps: Vec<Dumps>,
+    looks: Vec<Vec<Look>>,
+    ends: Vec<End>,
+}
+
+impl Model for Outcome {
+    ghost use Rattle.run_output.specs.Runs.{OutputData, IsReady};
+
+    ghost Value = { OutputData };
+
+    ghost view = { λ run. record {
+      report = run.report;
+      dumps = run.dumps.items;
+      looks = run.looks.items;
+    } };
+
+    ghost invariant = { λ run. IsReady
+        (record { report = run.report; dumps = run.dumps.items; looks = run.looks.items })
+        run.ends.items };
+}
+
+impl Outcome {
+    /// Finds out how each stream ended.
+    pub(crate) fn of(
+        alloc: Global,
+        report: Report,
+        dumps: Vec<Dumps>,
+        looks: Vec<Vec<Look>>,
+    ) -> Result<Outcome, Memory>
+        requires dumps { length dumps.items ≡ length report.plans.plans }
+        requires looks { length looks.items ≤ 4 }
+        ensures { IfOk result (λ run. run
+            ≡ record { report = report; dumps = dumps.items; looks = looks.items }) }
+    {
+        lines_have_room(&report);
+        let ends = ends_in(alloc, &report)?;
+        Ok(Outcome {
+            report,
+            dumps,
+            looks,
+            ends,
+        })
+    }
+
+    /// The run. Its events have room in lines.
+    pub(crate) fn report(&self) -> &Report
+        ensures report { result.now ≡ self.now.report }
+        ensures room { All HasRoom (reverse result.now.past) }
+    {
+        &self.report
+    }
+
+    /// The dumps of each stream.
+    pub(crate) fn dumps(&self) -> &[Dumps]
+        ensures dumps { result.now ≡ self.now.dumps }
+        ensures few { length result.now ≤ 16 }
+    {
+        &self.dumps
+    }
+
+    /// The looks of each viewer.
+    pub(crate) fn looks(&self) -> &[Vec<Look>]
+        ensures looks { result.now ≡ self.now.looks }
+        ensures few { length result.now ≤ 4 }
+    {
+        &self.looks
+    }
+
+    /// How each stream ended.
+    pub(crate) fn ends(&self) -> &[End]
+        ensures { result.now ≡ map (end_of self.now.report.past) (streams_of self.now.report.plans) }
+    {
+        &self.ends
+    }
+}
