@@ -1,7 +1,7 @@
 //! The program: it does what its words ask for, from standard input to standard output.
 //!
-//! `top`, the program over any source and sink, and `plain_top`, the program on one thread, say in the same 11 clauses what
-//! each command says of its input.
+//! `top`, the program over any source and sink, and `plain_top`, the program on one thread, have one clause: the record
+//! `Conducts`, whose eleven fields are the theorem. It can be read in `specs/Conducts.antt`.
 //!
 //! What the contracts say:
 //! - `run`: the input is a script. The output of a legal and complete history of it was added, then lines that may be told
@@ -14,10 +14,10 @@
 //!   images were added. No, NotComplete and NoJournal come only where that is the verdict on it.
 //! - After WriteFault a prefix of that text stands. Each other status but NoMemory comes only with its cause, Refused with
 //!   the first bad line and its first kind. All of these leave the sink alone.
-//! - Where the source tells its bytes, clause `complete` says which answer they have.
+//! - Where the source tells its bytes, field `complete` says which answer they have.
 //! - `is_plain` says exactly which words are for `plain_top`, which takes no handle, so it always returns.
 //! - A run that does not end with MemoryLost lost no stream as out of memory: field `kept` of `IsRun`.
-//! - `run_on`, the program over any source and sink, says so with marks over the base 1000: `usage`, `said` and `front`.
+//! - `run_on`, the program over any source and sink, conducts itself so too, with marks over the base 1000.
 //! - Law: runs on threads that print the same have the same history, whatever was read and seen during them.
 //!
 //! Notes:
@@ -28,10 +28,9 @@
 //! - With `verify` the lines before the line `journal` are the script, and else all of them.
 #![tactic(auto)]
 
-ghost use Rattle.std.specs.Prelude.{◌≡◌, ◌↔◌, None, true, map, string_bytes};
+ghost use Rattle.std.specs.Prelude.{map, string_bytes};
 ghost use Rattle.script_main.specs.Commands.{command_of};
-ghost use Rattle.script_main.specs.Statuses.{speaks};
-ghost use Rattle.script_main.specs.Tells.{HasTold, HasBegun};
+ghost use Rattle.script_main.specs.Conducts.{Conducts};
 
 mod answer;
 mod answering;
@@ -79,13 +78,10 @@ pub fn run_on<S: Source, K: Sink, R: Threads + Wait + Sync>(
     source: &mut S,
     sink: &mut K,
 ) -> Status
-    ensures usage { (result ≡ Status.Usage) ↔ (command_of (map string_bytes words.now) ≡ None) }
-    ensures said { speaks result ≡ true
-        → HasTold (command_of (map string_bytes words.now)) 1000
-        (S.left source.old) (S.left source.new) result (K.written sink.old) (K.written sink.new) }
-    ensures front { result ≡ Status.WriteFault
-        → HasBegun (command_of (map string_bytes words.now)) 1000
-        (S.left source.old) (S.left source.new) (K.written sink.old) (K.written sink.new) }
+    ensures conducts { Conducts
+        (record { left = S.left; read_faults = S.faults; written = K.written; write_faults = K.faults })
+        (command_of (map string_bytes words.now)) 1000
+        source.old source.new sink.old sink.new result }
 {
     let hook = Marker::make(BASE);
     if is_plain(words) {

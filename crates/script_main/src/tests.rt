@@ -4,7 +4,6 @@ use crate::command::is_plain;
 use crate::plain::plain_top;
 use crate::status::Status;
 use gpu_io::{MemorySink, MemorySource};
-use gpu_plan::Kind;
 use std::alloc::Global;
 use std::test::Fail;
 use wait_hooks::Marker;
@@ -40,11 +39,6 @@ finish 1 1
 image 1 2 1
 ff0000ff ff0000ff
 stream 1 done entries 11 release 0 token 0 words 11 errors 0 0 0
-";
-
-const ONE_FLUSH: &[u8] = b"gpu-script 1
-stream 1 normal 16
-flush 0
 ";
 
 // How a source and a sink behave: the sizes of their pieces, and the number of a call that fails, or 0.
@@ -109,34 +103,6 @@ fn ended(
 }
 
 #[test]
-fn check_tells_the_counts(rt: HostRuntime) -> Result<(), Fail> {
-    let (status, stands) = ended(rt.alloc(), &["check"], TWO_TEXELS, &steady())?;
-    assert_eq!(rt; status, Status::Ok);
-    assert_eq!(rt;
-        stands.as_slice(),
-        b"ok streams 1 actions 12 flushes 1\n".as_slice()
-    );
-    Ok(())
-}
-
-#[test]
-fn a_bad_line_is_refused(rt: HostRuntime) -> Result<(), Fail> {
-    let text = b"gpu-script 1\n# remark\nstream 1 low 15\n";
-    for word in ["check", "run"] {
-        let (status, stands) = ended(rt.alloc(), &[word], text, &steady())?;
-        assert_eq!(rt;
-            status,
-            Status::Refused {
-                line: 3,
-                kind: Kind::Limit
-            }
-        );
-        assert_eq!(rt; stands.as_slice(), b"".as_slice());
-    }
-    Ok(())
-}
-
-#[test]
 fn other_words_are_no_command(rt: HostRuntime) -> Result<(), Fail> {
     let lists: [&[&str]; 20] = [
         &[],
@@ -166,43 +132,6 @@ fn other_words_are_no_command(rt: HostRuntime) -> Result<(), Fail> {
         assert_eq!(rt; status.code(), 2);
         assert_eq!(rt; stands.as_slice(), b"".as_slice());
     }
-    Ok(())
-}
-
-#[test]
-fn generate_writes_its_script(rt: HostRuntime) -> Result<(), Fail> {
-    let (status, stands) = ended(rt.alloc(), &["generate", "0001", "0"], b"", &steady())?;
-    assert_eq!(rt; status, Status::Ok);
-    assert!(rt; is_front(b"gpu-script 1\nstream 1 low 64\nmemory 0 16\n", &stands));
-    Ok(())
-}
-
-#[test]
-fn a_script_is_run(rt: HostRuntime) -> Result<(), Fail> {
-    let (status, stands) = ended(rt.alloc(), &["run", "--workers=0"], TWO_TEXELS, &steady())?;
-    assert_eq!(rt; status, Status::Ok);
-    assert_eq!(rt; stands.as_slice(), TWO_TEXELS_OUTPUT);
-    Ok(())
-}
-
-#[test]
-fn a_front_of_the_output_stands(rt: HostRuntime) -> Result<(), Fail> {
-    let mut edges = steady();
-    edges.write_fails = 3;
-    let (status, stands) = ended(rt.alloc(), &["run"], TWO_TEXELS, &edges)?;
-    assert_eq!(rt; status, Status::WriteFault);
-    assert_eq!(rt; status.code(), 4);
-    assert_eq!(rt; stands.as_slice(), b"order 1 1 11\nstep 1 ".as_slice());
-    Ok(())
-}
-
-#[test]
-fn a_failing_source_ends_the_program(rt: HostRuntime) -> Result<(), Fail> {
-    let mut edges = steady();
-    edges.read_fails = 2;
-    let (status, stands) = ended(rt.alloc(), &["run"], TWO_TEXELS, &edges)?;
-    assert_eq!(rt; status, Status::ReadFault);
-    assert_eq!(rt; stands.as_slice(), b"".as_slice());
     Ok(())
 }
 
@@ -249,19 +178,6 @@ fn nothing_to_write_makes_no_write(rt: HostRuntime) -> Result<(), Fail> {
 }
 
 #[test]
-fn a_lost_stream_is_told(rt: HostRuntime) -> Result<(), Fail> {
-    let text = b"gpu-script 1\nstream 1 normal 16\nput 0 6\nflush 4\n";
-    let (status, stands) = ended(rt.alloc(), &["run", "--workers", "0"], text, &steady())?;
-    assert_eq!(rt; status, Status::SomeLost);
-    assert_eq!(rt; status.code(), 1);
-    assert_eq!(rt;
-        stands.as_slice(),
-        b"order 1 1 1\nlost 1 2 0:00000006\nstream 1 lost 2 entries 0 release 0 token 0 words 0 errors 0 0 0\n".as_slice()
-    );
-    Ok(())
-}
-
-#[test]
 fn a_byte_past_the_limit_is_too_much(rt: HostRuntime) -> Result<(), Fail> {
     let text = vec![in rt.alloc(); b'#'; 16_777_217]?;
     let mut edges = steady();
@@ -299,17 +215,6 @@ fn a_front_of_a_trial_stands(rt: HostRuntime) -> Result<(), Fail> {
 }
 
 #[test]
-fn a_right_journal_is_told_with_its_images(rt: HostRuntime) -> Result<(), Fail> {
-    let (status, stands) = ended(rt.alloc(), &["verify"], TWO_TEXELS_VERIFIED, &steady())?;
-    assert_eq!(rt; status, Status::Ok);
-    assert_eq!(rt;
-        stands.as_slice(),
-        b"yes events 4\nimage 1 2 1\nff0000ff ff0000ff\n".as_slice()
-    );
-    Ok(())
-}
-
-#[test]
 fn a_front_of_a_right_journal_stands(rt: HostRuntime) -> Result<(), Fail> {
     let mut edges = steady();
     edges.write_fails = 3;
@@ -326,60 +231,5 @@ fn a_failing_source_ends_verify(rt: HostRuntime) -> Result<(), Fail> {
     let (status, stands) = ended(rt.alloc(), &["verify"], TWO_TEXELS_VERIFIED, &edges)?;
     assert_eq!(rt; status, Status::ReadFault);
     assert_eq!(rt; stands.as_slice(), b"".as_slice());
-    Ok(())
-}
-
-// How `verify` ends on a script of one flush and what stands after it. Nothing is written.
-fn verified(alloc: Global, behind: &[u8]) -> Result<Status, Fail> {
-    let mut text = Vec::from_slice(alloc, ONE_FLUSH)?;
-    text.extend_from_slice(behind)?;
-    let (status, stands) = ended(alloc, &["verify"], &text, &steady())?;
-    if !stands.is_empty() {
-        return Err(Fail::from("nothing is written"));
-    }
-    Ok(status)
-}
-
-#[test]
-fn a_wrong_event_is_named(rt: HostRuntime) -> Result<(), Fail> {
-    let status = verified(rt.alloc(), b"journal\norder 1 1 0\nfinish 1 2\n")?;
-    assert_eq!(rt; status, Status::No { event: 2, rule: 4 });
-    assert_eq!(rt; status.code(), 9);
-    Ok(())
-}
-
-#[test]
-fn a_journal_may_be_cut_short(rt: HostRuntime) -> Result<(), Fail> {
-    let status = verified(rt.alloc(), b"journal\norder 1 1 0\n")?;
-    assert_eq!(rt; status, Status::NotComplete);
-    assert_eq!(rt; status.code(), 10);
-    Ok(())
-}
-
-#[test]
-fn a_line_that_is_no_event_is_named(rt: HostRuntime) -> Result<(), Fail> {
-    let status = verified(rt.alloc(), b"journal\norder 1 01 0\n")?;
-    assert_eq!(rt; status, Status::NoJournal { line: 5 });
-    assert_eq!(rt; status.code(), 11);
-    Ok(())
-}
-
-#[test]
-fn a_script_alone_has_no_journal(rt: HostRuntime) -> Result<(), Fail> {
-    let status = verified(rt.alloc(), b"")?;
-    assert_eq!(rt; status, Status::NoJournal { line: 4 });
-    Ok(())
-}
-
-#[test]
-fn a_bad_line_of_the_script_comes_first(rt: HostRuntime) -> Result<(), Fail> {
-    let status = verified(rt.alloc(), b"flush\njournal\nno event\n")?;
-    assert_eq!(rt;
-        status,
-        Status::Refused {
-            line: 4,
-            kind: Kind::Word
-        }
-    );
     Ok(())
 }
