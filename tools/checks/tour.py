@@ -13,7 +13,9 @@ from pathlib import Path
 from tools.checks.tally import Tally
 
 TOUR, LAYERS = Path("docs/DEFINITIONS.md"), Path("docs/LAYERS.md")
-THEOREM = (Path("crates/script_main/src/program.rt"), Path("crates/script_main/src/plain.rt"))
+THEOREM = tuple(
+    Path("crates/script_main") / name
+    for name in ("src/program.rt", "src/plain.rt", "specs/Conducts.antt"))
 
 USE = re.compile(
     r"^(?:pub )?use Rattle\.(?P<crate>\w+)\.specs\.(?P<file>[A-Z]\w*)(?:\.\{(?P<names>[^}]*)\}| as "

@@ -61,8 +61,6 @@ mod rows;
 mod serving;
 mod shift;
 mod signals;
-#[cfg(test)]
-mod tests;
 mod threads;
 mod turns;
 mod views;

@@ -7,11 +7,10 @@ use Rattle.gpu_plan.specs.Plans.{PlansData, PlanData, plan_of, no_plan}
 use Rattle.gpu_plan.specs.Passes.{flushes}
 use Rattle.gpu_plan.specs.Places.{mark_of}
 use Rattle.gpu_fetch.specs.Side.{SideData, fresh_side}
-use Rattle.shm_words.specs.Seen.{ClientData, client_at}
 use Rattle.gpu_journal.specs.declared.event.Event.{Event}
 use Rattle.gpu_journal.specs.World.{world}
 use Rattle.gpu_house.specs.Making.{AreFreshSides, AreFreshResults}
-use Rattle.house_tests.specs.Alone.{ordered, IsClientOf}
+use Rattle.house_tests.specs.Alone.{ordered}
 
 -- before any event nothing is ordered
 pub none_ordered : (p : PlansData) → ordered p [] ≡ 0
@@ -55,10 +54,3 @@ pub fresh_results : (p : PlansData) (tables : ℕ → TableId) → length p.plan
 fresh_results p tables one =
     subst (λ (plans : List PlanData). AreFreshResults (λ (results : Unit {0}) (place : ℕ). true) (λ (results : Unit {0}). None) (λ (results : Unit {0}) (table : TableId). Unit {0}) tables 1 plans (tt ∷ [])) (sym (one_plan p one))
     (record { shared = tt; takes_all = λ place lt. refl; none_written = λ list e. absurd (cc) }, tt)
-
--- a client that has done nothing
-fresh_client : (p : PlansData) (words : TableId) (client : ClientData) → client ≡ client_at words (plan_of p 1) → IsClientOf p [] words client
-fresh_client p words client e = subst (IsClientOf p [] words) (sym e) record { table = refl; plan = refl; passed = none_ordered p }
-
-pub begun_client : (p plans : PlansData) (h : List Event) (words : TableId) (client : ClientData) → plans ≡ p → h ≡ [] → client ≡ client_at words (plan_of plans 1) → IsClientOf p h words client
-begun_client p plans h words client same none e = subst (λ (g : List Event). IsClientOf p g words client) (sym none) (fresh_client p words client (e ∙ ap (λ (q : PlansData). client_at words (plan_of q 1)) same))

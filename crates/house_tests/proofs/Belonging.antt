@@ -1,12 +1,12 @@
 -- What the house of one stream has belongs with its words: after an order, while a run is out, and once it is at home.
-use Rattle.std.proofs.Common.{◌≡◌, ℕ, Bool, true, false, cond, Option, Some, None, List, [], ◌∷◌, ◌++◌, length, drop, refl, sym, ap, subst, ◌∙◌}
+use Rattle.std.proofs.Common.{◌≡◌, ℕ, Bool, true, false, cond, Option, Some, None, List, [], ◌∷◌, ◌++◌, length, drop, sym, ap, subst, ◌∙◌}
 use Rattle.std.proofs.lemmas.List.Elements.{All-tail, All-push, All-weaker, All-nil}
 use Rattle.std.specs.Prelude.{slice_get, IfSome}
 use Rattle.std.specs.List.{All}
 use Rattle.gpu_fetch.specs.Side.{SideData}
 use Rattle.gpu_house.specs.Slots.{SlotData, slot_at, with_slot, note_ahead, left_slot}
 use Rattle.gpu_house.specs.House.{HouseData, OutData}
-use Rattle.gpu_house.specs.Changes.{StillBelongs, CameDone, WroteResults, ResultsBelong, with_note, with_side, with_done}
+use Rattle.gpu_house.specs.Changes.{StillBelongs, ResultsBelong, with_note}
 use Rattle.gpu_house.specs.Making.{fresh_slots}
 use Rattle.gpu_house.proofs.Sides.{first_of}
 use Rattle.house_tests.specs.Alone.{AllBelong, IsHome, IsOut}
@@ -79,35 +79,9 @@ module _ {Side Note Results Words : Type 0} (belongs : Side → Words → Type 0
           results = subst (λ (l : List Results). ResultsBelong results_belong words l 1) (sym results) home.results;
         }
 
-  -- ---- a run comes home
-
   -- what a side's calls keep
   pub still : (old new : Side) (first : Option Note) (notes : List Note) → StillBelongs belongs note_belongs words old new → Belong old first notes → Belong new None notes
   still old new first notes keeps h = record { its_side = keeps.beside; its_first = tt; its_notes = All-weaker (note_belongs old words) (note_belongs new words) keeps.notes notes h.its_notes }
-
-  pub back_home : (house new : House) (stream : ℕ) (side : Side) (first : Option Note) → stream ≡ 1 → Belong side first (slot_at house.slots 1).notes → ResultsBelong results_belong words new.results 1 → new.slots ≡ with_side house.slots stream side first → Home new
-  back_home house new stream side first one h results slots =
-      let row : new.slots ≡ with_side house.slots 1 side first = slots ∙ ap (λ (s : ℕ). with_side house.slots s side first) one in
-      record {
-        slot = subst (λ (l : List Slot). SlotBelongs (slot_at l 1)) (sym row) (put_slot house.slots record (slot_at house.slots 1) { side = Some side; begun = true; first = first } h);
-        results = results;
-      }
-
-  pub done_home : (house new : House) (stream : ℕ) (side : Side) → stream ≡ 1 → Belong side None (slot_at house.slots 1).notes → ResultsBelong results_belong words new.results 1 → new.slots ≡ with_done house.slots stream side → Home new
-  done_home house new stream side one h results slots =
-      let row : new.slots ≡ with_done house.slots 1 side = slots ∙ ap (λ (s : ℕ). with_done house.slots s side) one in
-      record {
-        slot = subst (λ (l : List Slot). SlotBelongs (slot_at l 1)) (sym row) (put_slot house.slots record (slot_at house.slots 1) { side = Some side; begun = false; first = None } h);
-        results = results;
-      }
-
-  pub finished : (seen : Side → SideData) (mark : Note → ℕ) (house new : House) (out : OutData Side Note) (stays : Bool) → IsOut belongs note_belongs results_belong seen words house out → WroteResults results_belong words house.results new.results out.run.stream
-      → (stays ≡ true → CameDone seen mark belongs note_belongs words house.slots new.slots out.run.stream out.side out.note) → (stays ≡ false → new.slots ≡ with_side house.slots out.run.stream out.side out.note) → Home new
-  finished seen mark house new out true was wrote done home =
-      let came = done refl in
-      done_home house new out.run.stream came.done was.stream (still out.side came.done out.note (slot_at house.slots 1).notes came.still was.all) (subst (λ (s : ℕ). ResultsBelong results_belong words new.results s) was.stream wrote.belong) came.slots
-  finished seen mark house new out false was wrote done home =
-      back_home house new out.run.stream out.side out.note was.stream was.all (subst (λ (s : ℕ). ResultsBelong results_belong words new.results s) was.stream wrote.belong) (home refl)
 
   -- ---- a new house
 

@@ -8,7 +8,7 @@ use Rattle.gpu_plan.specs.Plans.{PlansData, PlanData, plan_of}
 use Rattle.gpu_plan.specs.Passes.{flushes}
 use Rattle.gpu_plan.specs.Places.{flush_places, mark_of}
 use Rattle.gpu_plan.proofs.Passing.{flushes_all}
-use Rattle.gpu_fetch.specs.Plain.{IsNext, IsPut, IsFlush}
+use Rattle.gpu_fetch.specs.Plain.{IsNext, IsFlush}
 use Rattle.gpu_fetch.specs.Stirred.{ComesToFlush, puts_ahead}
 use Rattle.gpu_fetch.proofs.Counting.{flush_counts}
 use Rattle.serial_laws.proofs.Flushes.{flush_placed}
@@ -17,9 +17,6 @@ use Rattle.serial_laws.proofs.Flushes.{flush_placed}
 
 pub next_flush : (xs : List Action) (k : ℕ) (a : Action) (put : ℕ) (fences : List (ℕ × ℕ)) → slice_get xs k ≡ Some a → a ≡ Flush put fences → IsNext IsFlush xs k
 next_flush xs k a put fences got is = subst (λ (o : Option Action). IsSomeAnd o IsFlush) (sym got) (subst IsFlush (sym is) tt)
-
-pub next_put : (xs : List Action) (k : ℕ) (a : Action) (place value : ℕ) → slice_get xs k ≡ Some a → a ≡ Put place value → IsNext IsPut xs k
-next_put xs k a place value got is = subst (λ (o : Option Action). IsSomeAnd o IsPut) (sym got) (subst IsPut (sym is) tt)
 
 -- there is a flush after those before it
 pub flush_left : (plan : PlanData) (done n : ℕ) → n ≡ flushes (take done plan.actions) → IsNext IsFlush plan.actions done → n < flushes plan.actions

@@ -1,5 +1,5 @@
 -- One turn of a run of the one stream.
-use Rattle.std.proofs.Common.{◌≡◌, ℕ, ◌+◌, Bool, true, false, not, Option, None, List, ◌∷◌, ◌++◌, length, refl, sym, ap, subst, ◌∙◌, arith}
+use Rattle.std.proofs.Common.{◌≡◌, ℕ, ◌+◌, Bool, true, false, not, Option, None, List, ◌∷◌, ◌++◌, length, sym, ap, subst, ◌∙◌, arith}
 use Rattle.std.proofs.lemmas.Bool.{not-true}
 use Rattle.std.proofs.lemmas.List.{length-append}
 use Rattle.gpu_cmd.specs.declared.error.CmdError.{CmdError}
@@ -7,13 +7,10 @@ use Rattle.gpu_plan.specs.Plans.{PlansData}
 use Rattle.gpu_fetch.specs.Side.{SideData}
 use Rattle.sync_core.specs.Standing.{is_open}
 use Rattle.gpu_journal.specs.declared.event.Event.{Event}
-use Rattle.gpu_journal.specs.declared.event.Event.TheVariants.{Step, Finish, Lost}
+use Rattle.gpu_journal.specs.declared.event.Event.TheVariants.{Lost}
 use Rattle.gpu_journal.specs.declared.event.Why.TheVariants.{Error}
-use Rattle.gpu_journal.specs.World.{Known}
 use Rattle.gpu_journal.specs.Waits.{standing_of}
-use Rattle.gpu_journal.specs.Serial.{order_event}
 use Rattle.run_laws.proofs.Going.{lost_ends}
-use Rattle.run_laws.proofs.Knowns.{known_order, known_finish, known_lost, step_ordered}
 use Rattle.house_core.specs.Desks.{RunData}
 use Rattle.house_core.specs.Answers.{IsMovedBy}
 use Rattle.gpu_house.specs.Slots.{SlotData, slot_at}
@@ -24,18 +21,8 @@ use Rattle.gpu_house.specs.declared.answers.Next.{Next}
 use Rattle.gpu_house.specs.declared.answers.Next.TheVariants.{More, Paused, FlushEnd, Invalid, Closed}
 use Rattle.gpu_house.specs.declared.answers.Next.TheVariants as nexts
 use Rattle.gpu_house.proofs.Going.{goes_further, not_lost, not_closed}
-use Rattle.house_tests.specs.Alone.{ordered, AllBelong, IsOut}
+use Rattle.house_tests.specs.Alone.{AllBelong, IsOut}
 use Rattle.house_tests.proofs.Belonging.{still}
-
--- ---- how many flushes are ordered
-
-pub order_orders : (p : PlansData) (h g : List Event) → g ≡ order_event p h 1 ∷ h → ordered p g ≡ ordered p h + 1
-order_orders p h g e = ap (ordered p) e ∙ ap (λ (k : Known). k.ordered) (known_order p h 1 _ _)
-
--- a finish orders nothing, nor does what comes too late
-pub finish_orders : (p : PlansData) (h g : List Event) (s n : ℕ) (stays : Bool) → s ≡ 1 → (stays ≡ true → g ≡ Finish s n ∷ h) → (stays ≡ false → g ≡ h) → ordered p g ≡ ordered p h
-finish_orders p h g s n true one event over = ap (ordered p) (event refl ∙ ap (λ (t : ℕ). Finish t n ∷ h) one) ∙ ap (λ (k : Known). k.ordered) (known_finish p h 1 n)
-finish_orders p h g s n false one event over = ap (ordered p) (over refl)
 
 -- ---- the answers of a step
 
@@ -66,13 +53,9 @@ module _ {Side Note Results Words : Type 0} (belongs : Side → Words → Type 0
   }
 
   -- what a step leaves
-  pub record HasStepped (p : PlansData) (house new : HouseData Side Note Results) (now : OutData Side Note) (more : Bool) : Type 0 where
-    pub stream : now.run.stream ≡ 1
+  pub record HasStepped (p : PlansData) (new : HouseData Side Note Results) (now : OutData Side Note) (more : Bool) : Type 0 where
     pub on : more ≡ true → IsOut belongs note_belongs results_belong seen words new now
     pub list : is_open (standing_of p new.core.past now.run.stream) ≡ true → length (seen now.side).fetched ≡ now.run.facts.fetched
-    pub all : AllBelong belongs note_belongs words now.side now.note (slot_at new.slots 1).notes
-    pub results : ResultsBelong results_belong words new.results 1
-    pub same : ordered p new.core.past ≡ ordered p house.core.past
 
   module _ (p : PlansData) (house new : HouseData Side Note Results) (run now : OutData Side Note) (found : List (ℕ × ℕ)) (has : HasFetched house run found)
       (slots : new.slots ≡ house.slots) (wrote : WroteResults results_belong words house.results new.results run.run.stream) (keeps_on : StillBelongs belongs note_belongs words run.side now.side) (list : (seen now.side).fetched ≡ (seen run.side).fetched) where
@@ -90,49 +73,37 @@ module _ {Side Note Results Words : Type 0} (belongs : Side → Words → Type 0
         subst (λ (o : Option Note). AllBelong belongs note_belongs words now.side o (slot_at new.slots 1).notes) (sym met)
         (subst (λ (row : List (SlotData Side Note)). AllBelong belongs note_belongs words now.side None (slot_at row 1).notes) (sym slots) (still belongs note_belongs results_belong words run.side now.side None (slot_at house.slots 1).notes keeps_on has.all))
 
-    stepped_done : (kept : Bool) → new.core.past ≡ Step s found ∷ h → IsMovedBy run.run now.run found kept → now.note ≡ None → HasStepped p house new now (not kept)
-    stepped_done kept past moved met =
+    stepped_done : (kept : Bool) → IsMovedBy run.run now.run found kept → now.note ≡ None → HasStepped p new now (not kept)
+    stepped_done kept moved met =
         let fetches : length (seen now.side).fetched ≡ now.run.facts.fetched = (let l = ap length list in let old = has.count in let more = moved.fetched in omega (arith, l, old, more)) in
         record {
-          stream = moved.stream ∙ has.stream;
           on = λ m. record { stream = moved.stream ∙ has.stream; going = moved.paused ∙ not-true kept m; list = fetches; all = all_now met; results = results_now };
           list = λ _. fetches;
-          all = all_now met;
-          results = results_now;
-          same = ap (ordered p) (past ∙ ap (λ (t : ℕ). Step t found ∷ h) has.stream) ∙ step_ordered p h 1 found;
         }
 
-    stepped_lost : (error : CmdError) → new.core.past ≡ Lost s (Error error) found ∷ h → now.run ≡ run.run → now.note ≡ None → HasStepped p house new now false
-    stepped_lost error past same met =
+    stepped_lost : (error : CmdError) → new.core.past ≡ Lost s (Error error) found ∷ h → now.run ≡ run.run → HasStepped p new now false
+    stepped_lost error past same =
         let stream : now.run.stream ≡ s = ap (λ (r : RunData). r.stream) same in
         record {
-          stream = stream ∙ has.stream;
           on = λ m. absurd (cc);
           list = λ o.
               let ends : is_open (standing_of p new.core.past now.run.stream) ≡ false = subst (λ (u : ℕ). is_open (standing_of p new.core.past u) ≡ false) (sym stream) (subst (λ (g : List Event). is_open (standing_of p g s) ≡ false) (sym past) (lost_ends p h s (Error error) found)) in
               absurd (cc);
-          all = all_now met;
-          results = results_now;
-          same = ap (ordered p) (past ∙ ap (λ (t : ℕ). Lost t (Error error) found ∷ h) has.stream) ∙ ap (λ (k : Known). k.ordered) (known_lost p h 1 (Error error) found);
         }
 
-    stepped_over : (is_open (standing_of p h s) ≡ true → ⊥) → Same house new → now ≡ run → HasStepped p house new now false
+    stepped_over : (is_open (standing_of p h s) ≡ true → ⊥) → Same house new → now ≡ run → HasStepped p new now false
     stepped_over over same is =
         let stream : now.run.stream ≡ s = ap (λ (o : OutData Side Note). o.run.stream) is in
         record {
-          stream = stream ∙ has.stream;
           on = λ m. absurd (cc);
           list = λ o. absurd (over (subst (λ (u : ℕ). is_open (standing_of p h u) ≡ true) stream (subst (λ (g : List Event). is_open (standing_of p g now.run.stream) ≡ true) same.past o)));
-          all = all_now (ap (λ (o : OutData Side Note). o.note) is ∙ has.met);
-          results = results_now;
-          same = ap (ordered p) same.past;
         }
 
     -- whatever was answered
-    pub stepped : (mark : Note → ℕ) (next : Next) → Steps seen mark p house new run now found next → HasStepped p house new now (goes_further next)
-    stepped mark More is = stepped_done false is.event is.moved is.met
-    stepped mark Paused is = stepped_done true is.event is.moved is.met
-    stepped mark FlushEnd is = stepped_done false is.event is.moved is.met
-    stepped mark (Invalid error) is = stepped_lost error is.event is.run is.met
+    pub stepped : (mark : Note → ℕ) (next : Next) → Steps seen mark p house new run now found next → HasStepped p new now (goes_further next)
+    stepped mark More is = stepped_done false is.moved is.met
+    stepped mark Paused is = stepped_done true is.moved is.met
+    stepped mark FlushEnd is = stepped_done false is.moved is.met
+    stepped mark (Invalid error) is = stepped_lost error is.event is.run
     stepped mark nexts.Lost is = stepped_over (λ o. not_lost (standing_of p h s) o is.is_over) is.same is.run
     stepped mark Closed is = stepped_over (λ o. not_closed (standing_of p h s) o is.is_over.1) is.same is.run

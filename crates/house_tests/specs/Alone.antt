@@ -1,11 +1,8 @@
 -- A house of one stream, which is driven from one thread.
-use Rattle.std.specs.Prelude.{◌≡◌, ℕ, false, List, length, take, Option, IfSome}
+use Rattle.std.specs.Prelude.{◌≡◌, ℕ, false, List, length, Option, IfSome}
 use Rattle.std.specs.List.{All}
-use Rattle.atomic_table.specs.Seated.{TableId}
-use Rattle.gpu_plan.specs.Plans.{PlansData, plan_of}
-use Rattle.gpu_plan.specs.Passes.{flushes}
+use Rattle.gpu_plan.specs.Plans.{PlansData}
 use Rattle.gpu_fetch.specs.Side.{SideData}
-use Rattle.shm_words.specs.Seen.{ClientData}
 use Rattle.gpu_journal.specs.declared.event.Event.{Event}
 use Rattle.gpu_journal.specs.World.{known}
 use Rattle.gpu_house.specs.Slots.{slot_at}
@@ -37,9 +34,3 @@ module _ {Side Note Results Words : Type 0} (belongs : Side → Words → Type 0
       pub list : length (seen out.side).fetched ≡ out.run.facts.fetched
       pub all : AllBelong belongs note_belongs words out.side out.note (slot_at house.slots 1).notes
       pub results : ResultsBelong results_belong words house.results 1
-
--- the client of racing words is that of the stream, and each flush that it has done is ordered
-pub record IsClientOf (p : PlansData) (h : List Event) (words : TableId) (client : ClientData) : Type 0 where
-  pub table : words ≡ client.table
-  pub plan : client.plan ≡ plan_of p 1
-  pub passed : ordered p h ≡ flushes (take client.done client.plan.actions)

@@ -3,7 +3,5 @@ mod drive;
 mod losses;
 mod opening;
 mod output;
-mod plain_words;
-mod racing_words;
 mod stirred_words;
 mod texts;

@@ -23,8 +23,3 @@ pub use acted::Acted;
 pub use acting::act;
 pub use scene::Scene;
 pub use taken::Taken;
-
-#[cfg(test)]
-mod playing;
-#[cfg(test)]
-mod tests;

@@ -1,26 +1,32 @@
 use super::drive::Pace;
 use super::output::output_of;
-use super::plain_words::plain;
-use super::racing_words::raced;
 use super::stirred_words::stirred;
 use std::alloc::Global;
 use std::test::Fail;
 
 /// A CreateImage, a ClearRect of it, and one of an image that is not there.
-const DRAWS: &str = "gpu-script 1
-stream 1 normal 32
-put 0 20400004 1 1 1 20800007 1 0 0 1 1 aa 20800007 2 0 0 1 1 bb
-flush 18
-";
+const DRAWS: &str = " 20400004 1 1 1 20800007 1 0 0 1 1 aa 20800007 2 0 0 1 1 bb";
 
-/// Two flushes, of two and of three Noops.
-const TWO_FLUSHES: &str = "gpu-script 1
-stream 1 normal 16
-put 0 1 1
-flush 2
-put 2 1 1 1
-flush 5
-";
+/// Flushes: how many Noops come first, the entries after them and their number, the sizes of the batches in which the
+/// flush is taken, and how many operations these draw.
+const FLUSHES: [(usize, &str, usize, &[usize], usize); 11] = [
+    // A batch has at most 64 commands.
+    (1, "", 0, &[1], 0),
+    (2, "", 0, &[2], 0),
+    (63, "", 0, &[63], 0),
+    (64, "", 0, &[64], 0),
+    (65, "", 0, &[64, 1], 0),
+    // It ends at a bad command.
+    (0, " 0 1 1", 3, &[1], 0),
+    (1, " 0 1", 2, &[2], 0),
+    (2, " 0", 1, &[3], 0),
+    // It is committed up to a command of a bucket that is not there.
+    (1, " 800004 1 0 0 1", 5, &[3], 0),
+    // It ends at a token.
+    (1, " 200002 7 1", 3, &[2, 1], 0),
+    // It tells what was drawn.
+    (0, DRAWS, 18, &[3], 2),
+];
 
 // A script with a flush of these entries after a given number of Noops.
 fn flush_of(alloc: Global, noops: usize, entries: &str, count: usize) -> Result<String, Fail> {
@@ -45,9 +51,9 @@ fn were_taken(pace: &Pace, sizes: &[usize], draws: usize) -> bool {
     }
 }
 
-// Whether a flush over stirred words is taken in batches of these sizes, which draw a given number of operations, with
-// the output that the same commands give one by one.
-fn is_stirred_in(alloc: Global, script: &str, sizes: &[usize], draws: usize) -> Result<bool, Fail> {
+// Whether a flush is taken in batches of these sizes, which draw a given number of operations, with the output that the
+// same commands give one by one.
+fn is_taken_in(alloc: Global, script: &str, sizes: &[usize], draws: usize) -> Result<bool, Fail> {
     let one_by_one = stirred(alloc, script, &[], &mut Pace::Single)?;
     let mut pace = Pace::batched(alloc);
     let batched = stirred(alloc, script, &[], &mut pace)?;
@@ -55,77 +61,14 @@ fn is_stirred_in(alloc: Global, script: &str, sizes: &[usize], draws: usize) -> 
     Ok(same && were_taken(&pace, sizes, draws))
 }
 
-// The same over racing words.
-fn is_raced_in(alloc: Global, script: &str, sizes: &[usize], draws: usize) -> Result<bool, Fail> {
-    let (one_by_one, _) = raced(alloc, script, &mut Pace::Single)?;
-    let mut pace = Pace::batched(alloc);
-    let (batched, _) = raced(alloc, script, &mut pace)?;
-    let same = output_of(alloc, &one_by_one)?.as_slice() == output_of(alloc, &batched)?.as_slice();
-    Ok(same && were_taken(&pace, sizes, draws))
-}
-
-// The same over plain words.
-fn is_plain_in(alloc: Global, script: &str, sizes: &[usize], draws: usize) -> Result<bool, Fail> {
-    let one_by_one = plain(alloc, script, &mut Pace::Single)?;
-    let mut pace = Pace::batched(alloc);
-    let batched = plain(alloc, script, &mut pace)?;
-    let same = output_of(alloc, &one_by_one)?.as_slice() == output_of(alloc, &batched)?.as_slice();
-    Ok(same && were_taken(&pace, sizes, draws))
-}
-
-// The same over all three.
-fn is_taken_in(alloc: Global, script: &str, sizes: &[usize], draws: usize) -> Result<bool, Fail> {
-    Ok(
-        is_plain_in(alloc, script, sizes, draws)?
-            && is_stirred_in(alloc, script, sizes, draws)?
-            && is_raced_in(alloc, script, sizes, draws)?,
-    )
-}
-
 #[test]
-fn a_batch_has_at_most_64_commands(rt: HostRuntime) -> Result<(), Fail> {
-    let alloc = rt.alloc();
-    assert!(rt; is_taken_in(alloc, flush_of(alloc, 1, "", 0)?.as_str(), &[1], 0)?);
-    assert!(rt; is_taken_in(alloc, flush_of(alloc, 2, "", 0)?.as_str(), &[2], 0)?);
-    assert!(rt; is_taken_in(alloc, flush_of(alloc, 63, "", 0)?.as_str(), &[63], 0)?);
-    assert!(rt; is_taken_in(alloc, flush_of(alloc, 64, "", 0)?.as_str(), &[64], 0)?);
-    assert!(rt; is_taken_in(alloc, flush_of(alloc, 65, "", 0)?.as_str(), &[64, 1], 0)?);
-    Ok(())
-}
-
-#[test]
-fn a_batch_ends_at_a_bad_command(rt: HostRuntime) -> Result<(), Fail> {
-    let alloc = rt.alloc();
-    assert!(rt; is_taken_in(alloc, flush_of(alloc, 0, " 0 1 1", 3)?.as_str(), &[1], 0)?);
-    assert!(rt; is_taken_in(alloc, flush_of(alloc, 1, " 0 1", 2)?.as_str(), &[2], 0)?);
-    assert!(rt; is_taken_in(alloc, flush_of(alloc, 2, " 0", 1)?.as_str(), &[3], 0)?);
-    Ok(())
-}
-
-#[test]
-fn a_batch_is_committed_up_to_a_bucket_that_is_not_there(rt: HostRuntime) -> Result<(), Fail> {
-    let alloc = rt.alloc();
-    let script = flush_of(alloc, 1, " 800004 1 0 0 1", 5)?;
-    assert!(rt; is_taken_in(alloc, script.as_str(), &[3], 0)?);
-    Ok(())
-}
-
-#[test]
-fn a_batch_ends_at_a_token(rt: HostRuntime) -> Result<(), Fail> {
-    let alloc = rt.alloc();
-    let script = flush_of(alloc, 1, " 200002 7 1", 3)?;
-    assert!(rt; is_taken_in(alloc, script.as_str(), &[2, 1], 0)?);
-    Ok(())
-}
-
-#[test]
-fn a_batch_ends_with_its_flush(rt: HostRuntime) -> Result<(), Fail> {
-    assert!(rt; is_raced_in(rt.alloc(), TWO_FLUSHES, &[2, 3], 0)?);
-    Ok(())
-}
-
-#[test]
-fn a_batch_tells_what_was_drawn(rt: HostRuntime) -> Result<(), Fail> {
-    assert!(rt; is_taken_in(rt.alloc(), DRAWS, &[3], 2)?);
+fn batches_end_where_they_must(rt: HostRuntime) -> Result<(), Fail> {
+    for (noops, entries, count, sizes, draws) in FLUSHES {
+        let script = flush_of(rt.alloc(), noops, entries, count)?;
+        assert!(rt;
+            is_taken_in(rt.alloc(), script.as_str(), sizes, draws)?,
+            "{noops}{entries}"
+        );
+    }
     Ok(())
 }

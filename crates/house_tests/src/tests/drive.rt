@@ -1,4 +1,4 @@
-ghost use Rattle.std.specs.Prelude.{◌≡◌, ◌+◌, ◌<◌, length, IfOk, IfSome, OnOk, MatchOption};
+ghost use Rattle.std.specs.Prelude.{◌≡◌, ◌<◌, length, IfOk, IfSome, OnOk};
 ghost use Rattle.gpu_plan.specs.Plans.{plan_of};
 ghost use Rattle.gpu_plan.specs.Passes.{flushes};
 ghost use Rattle.gpu_plan.specs.Places.{mark_of};
@@ -37,12 +37,11 @@ impl Pace {
 }
 
 // A flush of the one stream is ordered, with its note.
-#[tactic(auto, using(crate::proofs::Turning::order_orders))]
 pub fn order<N: Naming, P: ServiceSide, H: Hook>(
     house: &mut House<N, P, H>,
     words: &P::Words,
     note: P::Note,
-) -> Result<u32, Fail>
+) -> Result<(), Fail>
     requires one { length N.plans.plans ≡ 1 }
     requires home { IsHome P.belongs P.note_belongs P.results_belong words.now house.old }
     requires next { ordered N.plans house.old.core.past < flushes (plan_of N.plans 1).actions }
@@ -51,14 +50,12 @@ pub fn order<N: Naming, P: ServiceSide, H: Hook>(
     requires belongs { IfSome (slot_at house.old.slots 1).side
         (λ side. P.note_belongs side words.now note) }
     requires table { P.note_of note (table_at N.words 1) }
-    ensures home { OnOk result
+    ensures { OnOk result
         (IsHome P.belongs P.note_belongs P.results_belong words.now house.new) }
-    ensures ordered { OnOk result
-        (ordered N.plans house.new.core.past ≡ ordered N.plans house.old.core.past + 1) }
 {
     let _ = words;
     match house.order(1, note) {
-        Ok(number) => Ok(number),
+        Ok(_) => Ok(()),
         Err(_) => Err("memory is ample".into()),
     }
 }
@@ -70,11 +67,8 @@ fn turn<N: Naming, P: ServiceSide, H: Hook>(
     mut run: Run<N, P>,
 ) -> Result<Option<Run<N, P>>, Memory>
     requires { IsOut P.belongs P.note_belongs P.results_belong P.side words.now house.old run }
-    ensures left { IfOk result (λ left. MatchOption left
-        (IsHome P.belongs P.note_belongs P.results_belong words.now house.new)
+    ensures { IfOk result (λ left. IfSome left
         (IsOut P.belongs P.note_belongs P.results_belong P.side words.now house.new)) }
-    ensures ordered { OnOk result
-        (ordered N.plans house.new.core.past ≡ ordered N.plans house.old.core.past) }
 {
     if run.at_end() {
         house.finish(run, words);
@@ -107,11 +101,8 @@ fn turn_batch<N: Naming, P: ServiceSide, H: Hook>(
     drawn: &mut Vec<Op>,
 ) -> Result<Option<Run<N, P>>, Memory>
     requires { IsOut P.belongs P.note_belongs P.results_belong P.side words.now house.old run }
-    ensures left { IfOk result (λ left. MatchOption left
-        (IsHome P.belongs P.note_belongs P.results_belong words.now house.new)
+    ensures { IfOk result (λ left. IfSome left
         (IsOut P.belongs P.note_belongs P.results_belong P.side words.now house.new)) }
-    ensures ordered { OnOk result
-        (ordered N.plans house.new.core.past ≡ ordered N.plans house.old.core.past) }
 {
     if run.at_end() {
         house.finish(run, words);
@@ -147,11 +138,8 @@ fn turn_by<N: Naming, P: ServiceSide, H: Hook>(
     pace: &mut Pace,
 ) -> Result<Option<Run<N, P>>, Memory>
     requires { IsOut P.belongs P.note_belongs P.results_belong P.side words.now house.old run }
-    ensures left { IfOk result (λ left. MatchOption left
-        (IsHome P.belongs P.note_belongs P.results_belong words.now house.new)
+    ensures { IfOk result (λ left. IfSome left
         (IsOut P.belongs P.note_belongs P.results_belong P.side words.now house.new)) }
-    ensures ordered { OnOk result
-        (ordered N.plans house.new.core.past ≡ ordered N.plans house.old.core.past) }
 {
     match pace {
         Pace::Single => turn(house, words, run),
@@ -167,10 +155,6 @@ fn run_out<N: Naming, P: ServiceSide, H: Hook>(
     pace: &mut Pace,
 ) -> Result<(), Fail>
     requires { IsOut P.belongs P.note_belongs P.results_belong P.side words.now house.old run }
-    ensures home { OnOk result
-        (IsHome P.belongs P.note_belongs P.results_belong words.now house.new) }
-    ensures ordered { OnOk result
-        (ordered N.plans house.new.core.past ≡ ordered N.plans house.old.core.past) }
 {
     let mut out = run;
     for _turn in 0..MOST_TURNS {
@@ -191,10 +175,6 @@ pub fn run<N: Naming, P: ServiceSide, H: Hook>(
     pace: &mut Pace,
 ) -> Result<bool, Fail>
     requires { IsHome P.belongs P.note_belongs P.results_belong words.now house.old }
-    ensures home { OnOk result
-        (IsHome P.belongs P.note_belongs P.results_belong words.now house.new) }
-    ensures ordered { OnOk result
-        (ordered N.plans house.new.core.past ≡ ordered N.plans house.old.core.past) }
 {
     let run = match house.take() {
         Some(run) => run,

@@ -3,7 +3,7 @@ ghost use Rattle.gpu_plan.specs.Plans.{plan_of};
 ghost use Rattle.gpu_plan.specs.Passes.{flushes};
 ghost use Rattle.gpu_plan.specs.Places.{mark_of};
 ghost use Rattle.gpu_fetch.specs.Side.{fresh_side, no_table};
-ghost use Rattle.gpu_fetch.specs.Plain.{IsNext, IsFlush, IsBeside, IsNoteBeside};
+ghost use Rattle.gpu_fetch.specs.Plain.{IsNext, IsFlush, IsNoteBeside};
 ghost use Rattle.sync_core.specs.Standing.{IsKnown};
 ghost use Rattle.gpu_journal.specs.World.{known};
 ghost use Rattle.gpu_journal.specs.Serial.{order_event};
@@ -15,13 +15,11 @@ ghost use Rattle.house_tests.specs.Pair.{SecondIsHome};
 
 use super::opening::plans_of;
 use gpu_books::{Book, Half, make};
-use gpu_fetch::{PlainNote, PlainPass, PlainWords, ServiceSide};
+use gpu_fetch::{PlainPass, PlainWords, ServiceSide};
 use gpu_house::{Doing, House, Naming, Report};
 use gpu_journal::journal_text;
 use gpu_plan::{Action, Plan, Plans};
-use gpu_word::Memory;
 use std::alloc::Global;
-use std::cell::Cell;
 use std::marker::Brand;
 use std::test::Fail;
 use sync_core::{Ending, How};
@@ -42,117 +40,8 @@ lost 1 memory
 finish 2 2
 ";
 
-/// The flush of stream 2 comes before that of stream 1.
-const CHOSEN: &str = "gpu-script 1
-stream 1 normal 16
-flush 0
-stream 2 high 16
-flush 0
-";
-
-/// What happens where stream 2 runs once.
-const CHOSEN_RAN: &str = "order 1 1 0
-order 2 2 0
-finish 2 2
-";
-
 /// The base of the marks.
 const BASE: u32 = 1000;
-
-/// The number of the reader that is taken back.
-const READER: u32 = 7;
-
-/// Plain words that keep whose results were settled last, and with which reader.
-#[derive(Drop)]
-struct NotedWords {
-    words: PlainWords,
-    settled: Cell<(u32, u32)>,
-}
-
-/// The results of a stream, which tell its number alone.
-#[derive(Drop)]
-struct NotedResults {
-    stream: u32,
-}
-
-/// A reader, which tells its number alone.
-#[derive(Drop)]
-struct NotedReader {
-    number: u32,
-}
-
-/// The side of plain words that are noted when results are settled.
-#[derive(Drop)]
-struct NotedPass {
-    pass: PlainPass,
-}
-
-impl ServiceSide for NotedPass {
-    type Words = NotedWords;
-
-    type Note = PlainNote;
-
-    type Results = NotedResults;
-
-    type Reader = NotedReader;
-
-    ghost use Rattle.std.specs.Prelude.{true, None};
-    ghost use Rattle.gpu_fetch.specs.Side.{no_table};
-
-    ghost side = { λ s. s.pass };
-
-    ghost table = { λ s. no_table };
-
-    ghost mark = { λ n. n };
-
-    ghost belongs = { λ s w. IsBeside s.pass w.words };
-
-    ghost note_belongs = { λ s w n. IsNoteBeside s.pass w.words n };
-
-    ghost results_belong = { λ w r. Unit {0} };
-
-    ghost reader_belongs = { λ w r. Unit {0} };
-
-    ghost takes = { λ r place. true };
-
-    ghost written = { λ r. None };
-
-    ghost reads = { λ r. [] };
-
-    fn fetch(&mut self, words: &NotedWords, place: u32) -> Result<u32, Memory> {
-        self.pass.fetch(&words.words, place)
-    }
-
-    fn meet(&mut self, words: &NotedWords, note: PlainNote) {
-        self.pass.meet(&words.words, note);
-    }
-
-    fn publish_token(&mut self, words: &NotedWords, token: u32) {
-        self.pass.publish_token(&words.words, token);
-    }
-
-    fn publish_finish(&mut self, words: &NotedWords, results: &NotedResults) {
-        let _ = results;
-        self.pass.publish_finish(&words.words, &());
-    }
-
-    fn publish_results(results: &mut NotedResults, words: &NotedWords, writes: &[(u32, u32)]) {
-        let _ = results;
-        let _ = words;
-        let _ = writes;
-    }
-
-    fn count_finish(results: &mut NotedResults, words: &NotedWords) {
-        let _ = results;
-        let _ = words;
-    }
-
-    fn settle(results: &mut NotedResults, words: &NotedWords, reader: NotedReader) {
-        words.settled.set((results.stream, reader.number));
-    }
-
-    ghost without_note = { λ s w n h. h.0 };
-}
 
 /// What the house is given of a stream.
 #[derive(Drop)]
@@ -164,25 +53,21 @@ struct Part<P: ServiceSide> {
 }
 
 // The words of a stream once its client has made the flush that it begins with, and what the house is given of it.
-fn flushed(alloc: Global, plan: &Plan, stream: u32) -> Result<(NotedWords, Part<NotedPass>), Fail>
+fn flushed(alloc: Global, plan: &Plan) -> Result<(PlainWords, Part<PlainPass>), Fail>
     ensures flush { IfOk result (λ made. IsNext IsFlush plan.now.actions 0) }
-    ensures side { IfOk result (λ made. made.1.side.pass ≡ fresh_side plan.now) }
-    ensures beside { IfOk result (λ made. IsNoteBeside made.1.side.pass made.0.words made.1.note) }
+    ensures side { IfOk result (λ made. made.1.side ≡ fresh_side plan.now) }
+    ensures beside { IfOk result (λ made. IsNoteBeside made.1.side made.0 made.1.note) }
     ensures note { IfOk result (λ made. made.1.note ≡ 1) }
     ensures book { IfOk result (λ made. IsFresh made.1.book) }
 {
     let Some(Action::Flush { .. }) = plan.actions().get(0) else {
         return Err("a flush that comes first".into());
     };
-    let (mut words, pass) = PlainWords::make(alloc, plan)?;
+    let (mut words, side) = PlainWords::make(alloc, plan)?;
     let note = words.flush(plan);
-    let words = NotedWords {
-        words,
-        settled: Cell::new((0, 0)),
-    };
     let part = Part {
-        side: NotedPass { pass },
-        results: NotedResults { stream },
+        side,
+        results: (),
         note,
         book: make(alloc)?,
     };
@@ -298,20 +183,6 @@ fn lose_home<N: Naming, P: ServiceSide, H: Hook>(house: &mut House<N, P, H>, wor
     house.lose_client(1);
 }
 
-// The results of stream 2 are settled.
-fn settle<N: Naming, P: ServiceSide, H: Hook>(
-    house: &mut House<N, P, H>,
-    words: &P::Words,
-    reader: P::Reader,
-)
-    requires two { length N.plans.plans ≡ 2 }
-    requires reader { P.reader_belongs words.now reader }
-    requires home { SecondIsHome P.belongs P.note_belongs P.results_belong words.now house.old }
-    ensures home { SecondIsHome P.belongs P.note_belongs P.results_belong words.now house.new }
-{
-    house.settle(2, words, reader);
-}
-
 // Stream 2, which is next, finishes its empty flush.
 #[tactic(auto, using(crate::proofs::Pairing::second_note))]
 fn finish_second<N: Naming, P: ServiceSide, H: Hook>(
@@ -336,30 +207,24 @@ fn finish_second<N: Naming, P: ServiceSide, H: Hook>(
     Ok(())
 }
 
-/// What is tried before stream 2 runs.
+/// How stream 1 is lost before stream 2 runs.
 #[derive(Clone, Copy, Drop)]
 enum Before {
-    /// A run of stream 1 leaves and is lost.
+    /// A run of it leaves and is lost.
     LoseRun,
-    /// Stream 1 is lost at home, and a second loss is nothing.
+    /// It is lost at home, and a second loss is nothing.
     LoseClient,
-    /// The results of stream 2 are settled.
-    Settle,
 }
 
-// The loss or the call that is tried.
-fn try_before<N: Naming, P: ServiceSide, H: Hook>(
+// Stream 1 is lost.
+fn lose<N: Naming, P: ServiceSide, H: Hook>(
     house: &mut House<N, P, H>,
     words: &P::Words,
-    reader: P::Reader,
     before: Before,
 ) -> Result<(), Fail>
-where
-    P::Reader: Drop,
-    requires reader { P.reader_belongs words.now reader }
     requires two { length N.plans.plans ≡ 2 }
     requires home { SecondIsHome P.belongs P.note_belongs P.results_belong words.now house.old }
-    ensures home { OnOk result
+    ensures { OnOk result
         (SecondIsHome P.belongs P.note_belongs P.results_belong words.now house.new) }
 {
     match before {
@@ -367,10 +232,6 @@ where
         Before::LoseClient => {
             lose_home(house, words);
             lose_home(house, words);
-            Ok(())
-        }
-        Before::Settle => {
-            settle(house, words, reader);
             Ok(())
         }
     }
@@ -381,9 +242,9 @@ where
 fn drive<N: Naming>(
     alloc: Global,
     plans: Plans,
-    words: &NotedWords,
-    first: Part<NotedPass>,
-    second: Part<NotedPass>,
+    words: &PlainWords,
+    first: Part<PlainPass>,
+    second: Part<PlainPass>,
     before: Before,
 ) -> Result<Report, Fail>
     requires plans { plans ≡ N.plans }
@@ -393,44 +254,38 @@ fn drive<N: Naming>(
     requires books { N.books ≡ first.book.0 ∷ second.book.0 ∷ [] }
     requires blank { IsFresh first.book × IsFresh second.book }
     requires first_flush { IsNext IsFlush (plan_of plans 1).actions 0 }
-    requires first_side { first.side.pass ≡ fresh_side (plan_of plans 1) }
+    requires first_side { first.side ≡ fresh_side (plan_of plans 1) }
     requires first_note { first.note ≡ 1 }
     requires second_flush { IsNext IsFlush (plan_of plans 2).actions 0 }
-    requires second_side { second.side.pass ≡ fresh_side (plan_of plans 2) }
+    requires second_side { second.side ≡ fresh_side (plan_of plans 2) }
     requires second_note { second.note ≡ 1 }
-    requires beside { IsNoteBeside second.side.pass words.now.words second.note }
+    requires beside { IsNoteBeside second.side words.now second.note }
 {
-    let mut house = open::<N, NotedPass>(alloc, plans, words, first, second)?;
-    let reader = NotedReader { number: READER };
-    try_before(&mut house, words, reader, before)?;
+    let mut house = open::<N, PlainPass>(alloc, plans, words, first, second)?;
+    lose(&mut house, words, before)?;
     finish_second(&mut house, words)?;
     Ok(house.report())
 }
 
-// What the house of a script of two streams leaves, and whose results were settled with which reader.
-fn driven(alloc: Global, script: &str, before: Before) -> Result<(Report, (u32, u32)), Fail> {
-    let plans = plans_of(alloc, script)?;
+// What the house of the two streams leaves.
+fn driven(alloc: Global, before: Before) -> Result<Report, Fail> {
+    let plans = plans_of(alloc, WAITING)?;
     if plans.count() != 2 {
         return Err("two streams".into());
     }
-    let (_, first) = flushed(alloc, plans.plan(1), 1)?;
-    let (words, second) = flushed(alloc, plans.plan(2), 2)?;
-    let report = drive::<Brand>(alloc, plans, &words, first, second, before)?;
-    Ok((report, words.settled.get()))
+    let (_, first) = flushed(alloc, plans.plan(1))?;
+    let (words, second) = flushed(alloc, plans.plan(2))?;
+    drive::<Brand>(alloc, plans, &words, first, second, before)
 }
 
-// Whether these are the events, and streams 1 and 2 did so in the end.
-fn has_ended(
-    alloc: Global,
-    report: &Report,
-    events: &str,
-    ends: (Doing, Doing),
-) -> Result<bool, Fail> {
+// Whether the journal tells of the loss, and stream 2 alone did all.
+fn tells_the_loss(alloc: Global, report: &Report) -> Result<bool, Fail> {
     let text = journal_text(alloc, report.journal().events())?;
     if report.plans().count() != 2 {
         return Err("two streams".into());
     }
-    Ok(text.as_slice() == events.as_bytes() && (report.state(1), report.state(2)) == ends)
+    let ends = (report.state(1), report.state(2));
+    Ok(text.as_slice() == LOST.as_bytes() && ends == (Doing::Lost, Doing::AllDone))
 }
 
 /// How the wait of order 2 ends, as stream 1 has no number left.
@@ -443,40 +298,12 @@ const GUARDED: Ending = Ending {
 };
 
 #[test]
-fn a_wait_on_a_run_that_is_lost_ends(rt: HostRuntime) -> Result<(), Fail> {
-    let (report, settled) = driven(rt.alloc(), WAITING, Before::LoseRun)?;
-    assert!(rt; has_ended(rt.alloc(), &report, LOST, (Doing::Lost, Doing::AllDone))?);
-    assert!(rt; report.endings() == [GUARDED].as_slice());
-    assert!(rt; report.marks() == [BASE + 9].as_slice());
-    assert_eq!(rt; settled, (0, 0));
-    Ok(())
-}
-
-#[test]
-fn a_wait_on_a_stream_that_is_lost_at_home_ends(rt: HostRuntime) -> Result<(), Fail> {
-    let (report, settled) = driven(rt.alloc(), WAITING, Before::LoseClient)?;
-    assert!(rt; has_ended(rt.alloc(), &report, LOST, (Doing::Lost, Doing::AllDone))?);
-    assert!(rt; report.endings() == [GUARDED].as_slice());
-    assert!(rt; report.marks() == [BASE + 9].as_slice());
-    assert_eq!(rt; settled, (0, 0));
-    Ok(())
-}
-
-#[test]
-fn the_results_of_one_stream_are_settled_with_the_reader_given(
-    rt: HostRuntime,
-) -> Result<(), Fail> {
-    let (report, settled) = driven(rt.alloc(), CHOSEN, Before::Settle)?;
-    assert!(rt;
-        has_ended(
-            rt.alloc(),
-            &report,
-            CHOSEN_RAN,
-            (Doing::Open, Doing::AllDone)
-        )?
-    );
-    assert!(rt; report.endings().is_empty());
-    assert!(rt; report.marks().is_empty());
-    assert_eq!(rt; settled, (2, READER));
+fn a_wait_on_a_stream_that_is_lost_ends(rt: HostRuntime) -> Result<(), Fail> {
+    for before in [Before::LoseRun, Before::LoseClient] {
+        let report = driven(rt.alloc(), before)?;
+        assert!(rt; tells_the_loss(rt.alloc(), &report)?);
+        assert!(rt; report.endings() == [GUARDED].as_slice());
+        assert!(rt; report.marks() == [BASE + 9].as_slice());
+    }
     Ok(())
 }

@@ -101,42 +101,25 @@ fn has_output(alloc: Global, script: &str, turns: &[u32], output: &str) -> Resul
     Ok(one_by_one && batched)
 }
 
-#[test]
-fn a_flush_that_nothing_overwrites_is_executed_as_it_was_flushed(
-    rt: HostRuntime,
-) -> Result<(), Fail> {
-    assert!(rt; has_output(rt.alloc(), CREATES, &[], CREATED)?);
-    assert!(rt; has_output(rt.alloc(), CLEARS, &[], CLEARED)?);
-    Ok(())
-}
+/// Scripts, the turns that their clients take before each fetch, and the output.
+const RUNS: [(&str, &[u32], &str); 6] = [
+    // A flush that nothing overwrites is executed as it was flushed.
+    (CREATES, &[], CREATED),
+    (CLEARS, &[], CLEARED),
+    // A header that was overwritten loses its stream.
+    (CREATES, &[1], LOST),
+    // A word that was fetched may be overwritten.
+    (CREATES, &[0, 1], CREATED),
+    // An argument is judged as it was fetched.
+    (CREATES, &[0, 0, 2], NARROW),
+    // A texel is drawn as it was fetched.
+    (CLEARS, &[0, 0, 0, 0, 0, 0, 0, 0, 0, 0, 1], OVERWRITTEN),
+];
 
 #[test]
-fn a_header_that_was_overwritten_loses_its_stream(rt: HostRuntime) -> Result<(), Fail> {
-    assert!(rt; has_output(rt.alloc(), CREATES, &[1], LOST)?);
-    Ok(())
-}
-
-#[test]
-fn a_word_that_was_fetched_may_be_overwritten(rt: HostRuntime) -> Result<(), Fail> {
-    assert!(rt; has_output(rt.alloc(), CREATES, &[0, 1], CREATED)?);
-    Ok(())
-}
-
-#[test]
-fn an_argument_is_judged_as_it_was_fetched(rt: HostRuntime) -> Result<(), Fail> {
-    assert!(rt; has_output(rt.alloc(), CREATES, &[0, 0, 2], NARROW)?);
-    Ok(())
-}
-
-#[test]
-fn a_texel_is_drawn_as_it_was_fetched(rt: HostRuntime) -> Result<(), Fail> {
-    assert!(rt;
-        has_output(
-            rt.alloc(),
-            CLEARS,
-            &[0, 0, 0, 0, 0, 0, 0, 0, 0, 0, 1],
-            OVERWRITTEN
-        )?
-    );
+fn a_flush_is_executed_as_it_was_fetched(rt: HostRuntime) -> Result<(), Fail> {
+    for (script, turns, output) in RUNS {
+        assert!(rt; has_output(rt.alloc(), script, turns, output)?, "{output}");
+    }
     Ok(())
 }

@@ -1,9 +1,5 @@
-use Rattle.std.proofs.Common.{◌≡◌}
-use Rattle.house_tests.specs.Alone.{ordered, IsOut}
+use Rattle.house_tests.specs.Alone.{IsOut}
 use Rattle.house_tests.proofs.tests.drive.run_out.Given as goal
 
 abbrev pub invariant-loop-turn : goal.invariant-loop-turn
-invariant-loop-turn g l = record {
-  out : IsOut g.P.ServiceSide.belongs g.P.ServiceSide.note_belongs g.P.ServiceSide.results_belong g.P.ServiceSide.side l.words l.house l.out;
-  same : ordered g.N.Naming.plans l.house.core.past ≡ ordered g.N.Naming.plans l.initial.house.core.past;
-}
+invariant-loop-turn g l = IsOut g.P.ServiceSide.belongs g.P.ServiceSide.note_belongs g.P.ServiceSide.results_belong g.P.ServiceSide.side l.words l.house l.out

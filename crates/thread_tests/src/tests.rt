@@ -1,7 +1,4 @@
-mod crossing;
 mod gates;
-mod holding;
 mod promises;
-mod running;
 mod scripts;
 mod viewing;

@@ -1,11 +1,11 @@
 //! Scripts of the tests, and what their runs leave.
 ghost use Rattle.std.specs.Prelude.{◌≤◌};
 
-use crate::run_threads;
 use gpu_house::{Doing, Report};
 use gpu_io::Gate;
 use gpu_journal::journal_text;
-use gpu_plan::{Plans, parse};
+use gpu_plan::parse;
+use gpu_threads::run_threads;
 use live_view::Look;
 use std::alloc::Global;
 use std::sync::Wait;
@@ -20,18 +20,6 @@ put 0 20400004 1 2 1 20800007 1 0 0 2 1 ff0000ff
 flush 11
 ";
 
-/// Two clients: one waits for its flush and closes, the other goes its own way.
-pub(crate) const ONE_CLOSES: &str = "gpu-script 1
-stream 1 normal 16
-put 0 20400004 1 2 1 20800007 1 0 0 2 1 ff0000ff
-flush 11
-finish
-close
-stream 2 high 16
-put 0 20400004 2 1 1
-flush 4
-";
-
 /// Two clients, of which the first has two flushes.
 pub(crate) const TWO_AND_ONE: &str = "gpu-script 1
 stream 1 normal 16
@@ -39,6 +27,15 @@ flush 0
 flush 0
 stream 2 normal 16
 flush 0
+";
+
+/// A client with two flushes, of two and of three Noops.
+pub(crate) const TWO_FLUSHES: &str = "gpu-script 1
+stream 1 normal 16
+put 0 1 1
+flush 2
+put 2 1 1 1
+flush 5
 ";
 
 /// Two clients with a command each.
@@ -84,14 +81,6 @@ put 13 20c00009 1 0 0 1 1 1 0 0
 flush 22
 ";
 
-// The plans of a script.
-pub(crate) fn plans_of(alloc: Global, script: &str) -> Result<Plans, Fail> {
-    if script.len() > 16_777_216 {
-        return Err("a script".into());
-    }
-    Ok(parse(alloc, script.as_bytes()).ok().ok_or("a script")?)
-}
-
 // What a run of a script with a given number of workers leaves, where a gate leads it.
 pub(crate) fn led<G: Gate + Sync, R: Threads + Wait + Sync>(
     rt: &R,
@@ -118,7 +107,10 @@ pub(crate) fn viewed<G: Gate + Sync, R: Threads + Wait + Sync>(
     if workers < 1 || workers > 8 {
         return Err("a number of workers".into());
     }
-    let plans = plans_of(alloc, script)?;
+    if script.len() > 16_777_216 {
+        return Err("a script".into());
+    }
+    let plans = parse(alloc, script.as_bytes()).ok().ok_or("a script")?;
     let ran = run_threads(rt, alloc, plans, workers, views, Marker::make(1000), gate).ok();
     let (report, looks, _) = ran.ok_or("memory is ample")?;
     Ok((report, looks))

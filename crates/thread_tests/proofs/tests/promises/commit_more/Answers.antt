@@ -4,7 +4,7 @@ use Rattle.gpu_house.specs.Batches.{member_words}
 use Rattle.gpu_hall.specs.Commits.{HasSteps}
 use Rattle.gpu_hall.specs.Laws.{GrowsBy}
 use Rattle.gpu_hall.proofs.Grown.{steps_grow}
-use Rattle.gpu_threads.proofs.tests.promises.commit_more.Goals as goal
+use Rattle.thread_tests.proofs.tests.promises.commit_more.Goals as goal
 
 -- what follows from a fact follows where there is a run
 follows : {T : Type 0} (A B : Type 0) (r : Option T) → (A → B) → IfSome r (λ on. A) → IfSome r (λ on. B)

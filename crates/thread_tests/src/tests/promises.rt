@@ -4,25 +4,47 @@ ghost use Rattle.shm_words.specs.declared.client.Acted.TheVariants.{End};
 ghost use Rattle.gpu_plan.specs.Plans.{plan_of, is_closed};
 ghost use Rattle.sync_core.specs.Standing.{IsKnown, is_open};
 ghost use Rattle.gpu_journal.specs.Waits.{standing_of};
-ghost use Rattle.gpu_journal.specs.Legal.{MayClose};
+ghost use Rattle.gpu_journal.specs.Legal.{IsLegal, MayClose};
 ghost use Rattle.gpu_house.specs.Names.{table_at};
 ghost use Rattle.gpu_house.specs.Batches.{member_words, batch_words, AreChained};
+ghost use Rattle.gpu_house.specs.Waiting.{HaveTargets, FormNoCycle};
+ghost use Rattle.gpu_house.specs.Stuck.{IsNotStuck};
+ghost use Rattle.gpu_hall.specs.Outs.{NoneIsPaused};
 ghost use Rattle.gpu_hall.specs.Laws.{GrowsBy};
 ghost use Rattle.gpu_hall.specs.Ready.{IsReady};
 ghost use Rattle.gpu_threads.specs.Clients.{ClientData, IsClientOf, IsSameClient};
 ghost use Rattle.gpu_threads.specs.Acts.{HasGone, HasTried};
 ghost use Rattle.gpu_threads.specs.Turns.{HasStopped};
 
-use crate::client::Client;
-use crate::{ClientTurn, client_turn};
 use flush_queue::FlushQueue;
 use gpu_hall::{Hall, NamedSide};
 use gpu_house::{Batch, Closing, Naming, Run};
 use gpu_io::Gate;
+use gpu_threads::{Client, ClientTurn, client_turn};
 use result_words::ResultWords;
 use shm_words::SharedWords;
-use std::sync::{Mutex, Wait};
+use std::sync::{Mutex, MutexGuard, Wait};
 use wait_hooks::Hook;
+
+// A call that may be made of a hall alone of which the first half of the headline holds.
+fn wants_the_headline<N: Naming, P: NamedSide, H: Hook>(hall: &Hall<N, P, H>) -> u32
+    requires legal { IsLegal N.plans hall.now.past }
+    requires targets { HaveTargets N.plans hall.now.past }
+    requires no_cycle { FormNoCycle N.plans hall.now.past }
+    requires stuck { IsNotStuck N.plans hall.now.past hall.now.outs }
+    requires going { NoneIsPaused hall.now.outs }
+{
+    hall.count()
+}
+
+// Whoever gets the lock may make it.
+fn look<N: Naming, P: NamedSide, H: Hook, R: Wait>(rt: &R, hall: &Mutex<Hall<N, P, H>>) -> u32 {
+    let hall = hall.lock(rt);
+    hall.holds();
+    let count = wants_the_headline(&hall);
+    MutexGuard::unlock(hall);
+    count
+}
 
 // The run that is taken is of the first number of its stream, by what the service keeps of waits.
 fn take_first<N: Naming, P: NamedSide, H: Hook>(hall: &mut Hall<N, P, H>) -> Option<Run<N, P>>

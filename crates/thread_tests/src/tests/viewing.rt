@@ -1,8 +1,8 @@
 //! Runs that viewers look at.
 
 use super::gates::{hold_until, one_more, value_of};
-use super::scripts::{LOST, READ_BACK, TWO_TEXELS, viewed};
-use gpu_io::{Gate, OpenGate, Place};
+use super::scripts::{LOST, READ_BACK, viewed};
+use gpu_io::{Gate, Place};
 use live_view::Look;
 use std::sync::atomic::AtomicU64;
 use std::test::Fail;
@@ -54,25 +54,6 @@ fn a_finished_order_is_seen_during_the_run(rt: HostRuntime) -> Result<(), Fail> 
             sum: 0x5566_7788
         })
     );
-    Ok(())
-}
-
-#[test]
-fn each_viewer_looks_seventeen_times(rt: HostRuntime) -> Result<(), Fail> {
-    let none = Look { events: 0, sum: 0 };
-    let whole = Look {
-        events: 4,
-        sum: 0xfe00_01fe,
-    };
-    for views in 0..=4 {
-        let (_, all) = viewed(&rt, rt.alloc(), TWO_TEXELS, 2, views, &OpenGate)?;
-        assert_eq!(rt; all.len(), views as usize);
-        for looks in &all {
-            assert_eq!(rt; looks.len(), 17);
-            assert!(rt; looks.iter().all(|look| *look == none || *look == whole));
-            assert_eq!(rt; looks.last(), Some(&whole));
-        }
-    }
     Ok(())
 }
 

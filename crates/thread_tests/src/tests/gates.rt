@@ -1,6 +1,8 @@
 //! Runs that a gate leads.
 
-use super::scripts::{LOST, ONE_EACH, RACE, TWO_AND_ONE, TWO_TEXELS, doing, led, lines_of};
+use super::scripts::{
+    LOST, ONE_EACH, RACE, TWO_AND_ONE, TWO_FLUSHES, TWO_TEXELS, doing, led, lines_of,
+};
 use gpu_house::Doing;
 use gpu_io::{Gate, Place};
 use gpu_journal::Event;
@@ -62,11 +64,13 @@ impl Gate for Counts {
     }
 }
 
-// Both commands of the two texels are fetched in one batch, an empty flush has no batch, and a lost stream no finish.
+// Both commands of the two texels are fetched in one batch, a batch ends with its flush, an empty flush has no batch, and a
+// lost stream no finish.
 #[test]
 fn each_place_is_reached_once(rt: HostRuntime) -> Result<(), Fail> {
     for (script, fetches, flushes, finishes) in [
         (TWO_TEXELS, 1, 1, 1),
+        (TWO_FLUSHES, 2, 2, 2),
         (TWO_AND_ONE, 0, 3, 3),
         (LOST, 1, 1, 0),
     ] {
