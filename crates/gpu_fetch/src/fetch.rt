@@ -9,9 +9,8 @@ ghost use Rattle.gpu_fetch.specs.Fetched.{added, FetchesRow, FetchesRowInPart, F
 use crate::fetched::Fetched;
 use crate::seen_facts::SeenFacts;
 use crate::side::ServiceSide;
-use fetched_words::Words;
 use gpu_cmd::{CmdError, Command, StreamFacts, decode, head};
-use gpu_word::{Memory, copy_values};
+use gpu_word::{Memory, Words, copy_values};
 use std::alloc::Global;
 
 /// For how many values room is made at first: most commands have no more ring entries.

@@ -4,8 +4,8 @@ ghost use Rattle.gpu_cmd.specs.Lawful.{IsLawfulFacts};
 ghost use Rattle.gpu_cmd.specs.Copied.{IsCopy, copied, fetched_places, places_listed};
 
 use crate::seen_facts::SeenFacts;
-use fetched_words::Words;
 use gpu_cmd::{CmdError, Command};
+use gpu_word::Words;
 use std::marker::Model;
 
 /// What was fetched of a command: its words, each once and in order, and the verdict of checks 1 to 10 on them. Contracts see

@@ -6,9 +6,8 @@ ghost use Rattle.gpu_fetch.specs.Parts.{words_in, parts_of};
 
 use crate::fetched::Fetched;
 use crate::seen_facts::SeenFacts;
-use fetched_words::WordList;
 use gpu_cmd::{CmdError, Command};
-use gpu_word::Memory;
+use gpu_word::{Memory, WordList};
 use std::alloc::Global;
 
 /// What was fetched of a command whose words stand in a list after those of others: how many they are, the verdict on

@@ -1,5 +1,5 @@
-use fetched_words::Words;
 use gpu_cmd::CmdError;
+use gpu_word::Words;
 
 /// Why a stream was lost.
 #[derive(Clone, Copy, Debug, PartialEq, Eq)]

@@ -1,4 +1,4 @@
 pub mod Pieces
 pub mod Seats
-pub mod Words
+pub mod Parts
 pub mod Written

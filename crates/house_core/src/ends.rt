@@ -9,8 +9,8 @@ ghost use Rattle.gpu_journal.specs.Legal.{Obeys, MayClose};
 ghost use Rattle.house_core.specs.Core.{Stays, Grows};
 
 use crate::core_of::Core;
-use fetched_words::Words;
 use gpu_journal::{Event, Why};
+use gpu_word::Words;
 
 /// How a close was answered.
 #[derive(Clone, Copy, Debug, PartialEq, Eq)]

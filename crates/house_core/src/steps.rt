@@ -11,11 +11,10 @@ ghost use Rattle.house_core.specs.Core.{Stays, IsOfPlans, IsRunOf, MayHavePut, b
 
 use crate::carried::Carried;
 use crate::core_of::{Core, take_room};
-use fetched_words::Words;
 use gpu_cmd::{CmdError, Command};
 use gpu_fetch::Fetched;
 use gpu_journal::{Event, Why};
-use gpu_word::Memory;
+use gpu_word::{Memory, Words};
 use step_parts::{Acted, Taken};
 
 /// How a step was answered.

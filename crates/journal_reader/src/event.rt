@@ -4,10 +4,9 @@ ghost use Rattle.journal_reader.specs.Said.{pieces_of, why_said, lost_with, orde
 use crate::number::own_number;
 use crate::pieces::{Pieces, first_piece};
 use crate::word::words;
-use fetched_words::Words;
 use gpu_cmd::CmdError;
 use gpu_journal::{Event, Why};
-use gpu_word::Memory;
+use gpu_word::{Memory, Words};
 use std::alloc::Global;
 
 // Why a stream was lost: a word that is `memory` or the number of an error.

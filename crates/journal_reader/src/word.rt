@@ -5,8 +5,7 @@ ghost use Rattle.journal_reader.specs.Fronts.{is_colon, IsCut, HasValue, HasNoVa
 
 use crate::number::{own_number, own_value};
 use crate::pieces::Pieces;
-use fetched_words::Words;
-use gpu_word::Memory;
+use gpu_word::{Memory, Words};
 use script_words::cut_at;
 use std::alloc::{AllocError, Global};
 

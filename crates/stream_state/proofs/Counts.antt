@@ -3,7 +3,7 @@ use Rattle.std.proofs.Common.{◌≡◌, ℕ, ◌+◌, ◌*◌, ◌/◌, ◌≤�
 use Rattle.std.proofs.lemmas.Grind.{common_steps}
 use Rattle.std.proofs.lemmas.List.FromFn.{length-map-range_with_len}
 use Rattle.gpu_word.specs.Bytes.{bytes_of}
-use Rattle.gpu_word.proofs.Words.{length-bytes_of}
+use Rattle.gpu_word.proofs.Parts.{length-bytes_of}
 use Rattle.gpu_word.specs.declared.format.Format.{Format}
 use Rattle.gpu_word.specs.declared.format.Format.TheVariants.{Rgba8, Rgb565, Rgba4444, L8}
 use Rattle.gpu_word.specs.Formats.{format_of, format_bytes}

@@ -1,7 +1,7 @@
 use Rattle.std.proofs.Common.{◌≡◌, ◌+◌, ◌-◌, ◌*◌, ◌/◌, ◌%◌, ◌≤◌, ◌∙◌, ◌++◌, length, take, drop, ap, arith}
 use Rattle.std.proofs.lemmas.Grind.{div_ceil_times}
 use Rattle.gpu_word.specs.Bytes.{bytes_of}
-use Rattle.gpu_word.proofs.Words.{bytes_within}
+use Rattle.gpu_word.proofs.Parts.{bytes_within}
 use Rattle.gpu_word.proofs.bytes.bytes_of.Goals as goal
 
 pub returns : goal.returns

@@ -1,7 +1,7 @@
 ghost use Rattle.std.specs.Prelude.{◌≡◌, ◌≤◌, length, slice_range, IfOk};
 
+use crate::memory::Memory;
 use crate::words::Words;
-use gpu_word::Memory;
 use std::alloc::Global;
 use std::marker::Model;
 use std::sync::Arc;

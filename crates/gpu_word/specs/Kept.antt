@@ -1,8 +1,8 @@
 -- Where the words of a command lie.
 use Rattle.std.specs.Prelude.{ℕ, ◌≤◌, List, length, slice_range}
 use Rattle.std.specs.Arc.{arc_value}
-use Rattle.fetched_words.specs.declared.words.Kept.{Kept}
-use Rattle.fetched_words.specs.declared.words.Kept.TheVariants.{Own, Part}
+use Rattle.gpu_word.specs.declared.words.Kept.{Kept}
+use Rattle.gpu_word.specs.declared.words.Kept.TheVariants.{Own, Part}
 
 -- the words: all of an own list, or those of a shared one from one index up to another
 abbrev pub words_kept : Kept → List (ℕ × ℕ)

@@ -1,7 +1,7 @@
 ghost use Rattle.std.specs.Prelude.{◌≡◌, ◌≤◌, [], length, slice_range, IfOk};
 ghost use Rattle.std.specs.Arc.{arc_value};
 
-use gpu_word::Memory;
+use crate::memory::Memory;
 use std::alloc::Global;
 use std::marker::Model;
 use std::sync::Arc;
@@ -25,7 +25,7 @@ enum Kept {
 
 impl Model for Words {
     ghost use Rattle.std.specs.Prelude.{ℕ, List};
-    ghost use Rattle.fetched_words.specs.Kept.{words_kept, IsKept};
+    ghost use Rattle.gpu_word.specs.Kept.{words_kept, IsKept};
 
     ghost Value = { List (ℕ × ℕ) };
 
