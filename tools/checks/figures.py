@@ -99,7 +99,7 @@ CHECKS = counted(
 )
 DRAWS = "crates/script_generator/specs/Draws.antt"
 GENERATOR = "crates/script_generator/specs/Generator.antt"
-NUMBERS = "crates/script_words/specs/Numbers.antt"
+NUMBERS = "crates/script_lines/specs/Numbers.antt"
 
 FACTS = (
     Fact(r"# bytes (?:were|was) read|bytes of an input \| #|has at most # bytes", MOST_BYTES),

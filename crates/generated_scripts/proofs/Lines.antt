@@ -6,7 +6,7 @@ use Rattle.std.proofs.lemmas.Bool.{le-leb, and_from}
 use Rattle.std.proofs.lemmas.List.{length-map}
 use Rattle.std.proofs.lemmas.List.Folds.{list_all-append}
 use Rattle.gpu_cmd.specs.declared.areas.Areas.{Areas}
-use Rattle.script_words.specs.Numbers.{decimal_of, is_value, value_of, number_of}
+use Rattle.script_lines.specs.Numbers.{decimal_of, is_value, value_of, number_of}
 use Rattle.gpu_cmd.specs.declared.priority.Priority.{Priority}
 use Rattle.script_lines.specs.Said.{put_said, fill_said, flush_said, pairs_of, none_said}
 use Rattle.gpu_plan.specs.declared.plan.Action.{Action}

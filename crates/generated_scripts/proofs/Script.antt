@@ -2,9 +2,9 @@
 use Rattle.std.proofs.Common.{◌≡◌, ℕ, ◌+◌, ◌*◌, ◌≤◌, List, [], ◌∷◌, ◌++◌, length, map, Some, Ok, IsOkAnd, refl, sym, ap, subst, ◌∙◌, arith, append-nil}
 use Rattle.std.specs.Prelude.{codes, decimal}
 use Rattle.std.specs.Fmt.{digits}
-use Rattle.script_words.specs.Text.{lines_of, words_of}
-use Rattle.script_words.specs.Numbers.{number_of}
-use Rattle.script_words.proofs.Cuts.{lines_none}
+use Rattle.script_lines.specs.Text.{lines_of, words_of}
+use Rattle.script_lines.specs.Numbers.{number_of}
+use Rattle.script_lines.proofs.Cuts.{lines_none}
 use Rattle.gpu_cmd.specs.declared.priority.Priority.{Priority}
 use Rattle.gpu_cmd.specs.declared.priority.Priority.TheVariants.{High, Normal, Low}
 use Rattle.script_lines.specs.Said.{numbered_said}

@@ -3,7 +3,7 @@ use Rattle.std.proofs.Common.{◌≡◌, ◌&&◌, ℕ, ◌+◌, ◌*◌, ◌≤
 use Rattle.std.specs.Prelude.{codes, decimal}
 use Rattle.std.specs.List.{list_all}
 use Rattle.std.proofs.lemmas.Bool.{lt-ltb, and_from}
-use Rattle.script_words.specs.Numbers.{number_of}
+use Rattle.script_lines.specs.Numbers.{number_of}
 use Rattle.gpu_cmd.specs.declared.priority.Priority.{Priority}
 use Rattle.script_lines.specs.Said.{two_said}
 use Rattle.gpu_plan.specs.Plans.{PlanData}

@@ -2,7 +2,7 @@
 use Rattle.std.proofs.Common.{◌≡◌, ℕ, ◌+◌, true, List, [], ◌∷◌, ◌++◌, map, Ok, refl, sym, ap, ◌∙◌, append_assoc}
 use Rattle.std.specs.Prelude.{codes}
 use Rattle.std.specs.List.{list_all}
-use Rattle.script_words.specs.Text.{lines_of, words_of}
+use Rattle.script_lines.specs.Text.{lines_of, words_of}
 use Rattle.gpu_plan.specs.Adding.{Draft}
 use Rattle.gpu_plan.specs.Script.{numbered, from_body}
 use Rattle.gpu_plan.proofs.Whole.{body_goes}

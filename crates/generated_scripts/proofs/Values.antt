@@ -8,7 +8,7 @@ use Rattle.std.specs.Str.Parse.{digits_value, AllDigits}
 use Rattle.std.proofs.lemmas.Bool.{ltb-true, ltb-false, lt-ltb, le-leb, ne_eqb, and_parts, and_from}
 use Rattle.std.proofs.lemmas.Fmt.{digits_is_IsNumeral}
 use native.Mathlib.Numerals.{unary_clauses}
-use Rattle.script_words.specs.Numbers.{number_of, is_value}
+use Rattle.script_lines.specs.Numbers.{number_of, is_value}
 use Rattle.generated_scripts.proofs.Words.{is_plain, is_word}
 
 -- a value in digits

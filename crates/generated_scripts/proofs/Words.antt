@@ -6,7 +6,7 @@ use Rattle.std.proofs.lemmas.Bool.{and_parts, and_from, not-true}
 use Rattle.std.proofs.lemmas.List.Folds.{list_all-append}
 use Rattle.std.proofs.lemmas.List.Elements.{All-from_recursion}
 use Rattle.std.proofs.lemmas.List.Splits.{slice_split_at, slice_split_none, length-slice_split}
-use Rattle.script_words.specs.Text.{ends_line, is_blank, is_empty, without_empty_last, lines_of, words_of}
+use Rattle.script_lines.specs.Text.{ends_line, is_blank, is_empty, without_empty_last, lines_of, words_of}
 
 -- a byte of a word
 abbrev pub is_plain : ℕ → Bool

@@ -3,7 +3,7 @@ use Rattle.std.proofs.Common.{◌≡◌, ℕ, ◌+◌, ◌-◌, ◌≤◌, ◌<�
 use Rattle.std.specs.Prelude.{codes, decimal}
 use Rattle.std.specs.Fmt.{digits}
 use Rattle.std.specs.List.{list_all}
-use Rattle.script_words.specs.Numbers.{number_of, decimal_of, value_of}
+use Rattle.script_lines.specs.Numbers.{number_of, decimal_of, value_of}
 use Rattle.gpu_cmd.specs.declared.priority.Priority.{Priority}
 use Rattle.gpu_plan.specs.declared.plan.Action.{Action}
 use Rattle.gpu_plan.specs.declared.plan.Action.TheVariants.{Flush, Finish}

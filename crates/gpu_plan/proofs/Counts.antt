@@ -5,7 +5,7 @@ use Rattle.std.specs.List.{count_by}
 use Rattle.std.proofs.lemmas.List.Sums.{sum_by-append, sum_by-cons}
 use Rattle.std.proofs.lemmas.List.{length-map}
 use Rattle.gpu_plan.specs.declared.plan.Action.{Action}
-use Rattle.script_words.specs.Numbers.{value_of}
+use Rattle.script_lines.specs.Numbers.{value_of}
 use Rattle.gpu_plan.specs.Plans.{is_flush}
 use Rattle.gpu_plan.specs.Passes.{flush_count, flushes}
 use Rattle.gpu_plan.specs.Places.{flush_places_from}

@@ -12,7 +12,7 @@ use Rattle.gpu_cmd.specs.Lawful.{IsLawfulAreas, places_of}
 use Rattle.gpu_cmd.specs.Spans.{AreTiles, span_at}
 use Rattle.gpu_cmd.specs.declared.areas.Span.{Span}
 use Rattle.gpu_plan.specs.declared.plan.Action.{Action}
-use Rattle.script_words.specs.Numbers.{number_of, value_of}
+use Rattle.script_lines.specs.Numbers.{number_of, value_of}
 use Rattle.gpu_plan.specs.Plans.{IsWithin, HasFewFences, stays_open, is_closed, IsLawfulPlan, ring_alone}
 use Rattle.gpu_plan.specs.Adding.{puts}
 

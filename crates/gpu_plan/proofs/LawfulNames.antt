@@ -1,6 +1,6 @@
 -- The names of the streams of a script are lawful.
 use Rattle.std.proofs.Common.{◌≡◌, ℕ, ◌+◌, Bool, true, false, cond, List, [], ◌∷◌, map, Option, Some, None, Result, Ok, Err, IfOk, refl}
-use Rattle.script_words.specs.Text.{lines_of, words_of}
+use Rattle.script_lines.specs.Text.{lines_of, words_of}
 use Rattle.script_lines.specs.declared.fault.Kind.{Kind}
 use Rattle.script_lines.specs.Outcome.{◌>>=◌}
 use Rattle.script_lines.specs.Naming.{names_of}

@@ -13,7 +13,7 @@ use Rattle.script_lines.specs.declared.keyword.Keyword.{Keyword}
 use Rattle.script_lines.specs.declared.keyword.Keyword.TheVariants.{StreamLine, MemoryLine, ResultsLine, PutLine, FillLine, FlushLine, FinishLine, TokenLine, CloseLine, DumpLine}
 use Rattle.script_lines.specs.Outcome.{◌>>=◌, or_error, unless, at_line}
 use Rattle.script_lines.specs.Said.{keyword_of, priority_of, none_said, one_said, two_said, stream_said, numbered_said, put_said, fill_said, flush_said}
-use Rattle.script_words.specs.Numbers.{decimal_of}
+use Rattle.script_lines.specs.Numbers.{decimal_of}
 use Rattle.gpu_cmd.specs.Spans.{span_at}
 use Rattle.gpu_plan.specs.declared.plan.Action.{Action}
 use Rattle.gpu_plan.specs.declared.plan.Action.TheVariants.{Flush, Finish, Token, Close}

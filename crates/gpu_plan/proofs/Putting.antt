@@ -5,7 +5,7 @@ use Rattle.std.proofs.Common.{zero-add}
 use Rattle.std.specs.List.{list_all}
 use Rattle.std.proofs.lemmas.Bool.{le-leb, lt-leb, leb-true, leb-false, and_right}
 use Rattle.std.proofs.lemmas.List.{take-append-le, append-nil}
-use Rattle.script_words.specs.Numbers.{hex_of, is_value, value_of}
+use Rattle.script_lines.specs.Numbers.{hex_of, is_value, value_of}
 use Rattle.gpu_cmd.specs.declared.areas.Span.{Span}
 use Rattle.script_lines.specs.declared.fault.Kind.{Kind}
 use Rattle.script_lines.specs.declared.fault.Kind.TheVariants.{Number, Place}

@@ -2,7 +2,7 @@
 use Rattle.std.proofs.Common.{◌≡◌, ℕ, Bool, true, false, cond, List, [], ◌∷◌, map, Option, Some, None, Ok, refl, sym, ap, subst, ◌∙◌}
 use Rattle.gpu_cmd.specs.declared.name.Name.{Name}
 use Rattle.script_lines.proofs.Numbers.{Keeps, keeps_all, keeps_both}
-use Rattle.script_words.specs.Text.{words_of}
+use Rattle.script_lines.specs.Text.{words_of}
 use Rattle.script_lines.specs.declared.fault.Kind.TheVariants.{Word}
 use Rattle.script_lines.specs.declared.keyword.Keyword.{Keyword}
 use Rattle.script_lines.specs.declared.keyword.Keyword.TheVariants.{StreamLine, MemoryLine, ResultsLine, PutLine, FillLine, FlushLine, FinishLine, TokenLine, CloseLine, DumpLine}

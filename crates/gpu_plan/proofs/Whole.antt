@@ -1,6 +1,6 @@
 -- A script read line by line.
 use Rattle.std.proofs.Common.{◌≡◌, ℕ, ◌+◌, true, false, List, [], ◌∷◌, map, Option, Result, Ok, Err, refl, sym, ◌∙◌}
-use Rattle.script_words.specs.Text.{words_of}
+use Rattle.script_lines.specs.Text.{words_of}
 use Rattle.script_lines.specs.declared.fault.Kind.{Kind}
 use Rattle.script_lines.specs.declared.fault.Kind.TheVariants.{Head}
 use Rattle.script_lines.specs.declared.fault.ScriptFault.{ScriptFault}

@@ -1,9 +1,9 @@
 -- A draft as its definition sees it.
 use Rattle.std.specs.Prelude.{◌≡◌, ℕ, Bool, true, false, List, length, map, Option, Some, Result, Ok, Err, is_ok}
 use Rattle.std.specs.List.{list_all}
-use Rattle.script_words.specs.Numbers.{is_value, value_of}
-use Rattle.script_words.specs.Left.{values_left}
-use Rattle.script_words.specs.declared.reading.Values.{Values}
+use Rattle.script_lines.specs.Numbers.{is_value, value_of}
+use Rattle.script_lines.specs.Left.{values_left}
+use Rattle.script_lines.specs.declared.reading.Values.{Values}
 use Rattle.script_lines.specs.declared.fault.Kind.{Kind}
 use Rattle.script_lines.specs.declared.fault.LineError.{LineError}
 use Rattle.script_lines.specs.Outcome.{Gives}

@@ -1,7 +1,7 @@
 pub use Rattle.gpu_cmd.specs.Lawful
 pub use Rattle.gpu_cmd.specs.Spans
-pub use Rattle.script_words.specs.Text
-pub use Rattle.script_words.specs.Numbers
+pub use Rattle.script_lines.specs.Text
+pub use Rattle.script_lines.specs.Numbers
 pub use Rattle.script_lines.specs.Names
 pub use Rattle.script_lines.specs.Outcome
 pub use Rattle.script_lines.specs.Said

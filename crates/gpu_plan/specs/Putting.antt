@@ -1,7 +1,7 @@
 -- Words of a line that are put as values.
 use Rattle.std.specs.Prelude.{ℕ, ◌+◌, Bool, ◌&&◌, nat_le, List, ◌++◌, length, map}
 use Rattle.std.specs.List.{list_all}
-use Rattle.script_words.specs.Numbers.{is_value, value_of}
+use Rattle.script_lines.specs.Numbers.{is_value, value_of}
 use Rattle.gpu_plan.specs.declared.plan.Action.{Action}
 use Rattle.gpu_plan.specs.Plans.{PlanData}
 use Rattle.gpu_plan.specs.Adding.{puts}

@@ -1,6 +1,6 @@
 -- The meaning of a script, on the words of its lines.
 use Rattle.std.specs.Prelude.{ℕ, ◌+◌, Bool, true, ◌==◌, List, [], ◌∷◌, map, if◌then◌else◌, Option, Some, None, Result, Ok, Err, codes, bytes_eq, slice_index}
-use Rattle.script_words.specs.Text.{lines_of, words_of}
+use Rattle.script_lines.specs.Text.{lines_of, words_of}
 use Rattle.script_lines.specs.declared.fault.Kind.{Kind}
 use Rattle.script_lines.specs.declared.fault.Kind.TheVariants.{Head}
 use Rattle.script_lines.specs.Outcome.{◌>>=◌, at_line}

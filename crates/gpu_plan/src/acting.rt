@@ -11,8 +11,7 @@ use crate::begun::Begun;
 use crate::draft::Draft;
 use crate::plan::{Action, Plan};
 use gpu_cmd::{Areas, Span, span_at};
-use script_lines::{Kind, LineError};
-use script_words::Values;
+use script_lines::{Kind, LineError, Values};
 use std::alloc::AllocError;
 
 /// The most actions of a script.

@@ -1,6 +1,6 @@
 ghost use Rattle.std.specs.Prelude.{◌≡◌, ◌≤◌, ◌<◌, [], true, length, IfOk, OnOk};
 ghost use Rattle.std.specs.List.{list_any};
-ghost use Rattle.script_words.specs.Left.{words_left};
+ghost use Rattle.script_lines.specs.Left.{words_left};
 ghost use Rattle.gpu_plan.specs.Plans.{IsLawfulScript, actions_in, flushes_in, is_of};
 ghost use Rattle.script_lines.specs.Outcome.{Gives};
 ghost use Rattle.script_lines.specs.Said.{keyword_of};
@@ -16,10 +16,9 @@ use crate::plan::{Action, Plan};
 use crate::spans::spans_with;
 use gpu_cmd::Name;
 use script_lines::{
-    Keyword, Kind, LineError, Names, fill_begun, fill_said, flush_said, keyword_of, none_said,
-    one_said, put_begun, put_said, stream_said, two_said,
+    Keyword, Kind, LineError, Names, Words, fill_begun, fill_said, flush_said, keyword_of,
+    none_said, one_said, put_begun, put_said, stream_said, two_said,
 };
-use script_words::Words;
 use std::alloc::{AllocError, Global};
 use std::mem::replace;
 

@@ -1,7 +1,7 @@
 ghost use Rattle.std.specs.Prelude.{◌≡◌, ◌+◌, ◌<◌, ◌≤◌, ◌^◌, ◌++◌, [], ◌∷◌, false, length, take, Some, is_some, OnOk, OnErr, IfOk, IfSome, IfNone, OnSome};
 ghost use Rattle.gpu_cmd.specs.Lawful.{places_of};
 ghost use Rattle.gpu_cmd.specs.Spans.{AreTiles, words_in};
-ghost use Rattle.script_words.specs.Left.{values_left};
+ghost use Rattle.script_lines.specs.Left.{values_left};
 ghost use Rattle.gpu_plan.specs.Plans.{IsWithin, is_closed, ring_alone};
 ghost use Rattle.gpu_plan.specs.Adding.{fresh_plan};
 ghost use Rattle.gpu_plan.specs.Putting.{can_put, word_puts, with_word_puts};
@@ -12,7 +12,7 @@ use crate::fenced::Fenced;
 use crate::place::Place;
 use crate::plan::{Action, Fences, Plan};
 use gpu_cmd::{Areas, Name, Priority, Span};
-use script_words::Values;
+use script_lines::Values;
 use std::alloc::{AllocError, Global};
 
 // Adds puts of the words that are left of a line, from one place on, up to a word that is no value, or to another place.

@@ -1,5 +1,5 @@
 ghost use Rattle.std.specs.Prelude.{◌≡◌, ◌+◌, ◌<◌, ◌≤◌, ◌^◌, length, map, IfSome, OnOk};
-ghost use Rattle.script_words.specs.Text.{lines_of, words_of};
+ghost use Rattle.script_lines.specs.Text.{lines_of, words_of};
 ghost use Rattle.script_lines.specs.Outcome.{GivesScript};
 ghost use Rattle.script_lines.specs.Naming.{names_of};
 ghost use Rattle.gpu_plan.specs.Mentioning.{mentioned_on};
@@ -12,8 +12,7 @@ use crate::adding::{no_stream, with_line};
 use crate::draft::Draft;
 use crate::plan::Plans;
 use crate::renumbering::whole;
-use script_lines::{Kind, LineError, Names, ScriptFault};
-use script_words::{Lines, Words, all_lines};
+use script_lines::{Kind, LineError, Lines, Names, ScriptFault, Words, all_lines};
 use std::alloc::Global;
 
 fn is_remark(word: &[u8]) -> bool

@@ -13,8 +13,8 @@ use Rattle.gpu_cmd.specs.declared.areas.Areas.{Areas}
 use Rattle.gpu_cmd.specs.declared.areas.Span.{Span}
 use Rattle.gpu_cmd.specs.Lawful.{places_of}
 use Rattle.gpu_cmd.specs.Spans.{span_at, words_in, AreTiles}
-use Rattle.script_words.specs.Text.{lines_of, words_of}
-use Rattle.script_words.specs.Numbers.{decimal_of, is_value, value_of}
+use Rattle.script_lines.specs.Text.{lines_of, words_of}
+use Rattle.script_lines.specs.Numbers.{decimal_of, is_value, value_of}
 use Rattle.script_lines.specs.declared.fault.Kind.{Kind}
 use Rattle.script_lines.specs.declared.fault.Kind.TheVariants.{Word, Number, Order, Double, Place, Limit}
 use Rattle.script_lines.specs.declared.keyword.Keyword.{Keyword}

@@ -4,7 +4,7 @@ use Rattle.std.specs.Prelude.{position}
 use Rattle.std.specs.List.{position_or_len}
 use Rattle.std.proofs.lemmas.Bool.{ltb-false}
 use Rattle.std.proofs.lemmas.List.Sums.{fails_before_first}
-use Rattle.script_words.proofs.Cuts.{not_found}
+use Rattle.script_lines.proofs.Cuts.{not_found}
 
 -- no byte passes where none is found
 pub none_before : (p : ℕ → Bool) (text : List ℕ) → position p text ≡ None → (k : ℕ) → k < length text → p (get_or text k 0) ≡ false

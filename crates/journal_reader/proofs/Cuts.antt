@@ -6,7 +6,7 @@ use Rattle.std.proofs.lemmas.Bool.Decides.{nat_tests}
 use Rattle.std.proofs.lemmas.List.{drop_more}
 use Rattle.std.proofs.lemmas.List.Quantifiers.{position-Some}
 use Rattle.std.proofs.lemmas.List.Splits.{slice_split-cons_yes}
-use Rattle.script_words.proofs.Cuts.{split_found, none_passes}
+use Rattle.script_lines.proofs.Cuts.{split_found, none_passes}
 use Rattle.journal_reader.specs.Said.{is_space, pieces_of}
 use Rattle.journal_reader.specs.Fronts.{IsCut}
 

@@ -17,7 +17,7 @@ use Rattle.gpu_journal.proofs.Lengths.{length-hex8}
 use Rattle.journal_reader.specs.Said.{is_space, pieces_of, own_number, own_value, words_said}
 use Rattle.journal_reader.specs.Reading.{IsWord}
 use Rattle.journal_reader.specs.Fronts.{IsCut, is_colon, HasValue, HasWord, HasNoWord}
-use Rattle.script_words.proofs.Cuts.{split_found, none_passes}
+use Rattle.script_lines.proofs.Cuts.{split_found, none_passes}
 use Rattle.journal_reader.proofs.Cuts.{space_cut}
 use Rattle.journal_reader.proofs.Absent.{none_before}
 use Rattle.journal_reader.proofs.Lines.{ink_word, no_space}

@@ -23,8 +23,8 @@ use Rattle.gpu_journal.specs.Text.{word_text, why_text, event_text, journal_text
 use Rattle.gpu_journal.specs.Laws.{HasWords}
 use Rattle.gpu_journal.proofs.Numerals.{numeral_decimal}
 use Rattle.gpu_journal.proofs.Telling.{different_texts}
-use Rattle.script_words.specs.Text.{ends_line}
-use Rattle.script_words.proofs.Cuts.{not_found}
+use Rattle.script_lines.specs.Text.{ends_line}
+use Rattle.script_lines.proofs.Cuts.{not_found}
 use Rattle.journal_reader.specs.Said.{is_space, pieces_said, line_said}
 use Rattle.journal_reader.specs.Reading.{IsWord, IsWritten, HasNoFeed, IsJournal, whole_lines, IsLineOf, IsFirstBad, RefusedIsNoJournal, JournalIsOne}
 use Rattle.journal_reader.proofs.Numbers.{value_digits}

@@ -15,8 +15,8 @@ use Rattle.std.proofs.lemmas.Int.Digits.{digits_value-lt, digits_value_more}
 use Rattle.std.proofs.lemmas.List.{length-take}
 use Rattle.std.proofs.lemmas.List.Folds.{list_all-append, list_all_at, list_all_more}
 use Rattle.std.proofs.Math.Nat.{pow-le-pow_right}
-use Rattle.script_words.specs.Numbers.{number_of, decimal_of, hex_of}
-use Rattle.script_words.proofs.Digits.{all_digits}
+use Rattle.script_lines.specs.Numbers.{number_of, decimal_of, hex_of}
+use Rattle.script_lines.proofs.Digits.{all_digits}
 use Rattle.gpu_journal.specs.Digits.{numeral, hex_digits, hex8}
 use Rattle.gpu_journal.proofs.Lengths.{length-hex8}
 use Rattle.gpu_journal.proofs.Numerals.{numeral_decimal, different_values}

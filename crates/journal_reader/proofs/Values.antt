@@ -1,6 +1,6 @@
 -- The table of digits has the value of each byte.
 use Rattle.std.proofs.Common.{◌≡◌, ℕ, ◌<◌, get_or, refl}
-use Rattle.script_words.proofs.Table.{values, value_in}
+use Rattle.script_lines.proofs.Table.{values, value_in}
 use Rattle.journal_reader.specs.Said.{small_digit}
 use Rattle.journal_reader.specs.declared.digit.TheConstants.{VALUES}
 

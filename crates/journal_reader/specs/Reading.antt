@@ -1,7 +1,7 @@
 -- Which events a journal text tells, and which of its lines is the first that is no event's.
 use Rattle.std.specs.Prelude.{◌≡◌, ℕ, zero, suc, ◌+◌, ◌<◌, ◌^◌, false, List, [], ◌∷◌, if◌then◌else◌}
 use Rattle.std.specs.List.{All}
-use Rattle.script_words.specs.Text.{ends_line}
+use Rattle.script_lines.specs.Text.{ends_line}
 use Rattle.gpu_journal.specs.declared.event.Event.{Event}
 use Rattle.gpu_journal.specs.declared.event.Event.TheVariants.{Order, Step, Finish, Lost, Close}
 use Rattle.gpu_journal.specs.declared.event.Why.TheVariants.{Error, Memory}

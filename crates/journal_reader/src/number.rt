@@ -2,7 +2,7 @@ ghost use Rattle.std.specs.Prelude.{◌≡◌};
 ghost use Rattle.journal_reader.specs.Said.{own_number, own_value};
 
 use crate::digit::small_digit;
-use script_words::decimal_u32;
+use script_lines::decimal_u32;
 
 /// The number of 32 bits whose own decimal digits a word is.
 #[tactic(auto, unfolding(crate::specs::Said::own_number))]

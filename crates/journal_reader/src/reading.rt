@@ -4,7 +4,7 @@ ghost use Rattle.journal_reader.specs.Reading.{HasNoFeed, IsJournal, IsFault};
 use crate::event::event;
 use crate::fault::JournalFault;
 use gpu_journal::Event;
-use script_words::{cut_at, line_end};
+use script_lines::{cut_at, line_end};
 use std::alloc::Global;
 
 // The first line, without its line feed, and what stands after it.

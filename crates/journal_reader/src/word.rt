@@ -6,7 +6,7 @@ ghost use Rattle.journal_reader.specs.Fronts.{is_colon, IsCut, HasValue, HasNoVa
 use crate::number::{own_number, own_value};
 use crate::pieces::Pieces;
 use gpu_word::{Memory, Words};
-use script_words::cut_at;
+use script_lines::cut_at;
 use std::alloc::{AllocError, Global};
 
 // The place of the first colon.

@@ -1,3 +1,8 @@
+pub mod Cuts
+pub mod Digits
+pub mod Few
+pub mod Read
+pub mod Table
 pub mod Groups
 pub mod Mentions
 pub mod Moved

@@ -3,7 +3,7 @@ use Rattle.std.proofs.Common.{◌≡◌, ℕ, Bool, true, false, cond, ◌==◌,
 use Rattle.gpu_cmd.specs.declared.name.Name.{Name}
 use Rattle.script_lines.specs.Names.{with_name, number_in}
 use Rattle.script_lines.proofs.Numbers.{Keeps, keeps_all, keeps_both, keeps_more, mentioned}
-use Rattle.script_words.specs.Numbers.{decimal_of, long_decimal_of}
+use Rattle.script_lines.specs.Numbers.{decimal_of, long_decimal_of}
 use Rattle.script_lines.specs.declared.fault.Kind.{Kind}
 use Rattle.script_lines.specs.declared.fault.Kind.TheVariants.{Number}
 use Rattle.script_lines.specs.declared.fault.LineError.{LineError}

@@ -4,7 +4,7 @@ use Rattle.std.proofs.lemmas.List.{map-id}
 use Rattle.gpu_cmd.specs.declared.name.Name.{Name}
 use Rattle.script_lines.specs.Names.{number_in}
 use Rattle.script_lines.proofs.Numbers.{Keeps, keeps_all, mentioned}
-use Rattle.script_words.specs.Numbers.{decimal_of}
+use Rattle.script_lines.specs.Numbers.{decimal_of}
 use Rattle.script_lines.specs.declared.fault.Kind.{Kind}
 use Rattle.script_lines.specs.declared.fault.Kind.TheVariants.{Word, Number}
 use Rattle.script_lines.specs.Outcome.{◌>>=◌, or_error, unless}

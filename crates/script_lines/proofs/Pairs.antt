@@ -1,7 +1,7 @@
 -- Pairs read one after the other.
 use Rattle.std.proofs.Common.{◌≡◌, ℕ, List, [], ◌∷◌, ◌++◌, Result, Ok, Err, refl, sym, ap, ◌∙◌, append_assoc}
 use Rattle.std.proofs.lemmas.List.{append-nil}
-use Rattle.script_words.specs.Numbers.{decimal_of, long_decimal_of}
+use Rattle.script_lines.specs.Numbers.{decimal_of, long_decimal_of}
 use Rattle.script_lines.specs.declared.fault.Kind.{Kind}
 use Rattle.script_lines.specs.declared.fault.Kind.TheVariants.{Number, Word}
 use Rattle.script_lines.specs.declared.fault.LineError.{LineError}

@@ -5,9 +5,9 @@ use Rattle.std.specs.List.{list_all}
 use Rattle.std.proofs.lemmas.Bool.{both_ways, ne_eqb}
 use Rattle.std.proofs.lemmas.List.{length-map}
 use Rattle.std.proofs.lemmas.List.Folds.{list_all-map}
-use Rattle.script_words.specs.Text.{words_of}
-use Rattle.script_words.specs.Numbers.{decimal_of, hex_of, is_value, value_of}
-use Rattle.script_words.specs.Reading.{IsFirstRead}
+use Rattle.script_lines.specs.Text.{words_of}
+use Rattle.script_lines.specs.Numbers.{decimal_of, hex_of, is_value, value_of}
+use Rattle.script_lines.specs.Reading.{IsFirstRead}
 use Rattle.script_lines.specs.declared.fault.Kind.{Kind}
 use Rattle.script_lines.specs.declared.fault.Kind.TheVariants.{Word, Number}
 use Rattle.script_lines.specs.declared.fault.LineError.{LineError}

@@ -1,5 +1,7 @@
-pub use Rattle.script_words.specs.Text
-pub use Rattle.script_words.specs.Numbers
+pub mod Text
+pub mod Numbers
+pub mod Reading
+pub mod Left
 pub mod Names
 pub mod Outcome
 pub mod Said

@@ -2,7 +2,7 @@
 use Rattle.std.specs.Prelude.{ℕ, ◌==◌, List, [], ◌∷◌, if◌then◌else◌, Result, Ok, Err}
 use Rattle.gpu_cmd.specs.declared.name.Name.{Name}
 use Rattle.script_lines.specs.Names.{with_name}
-use Rattle.script_words.specs.Numbers.{decimal_of, long_decimal_of}
+use Rattle.script_lines.specs.Numbers.{decimal_of, long_decimal_of}
 use Rattle.script_lines.specs.declared.fault.Kind.{Kind}
 use Rattle.script_lines.specs.declared.fault.Kind.TheVariants.{Number}
 use Rattle.script_lines.specs.Outcome.{◌>>=◌, or_error}

@@ -1,7 +1,7 @@
 -- What the words of a line say.
 use Rattle.std.specs.Prelude.{ℕ, Bool, ◌==◌, true, false, List, [], ◌∷◌, map, if◌then◌else◌, Option, Some, None, Result, Ok, Err, codes, bytes_eq}
 use Rattle.std.specs.List.{list_all}
-use Rattle.script_words.specs.Numbers.{decimal_of, long_decimal_of, is_value, value_of}
+use Rattle.script_lines.specs.Numbers.{decimal_of, long_decimal_of, is_value, value_of}
 use Rattle.script_lines.specs.declared.fault.Kind.{Kind}
 use Rattle.script_lines.specs.declared.fault.Kind.TheVariants.{Word, Number}
 use Rattle.gpu_cmd.specs.declared.priority.Priority.{Priority}

@@ -1,9 +1,9 @@
 -- What functions return for put and fill lines, as the definitions of these lines see it.
 use Rattle.std.specs.Prelude.{ℕ, List, length, map, Option, Some, None, if◌then◌else◌}
 use Rattle.std.specs.List.{list_all}
-use Rattle.script_words.specs.Numbers.{is_value, value_of}
-use Rattle.script_words.specs.Left.{words_left, values_left}
-use Rattle.script_words.specs.declared.reading.Values.{Values}
+use Rattle.script_lines.specs.Numbers.{is_value, value_of}
+use Rattle.script_lines.specs.Left.{words_left, values_left}
+use Rattle.script_lines.specs.declared.reading.Values.{Values}
 use Rattle.script_lines.specs.declared.line.Putting.{Putting}
 
 -- a place, and the words for the values

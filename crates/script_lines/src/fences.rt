@@ -1,5 +1,5 @@
 ghost use Rattle.std.specs.Prelude.{◌≡◌, length, is_some, OnOk};
-ghost use Rattle.script_words.specs.Text.{words_of};
+ghost use Rattle.script_lines.specs.Text.{words_of};
 ghost use Rattle.script_lines.specs.Outcome.{Gives};
 ghost use Rattle.script_lines.specs.Said.{pairs_of, triples_of, are_fences, fences_of, flush_said};
 ghost use Rattle.script_lines.specs.Mentioned.{fence_said, mentioned_by, mentioned_of, mentioned_behind};
@@ -7,12 +7,12 @@ ghost use Rattle.script_lines.specs.Mentioned.{fence_said, mentioned_by, mention
 use crate::fault::{Kind, LineError};
 use crate::line::{decimal_at, long_decimal_at};
 use crate::names::Names;
+use crate::text::Words;
 use gpu_cmd::Name;
-use script_words::Words;
 use std::alloc::Global;
 
 // How many words are left.
-#[tactic(auto, using(script_words::proofs::Few::few_words))]
+#[tactic(auto, using(crate::proofs::Few::few_words))]
 fn count_words(words: Words<'_>) -> usize
     ensures { result ≡ length (words_of words.entry.rest.now) }
 {

@@ -1,14 +1,16 @@
 ghost use Rattle.std.specs.Prelude.{◌≡◌, ◌≤◌, ◌^◌, length, IfOk, IfSome};
-ghost use Rattle.script_words.specs.Left.{words_left, values_left};
-ghost use Rattle.script_words.specs.Numbers.{decimal_of, long_decimal_of};
+ghost use Rattle.script_lines.specs.Left.{words_left, values_left};
+ghost use Rattle.script_lines.specs.Numbers.{decimal_of, long_decimal_of};
 ghost use Rattle.script_lines.specs.Outcome.{Gives, or_error};
 ghost use Rattle.script_lines.specs.Shown.{begun_shown, fill_begun_shown, put_shown, fill_shown, values_counted};
 ghost use Rattle.script_lines.specs.Said.{priority_of, none_said, one_said, two_said, numbered_said, named_said, stream_said, put_begun, put_said, fill_begun, fill_said};
 ghost use Rattle.script_lines.specs.declared.fault.Kind.TheVariants.{Number};
 
 use crate::fault::{Kind, LineError};
+use crate::number::{decimal_u32, decimal_u64};
+use crate::reading::{Values, first_decimal, has_word};
+use crate::text::Words;
 use gpu_cmd::{Name, Priority};
-use script_words::{Values, Words, decimal_u32, decimal_u64, first_decimal, has_word};
 
 fn priority_of(word: &[u8]) -> Option<Priority>
     ensures { result ≡ priority_of word.now }

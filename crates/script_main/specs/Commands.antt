@@ -1,6 +1,6 @@
 -- What the words of the command line ask for.
 use Rattle.std.specs.Prelude.{ℕ, ◌-◌, ◌≤◌, ◌==◌, Bool, true, false, ◌&&◌, nat_le, List, [], ◌∷◌, take, drop, Option, Some, None, option_map, option_and_then, codes, bytes_eq, if◌then◌else◌}
-use Rattle.script_words.specs.Numbers.{decimal_of}
+use Rattle.script_lines.specs.Numbers.{decimal_of}
 use Rattle.script_main.specs.declared.command.Command.{Command}
 use Rattle.script_main.specs.declared.command.Command.TheVariants.{Run, RunOnThreads, Check, Generate, Trial, Verify}
 

@@ -1,10 +1,10 @@
 ghost use Rattle.std.specs.Prelude.{◌≡◌, ◌≤◌, ◌+◌, Some, map, string_bytes, option_map, IfSome};
-ghost use Rattle.script_words.specs.Numbers.{decimal_of};
+ghost use Rattle.script_lines.specs.Numbers.{decimal_of};
 ghost use Rattle.script_main.specs.declared.command.Command.TheVariants.{Generate, Trial};
 ghost use Rattle.script_main.specs.Commands.{sized, with_both, digit_in, workers_in, behind_equals, run_with, views_in, viewed_with, of_one, of_two, of_workers, of_three, of_views, of_five, command_of, is_plain, IsSized};
 ghost use Rattle.script_main.specs.Says.{reads};
 
-use script_words::decimal_u32;
+use script_lines::decimal_u32;
 
 /// The largest size of a generated script.
 const MOST_SIZE: u32 = 2000;

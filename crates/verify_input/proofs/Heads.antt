@@ -7,7 +7,7 @@ use Rattle.std.proofs.lemmas.Bool.Decides.{nat_tests}
 use Rattle.std.proofs.lemmas.List.{append-nil}
 use Rattle.std.proofs.lemmas.List.Elements.{All-nil, All-cons, All-append}
 use Rattle.gpu_cmd.specs.declared.name.Name.{Name}
-use Rattle.script_words.specs.Text.{ends_line}
+use Rattle.script_lines.specs.Text.{ends_line}
 use Rattle.gpu_plan.specs.Plans.{PlanData, PlansData, plan_of}
 use Rattle.gpu_journal.specs.Digits.{digits_within, numeral, number_text}
 use Rattle.gpu_journal.specs.Lines.{journal_head, name_text}

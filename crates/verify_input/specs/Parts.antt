@@ -1,7 +1,7 @@
 -- The parts of an input: a script, a line `journal`, and a journal text, after which the rest of an output may stand.
 use Rattle.std.specs.Prelude.{ℕ, Bool, not, false, List, [], ◌∷◌, filter, Option, Some, None, codes, bytes_eq, if◌then◌else◌}
 use Rattle.std.specs.List.{list_any}
-use Rattle.script_words.specs.Text.{ends_line, words_of}
+use Rattle.script_lines.specs.Text.{ends_line, words_of}
 use Rattle.journal_reader.specs.Reading.{whole_lines}
 use Rattle.verify_input.specs.declared.border.Border.{Border}
 use Rattle.verify_input.specs.declared.border.Border.TheVariants.{Script, Journal}

@@ -1,9 +1,9 @@
 ghost use Rattle.std.specs.Prelude.{◌≡◌, bytes_eq};
 ghost use Rattle.std.specs.List.{list_any};
-ghost use Rattle.script_words.specs.Text.{words_of};
+ghost use Rattle.script_lines.specs.Text.{words_of};
 ghost use Rattle.verify_input.specs.Parts.{is_journal, part_words, begins_part, is_end};
 
-use script_words::Words;
+use script_lines::Words;
 
 /// Where a part of the input ends.
 #[derive(Clone, Copy, Debug, PartialEq, Eq)]

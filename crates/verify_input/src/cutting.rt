@@ -4,7 +4,7 @@ ghost use Rattle.verify_input.specs.Cuts.{IsFirstLine};
 ghost use Rattle.verify_input.specs.Parts.{before, behind};
 
 use crate::border::Border;
-use script_words::{Words, cut_at, line_end};
+use script_lines::{Words, cut_at, line_end};
 
 /// A text, cut at the first line that ends a part of the input.
 #[derive(Clone, Copy, Debug)]

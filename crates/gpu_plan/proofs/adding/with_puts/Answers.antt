@@ -1,8 +1,8 @@
 use Rattle.std.proofs.Common.{map, sym, ◌∙◌}
 use Rattle.std.proofs.lemmas.List.{length-map}
 use Rattle.std.proofs.lemmas.Result.{err_from_is_err_and}
-use Rattle.script_words.specs.Text.{words_of}
-use Rattle.script_words.specs.Numbers.{value_of}
+use Rattle.script_lines.specs.Text.{words_of}
+use Rattle.script_lines.specs.Numbers.{value_of}
 use Rattle.gpu_plan.specs.Drafts.{shown}
 use Rattle.gpu_plan.proofs.Putting.{puts_fail, puts_fail_said, puts_put, puts_refused}
 use Rattle.gpu_plan.proofs.adding.with_puts.Goals as goal

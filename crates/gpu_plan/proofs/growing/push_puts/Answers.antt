@@ -1,6 +1,6 @@
 use Rattle.std.proofs.Common.{◌++◌, [], ◌∷◌, ap, ◌∙◌, arith}
 use Rattle.std.proofs.lemmas.List.{length_push}
-use Rattle.script_words.specs.Text.{words_of}
+use Rattle.script_lines.specs.Text.{words_of}
 use Rattle.script_lines.proofs.Puts.{value_counts, values_go}
 use Rattle.gpu_plan.specs.declared.plan.Action.TheVariants.{Put}
 use Rattle.gpu_plan.proofs.Putting.{put_goes, behind_stays, stops_at_word}

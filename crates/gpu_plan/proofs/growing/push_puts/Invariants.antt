@@ -1,8 +1,8 @@
 use Rattle.std.proofs.Common.{◌≡◌, ◌+◌, ◌≤◌, ◌++◌, length, map, take}
 use Rattle.std.specs.Prelude.{vec_len, vec_capacity}
 use Rattle.std.specs.List.{list_all}
-use Rattle.script_words.specs.Text.{words_of}
-use Rattle.script_words.specs.Numbers.{is_value, value_of}
+use Rattle.script_lines.specs.Text.{words_of}
+use Rattle.script_lines.specs.Numbers.{is_value, value_of}
 use Rattle.gpu_plan.specs.Adding.{puts}
 use Rattle.gpu_plan.proofs.growing.push_puts.Given as goal
 

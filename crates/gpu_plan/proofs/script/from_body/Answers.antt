@@ -1,6 +1,6 @@
 use Rattle.std.proofs.Common.{◌∙◌, [], ap, sym, subst, refl, Ok, arith, length, map}
 use Rattle.std.proofs.lemmas.Result.{err_from_is_err_and}
-use Rattle.script_words.specs.Text.{lines_of, words_of}
+use Rattle.script_lines.specs.Text.{lines_of, words_of}
 use Rattle.script_lines.specs.Outcome.{FailsAt}
 use Rattle.script_lines.proofs.Steps.{shown_by}
 use Rattle.gpu_plan.specs.Drafts.{shown}

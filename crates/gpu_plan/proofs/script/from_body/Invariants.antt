@@ -1,5 +1,5 @@
 use Rattle.std.proofs.Common.{◌≡◌, ◌+◌, [], length, map}
-use Rattle.script_words.specs.Text.{words_of, lines_of}
+use Rattle.script_lines.specs.Text.{words_of, lines_of}
 use Rattle.gpu_plan.specs.Named.{names_in, AreLawfulNames}
 use Rattle.gpu_plan.specs.Adding.{no_stream, streams}
 use Rattle.gpu_plan.specs.Script.{from_body}

@@ -1,5 +1,5 @@
 use Rattle.std.proofs.Common.{ap, subst, arith, length, rules}
-use Rattle.script_words.specs.Text.{lines_of}
+use Rattle.script_lines.specs.Text.{lines_of}
 use Rattle.script_lines.specs.Outcome.{GivesScript}
 use Rattle.gpu_plan.proofs.Whole.{head_skips, head_there, head_none}
 use Rattle.gpu_plan.proofs.script.from_head.Goals as goal

@@ -1,5 +1,5 @@
 use Rattle.std.proofs.Common.{◌≡◌, ◌+◌, length, map}
-use Rattle.script_words.specs.Text.{words_of, lines_of}
+use Rattle.script_lines.specs.Text.{words_of, lines_of}
 use Rattle.gpu_plan.specs.Script.{from_head}
 use Rattle.gpu_plan.proofs.script.from_head.Given as goal
 

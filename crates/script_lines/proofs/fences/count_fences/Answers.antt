@@ -1,6 +1,6 @@
 use Rattle.std.proofs.Common.{arith}
 use Rattle.std.proofs.lemmas.Bool.Decides.{nat_tests}
-use Rattle.script_words.specs.Text.{words_of}
+use Rattle.script_lines.specs.Text.{words_of}
 use Rattle.script_lines.proofs.Groups.{pairs_counted, triples_counted}
 use Rattle.script_lines.proofs.fences.count_fences.Goals as goal
 use Rattle.script_lines.proofs.fences.count_fences.Goals.{then-version-eq2, else-version-eq2}

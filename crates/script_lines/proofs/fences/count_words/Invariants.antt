@@ -1,5 +1,5 @@
 use Rattle.std.proofs.Common.{◌≡◌, ◌+◌, length}
-use Rattle.script_words.specs.Text.{words_of}
+use Rattle.script_lines.specs.Text.{words_of}
 use Rattle.script_lines.proofs.fences.count_words.Given as goal
 
 abbrev pub invariant-loop-word : goal.invariant-loop-word

@@ -1,5 +1,5 @@
 use Rattle.std.proofs.lemmas.Result.{err_from_is_err_and}
-use Rattle.script_words.specs.Text.{words_of}
+use Rattle.script_lines.specs.Text.{words_of}
 use Rattle.script_lines.proofs.Pairs.{goes_on, ends_first, ends_second, odd, is_done}
 use Rattle.script_lines.proofs.fences.pairs_of.Goals as goal
 

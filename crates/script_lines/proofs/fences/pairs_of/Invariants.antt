@@ -1,5 +1,5 @@
 use Rattle.std.proofs.Common.{◌≡◌, length}
-use Rattle.script_words.specs.Text.{words_of}
+use Rattle.script_lines.specs.Text.{words_of}
 use Rattle.script_lines.specs.Said.{pairs_of}
 use Rattle.script_lines.proofs.Pairs.{with_front}
 use Rattle.script_lines.proofs.fences.pairs_of.Given as goal

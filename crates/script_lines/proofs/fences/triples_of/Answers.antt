@@ -1,7 +1,7 @@
 use Rattle.std.proofs.Common.{List, ℕ}
 use Rattle.std.proofs.lemmas.Result.{err_from_is_err_and}
 use Rattle.gpu_cmd.specs.declared.name.Name.{Name}
-use Rattle.script_words.specs.Text.{words_of}
+use Rattle.script_lines.specs.Text.{words_of}
 use Rattle.script_lines.specs.Mentioned.{mentioned_by}
 use Rattle.script_lines.proofs.Mentions.{named_fails, mention_goes, mention_done, mention_named}
 use Rattle.script_lines.proofs.Triples.{goes_on, ends_fence, one_left, two_left, is_done}

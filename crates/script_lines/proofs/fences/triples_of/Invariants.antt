@@ -1,5 +1,5 @@
 use Rattle.std.proofs.Common.{◌≡◌, length}
-use Rattle.script_words.specs.Text.{words_of}
+use Rattle.script_lines.specs.Text.{words_of}
 use Rattle.script_lines.specs.Said.{triples_of}
 use Rattle.script_lines.specs.Mentioned.{mentioned_by}
 use Rattle.script_lines.proofs.Pairs.{with_front}

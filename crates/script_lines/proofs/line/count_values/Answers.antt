@@ -1,6 +1,6 @@
 use Rattle.std.proofs.Common.{arith}
-use Rattle.script_words.specs.Text.{words_of}
-use Rattle.script_words.proofs.Few.{few_words}
+use Rattle.script_lines.specs.Text.{words_of}
+use Rattle.script_lines.proofs.Few.{few_words}
 use Rattle.script_lines.proofs.Puts.{value_counts, values_go, values_stop, counted, not_counted}
 use Rattle.script_lines.proofs.line.count_values.Goals as goal
 

@@ -1,7 +1,7 @@
 use Rattle.std.proofs.Common.{◌≡◌, ◌+◌, length}
 use Rattle.std.specs.List.{list_all}
-use Rattle.script_words.specs.Text.{words_of}
-use Rattle.script_words.specs.Numbers.{is_value}
+use Rattle.script_lines.specs.Text.{words_of}
+use Rattle.script_lines.specs.Numbers.{is_value}
 use Rattle.script_lines.proofs.line.count_values.Given as goal
 
 abbrev pub invariant-loop-value : goal.invariant-loop-value

@@ -1,7 +1,7 @@
 use Rattle.std.proofs.Common.{◌+◌, map, sym, arith}
 use Rattle.std.proofs.lemmas.List.{length-map}
-use Rattle.script_words.specs.Text.{words_of}
-use Rattle.script_words.specs.Numbers.{value_of}
+use Rattle.script_lines.specs.Text.{words_of}
+use Rattle.script_lines.specs.Numbers.{value_of}
 use Rattle.gpu_plan.specs.Drafts.{shown}
 use Rattle.gpu_plan.proofs.Counts.{more_actions, no_more_flushes}
 use Rattle.gpu_plan.proofs.Putting.{acts, put_refused, no_room}

@@ -1,7 +1,7 @@
 use Rattle.std.proofs.Common.{◌≡◌, false, length, map, ap, arith}
 use Rattle.gpu_cmd.specs.Lawful.{places_of}
-use Rattle.script_words.specs.Text.{words_of}
-use Rattle.script_words.specs.Numbers.{value_of}
+use Rattle.script_lines.specs.Text.{words_of}
+use Rattle.script_lines.specs.Numbers.{value_of}
 use Rattle.gpu_plan.specs.Adding.{puts}
 use Rattle.gpu_plan.specs.Plans.{PlanData, is_closed}
 use Rattle.gpu_plan.proofs.Lawful.{few_places, lawful_puts}
