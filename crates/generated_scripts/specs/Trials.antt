@@ -2,7 +2,7 @@
 use Rattle.std.specs.Prelude.{ℕ, Bool, true, false, List, ◌++◌, codes, length}
 use Rattle.std.specs.List.{count_by}
 use Rattle.gpu_store.specs.Images.{Pictures}
-use Rattle.image_sums.specs.Sums.{texel_sum}
+use Rattle.gpu_store.specs.Sums.{texel_sum}
 use Rattle.gpu_plan.specs.Plans.{PlansData}
 use Rattle.sync_core.specs.declared.ending.Ending.{Ending}
 use Rattle.gpu_journal.specs.declared.event.Event.{Event}

@@ -4,9 +4,8 @@ ghost use Rattle.generated_scripts.specs.Trials.{line_text};
 use crate::counts::loss_count;
 use crate::digits::{push_count, push_number};
 use gpu_journal::{Journal, spaced_hex};
-use gpu_store::Images;
+use gpu_store::{Images, texel_sum};
 use gpu_word::Memory;
-use image_sums::texel_sum;
 use std::alloc::Global;
 use sync_core::Ending;
 

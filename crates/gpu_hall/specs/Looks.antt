@@ -1,6 +1,6 @@
 -- What a look at a version that was reported says of the journal.
 use Rattle.std.specs.Prelude.{◌≡◌, ◌≤◌, List, length}
-use Rattle.image_sums.specs.Sums.{texel_sum}
+use Rattle.gpu_store.specs.Sums.{texel_sum}
 use Rattle.gpu_plan.specs.Plans.{PlansData}
 use Rattle.live_view.specs.declared.look.Look.{Look}
 use Rattle.gpu_journal.specs.declared.event.Event.{Event}

@@ -3,3 +3,4 @@ pub mod Painting
 pub mod Lookups
 pub mod Counting
 pub mod Steps
+pub mod Totals

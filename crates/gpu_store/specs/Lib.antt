@@ -2,3 +2,4 @@ pub mod Picture
 pub mod Rows
 pub mod Images
 pub mod Conversion
+pub mod Sums

@@ -5,6 +5,7 @@
 //!   copy comes from the images before.
 //! - An answer other than Done changes nothing.
 //! - `unpack` is exactly the conversion of texels.
+//! - `texel_sum` is the sum of all texels of all images, modulo 2^32.
 //!
 //! Notes:
 //! - What an operation draws is a function of column and row. An operation is steps in the order of their answers: the
@@ -23,6 +24,7 @@ mod numbers;
 mod op;
 mod rect;
 mod rows;
+mod sums;
 mod texels;
 
 pub use conversion::unpack;
@@ -30,4 +32,8 @@ pub use images::Images;
 pub use numbers::Numbers;
 pub use op::{Answer, Op};
 pub use rect::Rect;
+pub use sums::texel_sum;
 pub use texels::Texels;
+
+#[cfg(test)]
+mod tests;

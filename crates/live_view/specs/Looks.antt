@@ -2,7 +2,7 @@
 use Rattle.std.specs.Prelude.{◌≡◌, ℕ, ◌+◌, max, List, fold, Some, slice_get, option_map}
 use Rattle.std.specs.List.{All}
 use Rattle.std.specs.List.Sorted.{IsNonDecreasingBy}
-use Rattle.image_sums.specs.Sums.{texel_sum}
+use Rattle.gpu_store.specs.Sums.{texel_sum}
 use Rattle.live_view.specs.declared.version.Version.{Version}
 use Rattle.live_view.specs.declared.look.Look.{Look}
 use Rattle.live_view.specs.declared.look.Sight.{Sight}

@@ -16,7 +16,7 @@ use crate::look::Look;
 use crate::rule::{Looks, Meets, Open, Seat};
 use crate::shown::Shown;
 use crossbeam_utils::rule::Outcome;
-use image_sums::texel_sum;
+use gpu_store::texel_sum;
 use std::sync::Wait;
 use std::thread;
 

@@ -1,6 +1,6 @@
 use Rattle.std.proofs.Common.{◌≡◌, ◌+◌, ◌%◌, ◌^◌, take}
 use Rattle.std.specs.List.{sum}
-use Rattle.image_sums.proofs.sums.with_row.Given as goal
+use Rattle.gpu_store.proofs.sums.with_row.Given as goal
 
 abbrev pub invariant-loop-texel : goal.invariant-loop-texel
 invariant-loop-texel l = l.total ≡ (l.fn.before + sum (take l.texel-index l.row)) % 2 ^ 32

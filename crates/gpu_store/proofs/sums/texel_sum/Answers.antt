@@ -4,9 +4,9 @@ use Rattle.std.proofs.Math.Seq.{take-length}
 use Rattle.std.proofs.lemmas.List.{length_push}
 use Rattle.gpu_store.specs.Images.{Pictures}
 use Rattle.gpu_store.proofs.Lookups.{number_stands, numbers_end}
-use Rattle.image_sums.specs.Sums.{texel_sum}
-use Rattle.image_sums.proofs.Rows.{texels_in, images_more}
-use Rattle.image_sums.proofs.sums.texel_sum.Goals as goal
+use Rattle.gpu_store.specs.Sums.{texel_sum}
+use Rattle.gpu_store.proofs.Totals.{texels_in, images_more}
+use Rattle.gpu_store.proofs.sums.texel_sum.Goals as goal
 
 pub loop-image-preserved : goal.loop-image-preserved
 loop-image-preserved c =

@@ -1,5 +1,4 @@
-use crate::texel_sum;
-use gpu_store::{Images, Op, Rect};
+use crate::{Images, Op, Rect, texel_sum};
 use std::test::Fail;
 
 #[test]

@@ -1,9 +1,9 @@
 ghost use Rattle.std.specs.Prelude.{◌≡◌, ◌+◌, ◌%◌, ◌^◌, IfSome, IsSome};
 ghost use Rattle.std.specs.List.{sum};
 ghost use Rattle.gpu_store.specs.Images.{picture_of};
-ghost use Rattle.image_sums.specs.Sums.{texel_sum};
+ghost use Rattle.gpu_store.specs.Sums.{texel_sum};
 
-use gpu_store::Images;
+use crate::images::Images;
 
 // A sum with the texels of a row, modulo 2^32.
 fn with_row(before: u32, row: &[u32]) -> u32

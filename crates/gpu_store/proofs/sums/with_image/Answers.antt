@@ -1,7 +1,7 @@
 use Rattle.std.proofs.Common.{sym, ◌∙◌, arith}
 use Rattle.gpu_store.specs.Images.{picture_of}
-use Rattle.image_sums.proofs.Rows.{rows_more, image_done}
-use Rattle.image_sums.proofs.sums.with_image.Goals as goal
+use Rattle.gpu_store.proofs.Totals.{rows_more, image_done}
+use Rattle.gpu_store.proofs.sums.with_image.Goals as goal
 
 pub loop-y-preserved : goal.loop-y-preserved
 loop-y-preserved c = rows_more (picture_of c.args.images.now c.args.image) c.args.before c.loop-y.total c.with_row-total.result c.loop-y.y c.row.result.now c.row.ensures.row c.with_row-total.ensures c.loop-y.invariant
