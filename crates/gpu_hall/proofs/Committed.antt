@@ -11,8 +11,8 @@ use Rattle.gpu_journal.specs.declared.event.Why.TheVariants.{Error, Memory}
 use Rattle.gpu_journal.specs.Waits.{standing_of}
 use Rattle.gpu_journal.specs.Facts.{verdict_at}
 use Rattle.serial_laws.proofs.Passed.{is_order}
-use Rattle.run_laws.proofs.Going.{lost_ends}
-use Rattle.run_laws.proofs.Runs.{step_open}
+use Rattle.serial_laws.proofs.Going.{lost_ends}
+use Rattle.serial_laws.proofs.Runs.{step_open}
 use Rattle.house_core.specs.Desks.{RunData}
 use Rattle.gpu_house.specs.declared.answers.Next.{Next}
 use Rattle.gpu_house.specs.declared.answers.Next.TheVariants as next

@@ -19,7 +19,7 @@ use Rattle.gpu_journal.specs.Serial.{order_event}
 use Rattle.serial_laws.proofs.Others.{moved_by, standing_own, standing_other, known_own, known_other}
 use Rattle.serial_laws.proofs.Flushes.{flush_there}
 use Rattle.serial_laws.proofs.Passed.{is_order, ordered_same}
-use Rattle.run_laws.proofs.Ended.{next_open}
+use Rattle.serial_laws.proofs.Ended.{next_open}
 use Rattle.gpu_house.proofs.Rows.{each_set}
 use Rattle.gpu_hall.specs.Takers.{TakerFits, QueuesFit}
 use Rattle.gpu_hall.specs.Collecting.{OrderedOrLost}

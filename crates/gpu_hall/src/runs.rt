@@ -4,7 +4,7 @@ ghost use Rattle.sync_core.specs.Standing.{is_open};
 ghost use Rattle.gpu_journal.specs.declared.event.Event.TheVariants.{Finish, Lost};
 ghost use Rattle.gpu_journal.specs.declared.event.Why.TheVariants.{Memory};
 ghost use Rattle.gpu_journal.specs.Waits.{standing_of};
-ghost use Rattle.run_laws.specs.Choosing.{choice_at_home};
+ghost use Rattle.serial_laws.specs.Choosing.{choice_at_home};
 ghost use Rattle.house_core.specs.Core.{IsRunOf, is_home, with_out};
 ghost use Rattle.house_core.specs.Desks.{at_home};
 ghost use Rattle.shm_words.specs.Seen.{NoteData};

@@ -4,7 +4,7 @@ use Rattle.gpu_plan.specs.Plans.{PlansData}
 use Rattle.gpu_journal.specs.declared.event.Event.{Event}
 use Rattle.gpu_journal.specs.Legal.{IsLegal}
 use Rattle.serial_laws.specs.Going.{IsIdle}
-use Rattle.run_laws.specs.Choosing.{choice_at_home}
+use Rattle.serial_laws.specs.Choosing.{choice_at_home}
 use Rattle.gpu_house.specs.Laws.{NoneIsTaken}
 
 -- where a stream can be taken, some number is left

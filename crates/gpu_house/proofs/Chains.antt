@@ -11,7 +11,7 @@ use Rattle.gpu_fetch.specs.Side.{SideData}
 use Rattle.gpu_journal.specs.declared.event.Event.{Event}
 use Rattle.gpu_journal.specs.declared.event.Event.TheVariants.{Step}
 use Rattle.gpu_journal.specs.Facts.{verdict_at}
-use Rattle.run_laws.specs.Going.{keeps}
+use Rattle.serial_laws.specs.Runs.{keeps}
 use Rattle.house_core.specs.Answers.{IsMovedBy}
 use Rattle.house_core.specs.Desks.{RunData}
 use Rattle.gpu_house.specs.Steps.{told_side, asked_at}

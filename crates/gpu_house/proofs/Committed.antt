@@ -16,8 +16,8 @@ use Rattle.gpu_journal.specs.declared.event.Event.TheVariants.{Step}
 use Rattle.gpu_journal.specs.World.{replay}
 use Rattle.gpu_journal.specs.Waits.{standing_of}
 use Rattle.gpu_journal.specs.Facts.{verdict_at}
-use Rattle.run_laws.specs.Going.{keeps}
-use Rattle.run_laws.proofs.Runs.{step_open}
+use Rattle.serial_laws.specs.Runs.{keeps}
+use Rattle.serial_laws.proofs.Runs.{step_open}
 use Rattle.house_core.specs.Core.{IsRunOf, with_out}
 use Rattle.house_core.specs.Desks.{Out}
 use Rattle.gpu_house.specs.declared.answers.Next.{Next}

@@ -13,7 +13,7 @@ use Rattle.gpu_journal.specs.declared.event.Event.TheVariants.{Step, Lost}
 use Rattle.gpu_journal.specs.declared.event.Why.{Why}
 use Rattle.gpu_journal.specs.World.{replay, drawn_by}
 use Rattle.gpu_journal.proofs.Worlds.{images_then}
-use Rattle.run_laws.proofs.Knowns.{step_images}
+use Rattle.serial_laws.proofs.Knowns.{step_images}
 use Rattle.step_parts.specs.declared.acted.Acted.{Acted}
 use Rattle.house_core.specs.Answers.{WasExecuted}
 use Rattle.gpu_house.specs.declared.answers.Next.{Next}

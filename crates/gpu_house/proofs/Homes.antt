@@ -16,8 +16,8 @@ use Rattle.gpu_journal.specs.World.{stream_in}
 use Rattle.gpu_journal.specs.Waits.{sync_of, standing_of, left_of}
 use Rattle.gpu_journal.specs.Legal.{IsLegal}
 use Rattle.serial_laws.proofs.Fitting.{first_some}
-use Rattle.run_laws.proofs.Fronts.{left_open}
-use Rattle.run_laws.proofs.Going.{lost_ends}
+use Rattle.serial_laws.proofs.Fronts.{left_open}
+use Rattle.serial_laws.proofs.Going.{lost_ends}
 use Rattle.house_core.specs.Core.{CoreData, IsOfPlans, IsRunOf, out_at, is_home, with_out}
 use Rattle.house_core.specs.Desks.{Out, RunData, at_home}
 use Rattle.gpu_house.specs.Slots.{SlotData, left_slot, IsAtHome, SlotFits, RunFits}

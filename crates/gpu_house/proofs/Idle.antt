@@ -4,7 +4,7 @@ use Rattle.std.specs.Prelude.{◌&&◌}
 use Rattle.std.proofs.Math.Bool.{and-false}
 use Rattle.gpu_journal.specs.Serial.{is_runnable}
 use Rattle.serial_laws.proofs.Least.{none_left, none_runs}
-use Rattle.run_laws.proofs.Choosing.{none_at_home}
+use Rattle.serial_laws.proofs.Choosing.{none_at_home}
 use Rattle.gpu_house.specs.Laws.{NoneIsTaken}
 
 pub none_is_taken : NoneIsTaken

@@ -18,8 +18,8 @@ use Rattle.gpu_journal.specs.Legal.{IsLegal}
 use Rattle.gpu_journal.proofs.Worlds.{known_of_left}
 use Rattle.serial_laws.specs.Going.{IsIdle}
 use Rattle.serial_laws.proofs.Least.{Found, Empty, least_front}
-use Rattle.run_laws.specs.Going.{MayGoOn}
-use Rattle.run_laws.proofs.Fronts.{left_open}
+use Rattle.serial_laws.specs.Runs.{MayGoOn}
+use Rattle.serial_laws.proofs.Fronts.{left_open}
 use Rattle.house_core.specs.Core.{CoreData, out_at, is_home}
 use Rattle.house_core.specs.Desks.{Out, desk_at, no_desk}
 use Rattle.house_core.specs.Invariant.{Parts, IsCore, DeskFits}

@@ -14,7 +14,7 @@ use Rattle.gpu_journal.specs.Waits.{standing_of, drawn}
 use Rattle.gpu_journal.specs.Legal.{IsLegal}
 use Rattle.gpu_journal.specs.Serial.{order_event}
 use Rattle.serial_laws.proofs.Flushes.{flush_there}
-use Rattle.run_laws.proofs.Ended.{next_open}
+use Rattle.serial_laws.proofs.Ended.{next_open}
 use Rattle.house_core.specs.Core.{CoreData, is_home}
 use Rattle.house_core.specs.Desks.{Out}
 use Rattle.gpu_house.specs.Slots.{SlotData, slot_at, SlotFits}

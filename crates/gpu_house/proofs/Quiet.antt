@@ -22,7 +22,7 @@ use Rattle.stream_state.specs.Writes.{Writes}
 use Rattle.stream_state.proofs.Accepting.{told as tells, says}
 use Rattle.gpu_journal.specs.declared.event.Event.{Event}
 use Rattle.gpu_journal.specs.World.{state_of}
-use Rattle.run_laws.specs.Going.{keeps}
+use Rattle.serial_laws.specs.Runs.{keeps}
 use Rattle.gpu_house.specs.Steps.{asked_at}
 use Rattle.gpu_house.specs.Batches.{facts_after, is_heard, ends_by, is_last, EndsExactly}
 

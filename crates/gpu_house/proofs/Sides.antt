@@ -19,8 +19,8 @@ use Rattle.gpu_journal.specs.Waits.{standing_of, left_of}
 use Rattle.gpu_journal.specs.Legal.{IsLegal}
 use Rattle.serial_laws.proofs.Others.{known_other, standing_other}
 use Rattle.serial_laws.proofs.Fitting.{first_some}
-use Rattle.run_laws.proofs.Knowns.{known_order, known_finish, step_ordered, step_finished}
-use Rattle.run_laws.proofs.Fronts.{left_open, counts_within}
+use Rattle.serial_laws.proofs.Knowns.{known_order, known_finish, step_ordered, step_finished}
+use Rattle.serial_laws.proofs.Fronts.{left_open, counts_within}
 use Rattle.house_core.specs.Core.{IsOfPlans, IsRunOf, MayHavePut}
 use Rattle.house_core.specs.Desks.{RunData}
 use Rattle.gpu_house.specs.Slots.{SlotData, note_ahead, left_slot, marks_between, begun_of, HasMet, IsAtHome, NotesFit, SlotFits, RunFits}

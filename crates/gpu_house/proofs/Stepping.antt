@@ -22,7 +22,7 @@ use Rattle.gpu_journal.specs.declared.event.Event.TheVariants.{Step}
 use Rattle.gpu_journal.specs.Facts.{put_in}
 use Rattle.gpu_journal.specs.World as worlds
 use Rattle.gpu_journal.specs.World.{known, world, asked_by}
-use Rattle.run_laws.proofs.Knowns.{step_tokens}
+use Rattle.serial_laws.proofs.Knowns.{step_tokens}
 use Rattle.house_core.specs.Core.{IsRunOf, MayHavePut}
 use Rattle.house_core.specs.Answers.{IsMovedBy}
 use Rattle.house_core.specs.Desks.{RunData}

@@ -12,7 +12,7 @@ use Rattle.gpu_journal.specs.declared.event.Event.{Event}
 use Rattle.gpu_journal.specs.declared.event.Event.TheVariants as event
 use Rattle.gpu_journal.specs.Waits.{standing_of}
 use Rattle.gpu_journal.specs.Facts.{verdict_at}
-use Rattle.run_laws.specs.Going.{keeps}
+use Rattle.serial_laws.specs.Runs.{keeps}
 use Rattle.house_core.specs.Core.{IsRunOf, with_out}
 use Rattle.house_core.specs.Desks.{RunData}
 use Rattle.gpu_house.specs.declared.answers.Next.{Next}

@@ -9,7 +9,7 @@ use Rattle.gpu_journal.specs.Waits.{sync_of, pending_in}
 use Rattle.gpu_journal.specs.Legal.{IsLegal}
 use Rattle.gpu_journal.specs.Serial.{is_runnable}
 use Rattle.serial_laws.specs.Going.{IsIdle}
-use Rattle.run_laws.specs.Choosing.{choice_at_home}
+use Rattle.serial_laws.specs.Choosing.{choice_at_home}
 use Rattle.gpu_house.specs.Waiting.{HaveTargets, FormNoCycle}
 use Rattle.gpu_house.specs.Stuck.{IsLeastOf}
 

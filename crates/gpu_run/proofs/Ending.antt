@@ -15,7 +15,7 @@ use Rattle.gpu_journal.specs.Legal.{MayClose}
 use Rattle.gpu_journal.specs.Serial.{stays, is_close}
 use Rattle.serial_laws.specs.Scripts.{AreLawfulPlans}
 use Rattle.serial_laws.proofs.Obeying.{played_is_legal, may_close}
-use Rattle.run_laws.proofs.Knowns.{known_close}
+use Rattle.serial_laws.proofs.Knowns.{known_close}
 use Rattle.house_core.specs.Core.{is_home}
 use Rattle.house_core.specs.Desks.{Out}
 use Rattle.house_core.specs.declared.ends.Closing.{Closing}

@@ -15,8 +15,8 @@ use Rattle.gpu_journal.specs.Serial.{begins_round, count, stays, has_flush, is_c
 use Rattle.serial_laws.proofs.First.{nat_cases}
 use Rattle.serial_laws.proofs.Others.{moved_by, standing_own, standing_other, known_own, known_other}
 use Rattle.serial_laws.proofs.Spent.{asked_open}
-use Rattle.run_laws.proofs.Going.{close_ends}
-use Rattle.run_laws.proofs.Reaches.{reach_order, reach_close}
+use Rattle.serial_laws.proofs.Going.{close_ends}
+use Rattle.serial_laws.proofs.Reaches.{reach_order, reach_close}
 use Rattle.gpu_run.specs.Clients.{flushes_to}
 use Rattle.gpu_run.specs.Rounds.{StandsStill, IsRising, HaveActed, HaveClosed, IsRunning}
 use Rattle.gpu_run.proofs.Follows.{follows_order, follows_close}

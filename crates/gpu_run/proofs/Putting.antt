@@ -21,7 +21,7 @@ use Rattle.gpu_journal.specs.Serial.{count}
 use Rattle.gpu_journal.proofs.Following.{plan_here}
 use Rattle.serial_laws.specs.Scripts.{AreLawfulPlans}
 use Rattle.serial_laws.proofs.First.{nat_cases}
-use Rattle.run_laws.proofs.Tokens.{reach_is}
+use Rattle.serial_laws.proofs.Tokens.{reach_is}
 use Rattle.gpu_house.specs.Slots.{slot_at}
 use Rattle.gpu_run.specs.Clients.{ClientData, client_at, done_at, flushes_to, IsCounted}
 use Rattle.gpu_run.specs.Reading.{HasRead, HaveRead}

@@ -15,7 +15,7 @@ use Rattle.gpu_journal.specs.World.{known}
 use Rattle.gpu_journal.specs.Facts.{reach}
 use Rattle.gpu_journal.specs.Serial.{stays}
 use Rattle.serial_laws.proofs.Flushes.{flushes_grow, flush_placed}
-use Rattle.run_laws.proofs.Tokens.{reach_is}
+use Rattle.serial_laws.proofs.Tokens.{reach_is}
 use Rattle.gpu_run.specs.Clients.{ClientData, client_at, done_at, flushes_to}
 use Rattle.gpu_run.specs.Rounds.{GoesFurther, StandsStill}
 use Rattle.gpu_run.specs.Served.{IsClientOf}

@@ -17,7 +17,7 @@ use Rattle.gpu_journal.specs.Waits.{standing_of}
 use Rattle.gpu_journal.specs.Serial.{count, stays, is_runnable, begins_round, run_event, IsPlayed, runner, choice}
 use Rattle.serial_laws.specs.Scripts.{AreLawfulPlans}
 use Rattle.serial_laws.proofs.Obeying.{can_run, played_is_legal}
-use Rattle.run_laws.proofs.Fronts.{left_open}
+use Rattle.serial_laws.proofs.Fronts.{left_open}
 use Rattle.house_core.specs.Core.{with_out}
 use Rattle.house_core.specs.Desks.{RunData, at_home}
 use Rattle.gpu_house.specs.Slots.{slot_at}

@@ -14,7 +14,7 @@ use Rattle.gpu_journal.specs.Serial.{count, order_event}
 use Rattle.serial_laws.proofs.First.{nat_cases}
 use Rattle.serial_laws.proofs.Others.{known_other}
 use Rattle.serial_laws.proofs.Counts.{count_grows}
-use Rattle.run_laws.proofs.Knowns.{known_order}
+use Rattle.serial_laws.proofs.Knowns.{known_order}
 use Rattle.house_core.specs.Core.{is_home}
 use Rattle.gpu_house.specs.Slots.{SlotData, slot_at}
 use Rattle.gpu_run.specs.Clients.{ClientData, client_at, flushes_to}

@@ -21,10 +21,10 @@ use Rattle.gpu_journal.specs.Facts.{facts_at, verdict_at}
 use Rattle.gpu_journal.specs.Legal.{IsLegal}
 use Rattle.gpu_journal.specs.Serial.{count, stays, is_runnable, next_words}
 use Rattle.serial_laws.proofs.Obeying.{CanRun, can_run}
-use Rattle.run_laws.specs.Going.{MayGoOn, keeps}
-use Rattle.run_laws.proofs.Fronts.{left_open}
-use Rattle.run_laws.proofs.Going.{run_begins, lost_ends}
-use Rattle.run_laws.proofs.Runs.{step_runs}
+use Rattle.serial_laws.specs.Runs.{MayGoOn, keeps}
+use Rattle.serial_laws.proofs.Fronts.{left_open}
+use Rattle.serial_laws.proofs.Going.{run_begins, lost_ends}
+use Rattle.serial_laws.proofs.Runs.{step_runs}
 use Rattle.house_core.specs.Core.{is_home, with_out, IsRunOf}
 use Rattle.house_core.specs.Desks.{Out, RunData, at_home}
 use Rattle.house_core.specs.Answers.{IsMovedBy}

@@ -4,8 +4,8 @@ use Rattle.gpu_plan.specs.Plans.{PlansData}
 use Rattle.gpu_fetch.specs.Side.{SideData}
 use Rattle.gpu_journal.specs.declared.event.Event.{Event}
 use Rattle.gpu_journal.specs.Serial.{begins_round, choice, runner, is_runnable, next, IsPlayed}
-use Rattle.run_laws.specs.Choosing.{choice_at_home}
-use Rattle.run_laws.proofs.Choosing.{all_home}
+use Rattle.serial_laws.specs.Choosing.{choice_at_home}
+use Rattle.serial_laws.proofs.Choosing.{all_home}
 use Rattle.house_core.specs.Core.{is_home, with_out, IsRunOf}
 use Rattle.house_core.specs.Desks.{Out}
 use Rattle.gpu_house.specs.Slots.{SlotData, slot_at, with_slot, note_ahead, left_slot}

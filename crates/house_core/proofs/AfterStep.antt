@@ -21,12 +21,12 @@ use Rattle.gpu_journal.proofs.Worlds.{states_within}
 use Rattle.serial_laws.proofs.Others.{standing_own}
 use Rattle.serial_laws.proofs.Rooms.{step_consumes}
 use Rattle.serial_laws.proofs.Spent.{asked_same}
-use Rattle.run_laws.specs.Going.{MayGoOn, keeps}
+use Rattle.serial_laws.specs.Runs.{MayGoOn, keeps}
 use Rattle.gpu_journal.specs.World.{greatest_after}
-use Rattle.run_laws.proofs.Going.{step_goes_on}
-use Rattle.run_laws.proofs.Runs.{step_open}
-use Rattle.run_laws.proofs.Fronts.{left_open}
-use Rattle.run_laws.proofs.Knowns.{step_state, step_ordered, step_finished, step_greatest}
+use Rattle.serial_laws.proofs.Going.{step_goes_on}
+use Rattle.serial_laws.proofs.Runs.{step_open}
+use Rattle.serial_laws.proofs.Fronts.{left_open}
+use Rattle.serial_laws.proofs.Knowns.{step_state, step_ordered, step_finished, step_greatest}
 use Rattle.step_parts.specs.declared.acted.Acted.{Acted}
 use Rattle.house_core.specs.Desks.{Out, DeskData, RunData, Agree, desk_at, run_of}
 use Rattle.house_core.specs.Core.{CoreData, IsOfPlans, IsRunOf, book_at, out_at}

@@ -16,9 +16,9 @@ use Rattle.gpu_journal.specs.Waits.{deed, sync_of}
 use Rattle.gpu_journal.specs.Legal.{Obeys}
 use Rattle.gpu_journal.specs.Serial.{rank}
 use Rattle.gpu_journal.proofs.Worlds.{sync_then}
-use Rattle.run_laws.specs.Needs.{need}
-use Rattle.run_laws.specs.Choosing.{IsCoreOf}
-use Rattle.run_laws.proofs.Needs.{needs_event, need_within}
+use Rattle.serial_laws.specs.Needs.{need}
+use Rattle.serial_laws.specs.Choosing.{IsCoreOf}
+use Rattle.serial_laws.proofs.Needs.{needs_event, need_within}
 use Rattle.house_core.specs.Desks.{DeskData, desk_at, no_desk}
 use Rattle.house_core.proofs.Books.{books_told}
 use Rattle.house_core.specs.Invariant.{Parts, DeskFits, CoreInvariant, seat_for}

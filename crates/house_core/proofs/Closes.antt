@@ -11,7 +11,7 @@ use Rattle.gpu_journal.specs.World.{known}
 use Rattle.gpu_journal.specs.Waits.{standing_of}
 use Rattle.gpu_journal.specs.Facts.{reach}
 use Rattle.gpu_journal.specs.Legal.{MayClose}
-use Rattle.run_laws.proofs.Tokens.{reach_is}
+use Rattle.serial_laws.proofs.Tokens.{reach_is}
 use Rattle.house_core.specs.Core.{is_done}
 use Rattle.house_core.specs.Desks.{DeskData, desk_at}
 use Rattle.house_core.specs.Invariant.{Parts}

@@ -23,10 +23,10 @@ use Rattle.gpu_journal.specs.Legal.{Obeys}
 use Rattle.gpu_journal.specs.Replaying.{IsWithin}
 use Rattle.gpu_journal.proofs.Worlds.{states_within}
 use Rattle.serial_laws.proofs.Passed.{lawful_of}
-use Rattle.run_laws.specs.Going as histories
-use Rattle.run_laws.specs.Choosing.{IsCoreOf}
-use Rattle.run_laws.proofs.Cores.{core_left, core_kept}
-use Rattle.run_laws.proofs.Fronts.{left_open}
+use Rattle.serial_laws.specs.Runs as histories
+use Rattle.serial_laws.specs.Choosing.{IsCoreOf}
+use Rattle.serial_laws.proofs.Cores.{core_left, core_kept}
+use Rattle.serial_laws.proofs.Fronts.{left_open}
 use Rattle.step_parts.specs.declared.acted.Acted.{Acted}
 use Rattle.step_parts.specs.declared.scene.Scene.{Scene}
 use Rattle.step_parts.specs.declared.taken.Taken.{Taken}

@@ -17,9 +17,9 @@ use Rattle.gpu_journal.specs.Waits.{IsOpen, standing_of}
 use Rattle.gpu_journal.specs.Facts.{flush_of, facts_at, verdict_at, reach}
 use Rattle.gpu_journal.specs.Legal.{MayHaveBeenPut, Obeys, IsLegal}
 use Rattle.serial_laws.specs.Scripts.{AreLawfulPlans}
-use Rattle.run_laws.specs.Going.{MayGoOn}
-use Rattle.run_laws.proofs.Rules.{step_obeys, error_obeys}
-use Rattle.run_laws.proofs.Tokens.{reach_is}
+use Rattle.serial_laws.specs.Runs.{MayGoOn}
+use Rattle.serial_laws.proofs.Rules.{step_obeys, error_obeys}
+use Rattle.serial_laws.proofs.Tokens.{reach_is}
 use Rattle.house_core.specs.Desks.{RunData}
 use Rattle.house_core.specs.Core.{IsRunOf, MayHavePut}
 

@@ -5,8 +5,8 @@ use Rattle.sync_core.specs.Standing.{is_open}
 use Rattle.gpu_journal.specs.declared.event.Event.TheVariants.{Finish}
 use Rattle.gpu_journal.specs.Waits.{standing_of}
 use Rattle.gpu_journal.specs.Legal.{Obeys}
-use Rattle.run_laws.specs.Going.{MayGoOn}
-use Rattle.run_laws.proofs.Rules.{finish_obeys}
+use Rattle.serial_laws.specs.Runs.{MayGoOn}
+use Rattle.serial_laws.proofs.Rules.{finish_obeys}
 use Rattle.house_core.specs.Desks.{Out, RunData}
 use Rattle.house_core.specs.Core.{out_at, IsOfPlans, IsRunOf}
 use Rattle.house_core.specs.Invariant.{Parts, CoreInvariant, seen}

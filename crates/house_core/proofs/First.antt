@@ -16,7 +16,7 @@ use Rattle.gpu_journal.specs.Waits.{sync_of}
 use Rattle.gpu_journal.specs.Serial.{rank}
 use Rattle.gpu_journal.proofs.Worlds.{world_none, sync_none}
 use Rattle.serial_laws.specs.Scripts.{AreLawfulPlans}
-use Rattle.run_laws.proofs.Needs.{needs_none}
+use Rattle.serial_laws.proofs.Needs.{needs_none}
 use Rattle.house_core.specs.Desks.{Out, at_home, DeskData, fresh_desk, no_desk}
 use Rattle.house_core.specs.Making.{desks_of}
 use Rattle.house_core.proofs.Books.{books_told}

@@ -10,8 +10,8 @@ use Rattle.gpu_journal.specs.declared.event.Why.{Why}
 use Rattle.gpu_journal.specs.World.{Known, stream_in, known}
 use Rattle.gpu_journal.specs.Waits.{standing_of}
 use Rattle.serial_laws.proofs.Others.{known_own, known_other, standing_own, standing_other}
-use Rattle.run_laws.specs.Going.{MayGoOn}
-use Rattle.run_laws.proofs.Going.{other_goes_on, order_goes_on, lost_goes_on, close_goes_on}
+use Rattle.serial_laws.specs.Runs.{MayGoOn}
+use Rattle.serial_laws.proofs.Going.{other_goes_on, order_goes_on, lost_goes_on, close_goes_on}
 use Rattle.house_core.specs.declared.walk.Walk.{Walk}
 use Rattle.house_core.specs.Walks.{HasWalked}
 use Rattle.house_core.specs.Desks.{Out, DeskData, at_home}

@@ -11,8 +11,8 @@ use Rattle.gpu_journal.specs.World.{state_of}
 use Rattle.gpu_journal.specs.Waits.{standing_of, left_of}
 use Rattle.gpu_journal.specs.Facts.{flush_of, put_in}
 use Rattle.gpu_journal.specs.Legal.{IsLegal}
-use Rattle.run_laws.proofs.Fronts.{front_placed}
-use Rattle.run_laws.proofs.Rules.{first_some}
+use Rattle.serial_laws.proofs.Fronts.{front_placed}
+use Rattle.serial_laws.proofs.Rules.{first_some}
 use Rattle.house_core.specs.Desks.{DeskData, RunData, Agree}
 use Rattle.house_core.specs.Core.{IsOfPlans, IsRunOf}
 use Rattle.house_core.specs.Invariant.{DeskFits}

@@ -8,9 +8,9 @@ use Rattle.sync_core.specs.Standing.{is_open}
 use Rattle.gpu_journal.specs.Waits.{IsOpen, standing_of}
 use Rattle.serial_laws.proofs.Flushes.{flushes_end}
 use Rattle.serial_laws.proofs.Passed.{lawful_of}
-use Rattle.run_laws.specs.Needs.{need}
-use Rattle.run_laws.proofs.Fronts.{left_count, counts_within}
-use Rattle.run_laws.proofs.Needs.{need_open}
+use Rattle.serial_laws.specs.Needs.{need}
+use Rattle.serial_laws.proofs.Fronts.{left_count, counts_within}
+use Rattle.serial_laws.proofs.Needs.{need_open}
 use Rattle.house_core.specs.Desks.{DeskData, RunData, desk_at}
 use Rattle.house_core.specs.Core.{CoreData, IsOfPlans}
 use Rattle.house_core.specs.Invariant.{Parts, CoreInvariant, seen}

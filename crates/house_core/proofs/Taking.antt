@@ -18,10 +18,10 @@ use Rattle.gpu_journal.specs.World.{known}
 use Rattle.gpu_journal.specs.Waits.{sync_of, left_of}
 use Rattle.gpu_journal.specs.Facts.{flush_of, put_in, put_of}
 use Rattle.serial_laws.proofs.Obeying.{CanRun, can_run}
-use Rattle.run_laws.specs.Choosing.{choice_at_home, AreSeats}
-use Rattle.run_laws.proofs.Choosing.{scheduler_chooses, chosen_runs}
-use Rattle.run_laws.proofs.Cores.{core_left}
-use Rattle.run_laws.proofs.Fronts.{front_placed}
+use Rattle.serial_laws.specs.Choosing.{choice_at_home, AreSeats}
+use Rattle.serial_laws.proofs.Choosing.{scheduler_chooses, chosen_runs}
+use Rattle.serial_laws.proofs.Cores.{core_left}
+use Rattle.serial_laws.proofs.Fronts.{front_placed}
 use Rattle.house_core.specs.Desks.{Out, DeskData, desk_at, run_of}
 use Rattle.house_core.specs.Core.{is_home, outs_of, IsOfPlans, IsRunOf}
 use Rattle.house_core.specs.Invariant.{Parts, CoreInvariant}

@@ -11,7 +11,7 @@ use Rattle.gpu_journal.specs.declared.event.Why.TheVariants.{Error}
 use Rattle.gpu_journal.specs.World.{replay, state_of}
 use Rattle.gpu_journal.specs.Waits.{standing_of}
 use Rattle.gpu_journal.specs.Facts.{verdict_at}
-use Rattle.run_laws.specs.Going.{keeps}
+use Rattle.serial_laws.specs.Runs.{keeps}
 use Rattle.step_parts.specs.declared.acted.Acted.{Acted}
 use Rattle.step_parts.specs.Executing.{IsToldOf}
 use Rattle.house_core.specs.declared.steps.Stepped.{Stepped}

@@ -17,8 +17,8 @@ use Rattle.gpu_journal.specs.Waits.{sync_of, standing_of, pending_in}
 use Rattle.gpu_journal.specs.Legal.{IsLegal}
 use Rattle.gpu_journal.specs.Serial.{rank}
 use Rattle.serial_laws.specs.Scripts.{AreLawfulPlans}
-use Rattle.run_laws.specs.Going.{MayGoOn}
-use Rattle.run_laws.specs.Needs.{needs}
+use Rattle.serial_laws.specs.Runs.{MayGoOn}
+use Rattle.serial_laws.specs.Needs.{needs}
 use Rattle.house_core.specs.Walks.{HasWalked}
 use Rattle.house_core.specs.Desks.{DeskData, desk_at, book_numbers, kept_half}
 use Rattle.house_core.specs.Core.{CoreData, books_of, outs_of}

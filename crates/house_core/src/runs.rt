@@ -6,8 +6,8 @@ ghost use Rattle.gpu_journal.specs.declared.event.Why.TheVariants.{Memory};
 ghost use Rattle.gpu_journal.specs.Waits.{standing_of};
 ghost use Rattle.gpu_journal.specs.Legal.{IsLegal};
 ghost use Rattle.serial_laws.specs.Scripts.{AreLawfulPlans};
-ghost use Rattle.run_laws.specs.Going.{MayGoOn};
-ghost use Rattle.run_laws.specs.Choosing.{choice_at_home};
+ghost use Rattle.serial_laws.specs.Runs.{MayGoOn};
+ghost use Rattle.serial_laws.specs.Choosing.{choice_at_home};
 ghost use Rattle.house_core.specs.Desks.{RunData, at_home};
 ghost use Rattle.house_core.specs.Core.{Stays, Grows, Waits, IsOfPlans, IsRunOf, is_home, with_out, book_at, out_at};
 

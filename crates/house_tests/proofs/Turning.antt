@@ -10,7 +10,7 @@ use Rattle.gpu_journal.specs.declared.event.Event.{Event}
 use Rattle.gpu_journal.specs.declared.event.Event.TheVariants.{Lost}
 use Rattle.gpu_journal.specs.declared.event.Why.TheVariants.{Error}
 use Rattle.gpu_journal.specs.Waits.{standing_of}
-use Rattle.run_laws.proofs.Going.{lost_ends}
+use Rattle.serial_laws.proofs.Going.{lost_ends}
 use Rattle.house_core.specs.Desks.{RunData}
 use Rattle.house_core.specs.Answers.{IsMovedBy}
 use Rattle.gpu_house.specs.Slots.{SlotData, slot_at}

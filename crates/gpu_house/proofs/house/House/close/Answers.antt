@@ -1,7 +1,7 @@
 use Rattle.std.proofs.Common.{List, ⊎_elim, refl, sym, subst, arith}
 use Rattle.gpu_journal.specs.declared.event.Event.{Event}
 use Rattle.gpu_journal.specs.declared.event.Event.TheVariants.{Close}
-use Rattle.run_laws.proofs.Going.{close_ends}
+use Rattle.serial_laws.proofs.Going.{close_ends}
 use Rattle.gpu_house.specs.Names.{table_at}
 use Rattle.gpu_house.proofs.Cases.{closes}
 use Rattle.gpu_house.proofs.Endings.{grown_quietly, stayed_follow}

@@ -14,11 +14,11 @@ use Rattle.gpu_journal.specs.declared.event.Event.{Event}
 use Rattle.gpu_journal.specs.declared.event.Event.TheVariants.{Step, Lost}
 use Rattle.gpu_journal.specs.declared.event.Why.TheVariants.{Error}
 use Rattle.gpu_journal.specs.Waits.{standing_of, pending_in}
-use Rattle.run_laws.specs.Going.{keeps}
+use Rattle.serial_laws.specs.Runs.{keeps}
 use Rattle.house_core.specs.Core.{Stays, Grows, IsRunOf, MayHavePut, is_home, book_at}
 use Rattle.house_core.specs.Answers as answers
 use Rattle.house_core.specs.Answers.{WasExecuted}
-use Rattle.run_laws.proofs.Going.{lost_ends}
+use Rattle.serial_laws.proofs.Going.{lost_ends}
 use Rattle.house_core.specs.Desks.{Out}
 use Rattle.gpu_house.specs.Names.{table_at}
 use Rattle.gpu_house.specs.Marks.{AreMarked, MayBeMarked}

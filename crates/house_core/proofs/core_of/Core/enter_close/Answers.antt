@@ -4,7 +4,7 @@ use Rattle.gpu_journal.specs.Waits.{sync_of}
 use Rattle.gpu_journal.specs.Legal.{MayClose}
 use Rattle.gpu_journal.proofs.Worlds.{images_then}
 use Rattle.serial_laws.proofs.Obeying.{close_obeys}
-use Rattle.run_laws.proofs.Needs.{need_close}
+use Rattle.serial_laws.proofs.Needs.{need_close}
 use Rattle.house_core.specs.Desks.{DeskData, desk_at}
 use Rattle.house_core.specs.Core.{CoreData}
 use Rattle.house_core.specs.Invariant.{Parts, DeskFits}

@@ -5,7 +5,7 @@ use Rattle.gpu_journal.specs.declared.event.Event.TheVariants.{Finish}
 use Rattle.gpu_journal.specs.Waits.{sync_of, standing_of}
 use Rattle.gpu_journal.specs.Legal.{Obeys}
 use Rattle.gpu_journal.proofs.Worlds.{images_then}
-use Rattle.run_laws.proofs.Needs.{need_finish}
+use Rattle.serial_laws.proofs.Needs.{need_finish}
 use Rattle.house_core.specs.Desks.{DeskData, at_home, desk_at}
 use Rattle.house_core.specs.Core.{CoreData, IsOfPlans, IsRunOf, out_at, with_out}
 use Rattle.house_core.specs.Invariant.{Parts, DeskFits, seen}

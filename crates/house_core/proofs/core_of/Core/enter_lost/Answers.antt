@@ -3,7 +3,7 @@ use Rattle.gpu_journal.specs.declared.event.Event.TheVariants.{Lost}
 use Rattle.gpu_journal.specs.Waits.{sync_of}
 use Rattle.gpu_journal.specs.Legal.{Obeys}
 use Rattle.gpu_journal.proofs.Worlds.{images_then}
-use Rattle.run_laws.proofs.Needs.{need_lost}
+use Rattle.serial_laws.proofs.Needs.{need_lost}
 use Rattle.house_core.specs.Desks.{DeskData, desk_at}
 use Rattle.house_core.specs.Core.{CoreData}
 use Rattle.house_core.specs.Invariant.{Parts, DeskFits}

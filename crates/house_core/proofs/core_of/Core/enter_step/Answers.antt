@@ -11,8 +11,8 @@ use Rattle.gpu_journal.specs.World.{world, asked_by, drawn_by}
 use Rattle.gpu_journal.specs.Waits.{deed_asked, sync_of}
 use Rattle.gpu_journal.specs.Facts.{verdict_at}
 use Rattle.gpu_journal.specs.Legal.{Obeys}
-use Rattle.run_laws.proofs.Needs.{need_step}
-use Rattle.run_laws.proofs.Knowns.{step_images}
+use Rattle.serial_laws.proofs.Needs.{need_step}
+use Rattle.serial_laws.proofs.Knowns.{step_images}
 use Rattle.step_parts.specs.declared.acted.Acted.{Acted}
 use Rattle.house_core.specs.Desks.{Out, DeskData, RunData, Agree, desk_at, run_of}
 use Rattle.house_core.specs.Answers.{WasExecuted, IsMovedBy, HasStepped}

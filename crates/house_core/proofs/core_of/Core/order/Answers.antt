@@ -14,8 +14,8 @@ use Rattle.gpu_journal.specs.Serial.{order_event}
 use Rattle.gpu_journal.proofs.Worlds.{images_then}
 use Rattle.gpu_journal.proofs.Following.{plan_here}
 use Rattle.serial_laws.proofs.Obeying.{order_obeys}
-use Rattle.run_laws.proofs.Needs.{need_order}
-use Rattle.run_laws.proofs.Ended.{next_open}
+use Rattle.serial_laws.proofs.Needs.{need_order}
+use Rattle.serial_laws.proofs.Ended.{next_open}
 use Rattle.house_core.specs.Desks.{DeskData, desk_at}
 use Rattle.house_core.specs.Core.{CoreData}
 use Rattle.house_core.specs.Invariant.{Parts, DeskFits}

@@ -4,8 +4,8 @@ use Rattle.gpu_plan.specs.Plans.{PlanData, plan_of}
 use Rattle.sync_core.specs.Standing.{first_order}
 use Rattle.gpu_journal.specs.Waits.{left_of}
 use Rattle.gpu_journal.specs.Facts.{put_in}
-use Rattle.run_laws.specs.Choosing.{choice_at_home}
-use Rattle.run_laws.proofs.Going.{run_begins}
+use Rattle.serial_laws.specs.Choosing.{choice_at_home}
+use Rattle.serial_laws.proofs.Going.{run_begins}
 use Rattle.house_core.specs.Desks.{DeskData, RunData, desk_at, run_of}
 use Rattle.house_core.specs.Core.{CoreData, IsOfPlans, IsRunOf, book_at, out_at, outs_of, with_out, is_home}
 use Rattle.house_core.specs.Invariant.{Parts, DeskFits, seen}

@@ -16,8 +16,8 @@ use Rattle.gpu_journal.proofs.Worlds.{world_none, sync_none, sync_then}
 use Rattle.serial_laws.proofs.Others.{known_own, known_other}
 use Rattle.serial_laws.proofs.Sums.{total, total_zero, total_more, total_within}
 use Rattle.serial_laws.proofs.Spent.{obeys_known}
-use Rattle.run_laws.specs.Laws.{DrawnFew}
-use Rattle.run_laws.proofs.Fronts.{counts_within}
+use Rattle.serial_laws.specs.Outs.{DrawnFew}
+use Rattle.serial_laws.proofs.Fronts.{counts_within}
 
 -- how many flushes the event orders
 abbrev one : Event → ℕ

@@ -19,8 +19,8 @@ use Rattle.gpu_journal.specs.World.{world, stream_in, asked_by}
 use Rattle.gpu_journal.specs.Waits.{deed, deed_asked, fences_in, sync_of, standing_of, left_of, pending_in}
 use Rattle.gpu_journal.proofs.Worlds.{sync_then}
 use Rattle.serial_laws.proofs.Others.{standing_own}
-use Rattle.run_laws.specs.Going.{GoesOn, MayGoOn, keeps}
-use Rattle.run_laws.proofs.Pending.{none_left, none_ordered, none_dropped, none_other, blocked_is}
+use Rattle.serial_laws.specs.Runs.{GoesOn, MayGoOn, keeps}
+use Rattle.serial_laws.proofs.Pending.{none_left, none_ordered, none_dropped, none_other, blocked_is}
 
 -- ---- over sync events
 

@@ -7,8 +7,8 @@ use Rattle.gpu_journal.specs.declared.event.Event.TheVariants.{Order, Step, Fini
 use Rattle.gpu_journal.specs.declared.event.Why.{Why}
 use Rattle.gpu_journal.specs.World.{Known, world, asked_by, greatest_after, known}
 use Rattle.gpu_journal.specs.Facts.{reach}
-use Rattle.run_laws.proofs.Tokens.{reach_is}
-use Rattle.run_laws.proofs.Knowns.{known_order, known_finish, known_lost, known_close, step_finished, step_greatest}
+use Rattle.serial_laws.proofs.Tokens.{reach_is}
+use Rattle.serial_laws.proofs.Knowns.{known_order, known_finish, known_lost, known_close, step_finished, step_greatest}
 
 abbrev bound_by : PlansData → ℕ → Known → ℕ
 bound_by p s k = bound (plan_of p s).actions k.finished k.tokens

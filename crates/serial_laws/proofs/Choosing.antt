@@ -14,9 +14,9 @@ use Rattle.gpu_journal.specs.declared.event.Event.{Event}
 use Rattle.gpu_journal.specs.Waits.{left_of, front}
 use Rattle.gpu_journal.specs.Serial.{best, better, is_runnable, comes_before, choice, rank}
 use Rattle.serial_laws.proofs.First.{best_passes, best_fails}
-use Rattle.run_laws.specs.Choosing.{choice_at_home, AreSeats, IsCoreOf}
-use Rattle.run_laws.specs.Laws.{NoneAtHome}
-use Rattle.run_laws.proofs.Cores.{core_left, core_front, core_blocked}
+use Rattle.serial_laws.specs.Choosing.{choice_at_home, AreSeats, IsCoreOf}
+use Rattle.serial_laws.specs.Outs.{NoneAtHome}
+use Rattle.serial_laws.proofs.Cores.{core_left, core_front, core_blocked}
 
 -- ---- tests that agree
 

@@ -14,9 +14,9 @@ use Rattle.gpu_journal.specs.Waits.{standing_of, drawn, IsOpen}
 use Rattle.gpu_journal.specs.Legal.{IsLegal}
 use Rattle.gpu_journal.specs.Serial.{is_runnable, choice}
 use Rattle.serial_laws.specs.Scripts.{AreLawfulPlans}
-use Rattle.run_laws.specs.Going.{MayGoOn, keeps}
-use Rattle.run_laws.specs.Needs.{need, needs}
-use Rattle.run_laws.specs.Choosing.{choice_at_home, AreSeats, IsCoreOf}
+use Rattle.serial_laws.specs.Runs.{MayGoOn, keeps}
+use Rattle.serial_laws.specs.Needs.{need, needs}
+use Rattle.serial_laws.specs.Choosing.{choice_at_home, AreSeats, IsCoreOf}
 
 -- ---- a run that is out
 

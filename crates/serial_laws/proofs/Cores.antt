@@ -10,9 +10,9 @@ use Rattle.sync_core.specs.Pending.{is_kept, is_blocked, pending}
 use Rattle.sync_core.specs.Core as cores
 use Rattle.gpu_journal.specs.declared.event.Event.{Event}
 use Rattle.gpu_journal.specs.Waits.{sync_of, standing_of, left_of, front, drawn, pending_in}
-use Rattle.run_laws.specs.Going.{keeps}
-use Rattle.run_laws.specs.Needs.{need_of, need}
-use Rattle.run_laws.specs.Choosing.{IsCoreOf}
+use Rattle.serial_laws.specs.Runs.{keeps}
+use Rattle.serial_laws.specs.Needs.{need_of, need}
+use Rattle.serial_laws.specs.Choosing.{IsCoreOf}
 
 module _ (p : PlansData) (h : List Event) (core : cores.Core) (is : IsCoreOf p h core) where
   pub core_drawn : core.drawn ≡ drawn p h

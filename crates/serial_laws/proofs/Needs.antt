@@ -15,7 +15,7 @@ use Rattle.gpu_journal.specs.Waits.{deed_asked, standing_of, left_of, drawn}
 use Rattle.gpu_journal.proofs.Worlds.{sync_none}
 use Rattle.serial_laws.proofs.First.{nat_cases}
 use Rattle.serial_laws.proofs.Others.{moved_by, standing_own, standing_other}
-use Rattle.run_laws.specs.Needs.{need_of, need, needs}
+use Rattle.serial_laws.specs.Needs.{need_of, need, needs}
 
 -- ---- of the event's own stream
 

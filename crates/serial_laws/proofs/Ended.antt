@@ -19,7 +19,7 @@ use Rattle.gpu_journal.specs.Legal.{Obeys, IsLegal}
 use Rattle.gpu_journal.proofs.Worlds.{sync_none}
 use Rattle.serial_laws.proofs.Flushes.{flush_of_place}
 use Rattle.serial_laws.proofs.Others.{moved_by, standing_own, standing_other, known_own, known_other}
-use Rattle.run_laws.proofs.Fronts.{left_open}
+use Rattle.serial_laws.proofs.Fronts.{left_open}
 
 -- where a stream is closed, all its flushes are ordered and it is not lost
 pub record Ends (actions : List Action) (k : Known) (x : Standing) : Type 0 where

@@ -17,7 +17,7 @@ use Rattle.serial_laws.specs.Scripts.{AreLawfulPlans}
 use Rattle.serial_laws.proofs.Fitting as fitting
 use Rattle.serial_laws.proofs.Obeying.{CanRun, words_obey}
 use Rattle.serial_laws.proofs.Further.{flush_reached}
-use Rattle.run_laws.specs.Going.{MayGoOn}
+use Rattle.serial_laws.specs.Runs.{MayGoOn}
 
 -- the first number of an open stream whose run may go on
 pub first_some : (p : PlansData) (h : List Event) (s n : ℕ) (paused : Bool) → IsOpen p h s → MayGoOn p h s n paused → IsSome (first_order (left_of p h s))

@@ -1,4 +1,4 @@
-ghost use Rattle.run_laws.specs.Laws.{OtherGoesOn, OrderGoesOn, StepGoesOn, StepRuns, NeedsOfOne, DrawnFew, ClosedHasOrdered, ClosedIsKept, NextIsOpen, AllAtHome, NoneAtHome, SchedulerChooses};
+ghost use Rattle.serial_laws.specs.Outs.{OtherGoesOn, OrderGoesOn, StepGoesOn, StepRuns, NeedsOfOne, DrawnFew, ClosedHasOrdered, ClosedIsKept, NextIsOpen, AllAtHome, NoneAtHome, SchedulerChooses};
 
 /// The law of a run that is out, while its stream is open: its number stays the first, and no wait of it comes to pend
 /// but by a step of its own, which pauses the run. After such a step its stream can run exactly where no wait was kept.

@@ -7,7 +7,7 @@ use Rattle.gpu_journal.specs.World.{known}
 use Rattle.gpu_journal.specs.Waits.{standing_of, drawn}
 use Rattle.gpu_journal.specs.Legal.{IsLegal}
 use Rattle.serial_laws.specs.Scripts.{AreLawfulPlans}
-use Rattle.run_laws.specs.Laws.{DrawnFew, ClosedHasOrdered, ClosedIsKept}
+use Rattle.serial_laws.specs.Outs.{DrawnFew, ClosedHasOrdered, ClosedIsKept}
 
 -- 32 bits hold every number that is drawn
 drawn_fit : DrawnFew → (p : PlansData) (h : List Event) → AreLawfulPlans p → IsLegal p h → drawn p h < 2 ^ 32

@@ -21,9 +21,9 @@ use Rattle.gpu_journal.specs.Serial.{is_runnable}
 use Rattle.gpu_journal.proofs.Worlds.{sync_then}
 use Rattle.serial_laws.proofs.Others.{standing_own}
 use Rattle.serial_laws.proofs.Spent.{asked_open}
-use Rattle.run_laws.specs.Going.{MayGoOn, keeps}
-use Rattle.run_laws.proofs.Pending.{blocked_is}
-use Rattle.run_laws.proofs.Going.{step_goes_on}
+use Rattle.serial_laws.specs.Runs.{MayGoOn, keeps}
+use Rattle.serial_laws.proofs.Pending.{blocked_is}
+use Rattle.serial_laws.proofs.Going.{step_goes_on}
 
 -- a step neither loses nor closes its stream
 pub step_open : (p : PlansData) (h : List Event) (s : ℕ) (words : List (ℕ × ℕ)) → is_open (standing_of p (Step s words ∷ h) s) ≡ is_open (standing_of p h s)

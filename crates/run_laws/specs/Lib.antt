@@ -1,4 +1,0 @@
-pub mod Going
-pub mod Needs
-pub mod Choosing
-pub mod Laws
