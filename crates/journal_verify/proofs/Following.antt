@@ -13,8 +13,8 @@ use Rattle.gpu_plan.specs.Passes.{bound}
 use Rattle.gpu_plan.specs.Places.{flush_places}
 use Rattle.gpu_plan.specs.MayHold.{MayHold}
 use Rattle.gpu_plan.proofs.Passing.{bound_by_greatest}
-use Rattle.client_reach.specs.Client.{may_have}
-use Rattle.client_reach.proofs.Holding.{may_have_decides}
+use Rattle.journal_verify.specs.Client.{may_have}
+use Rattle.journal_verify.proofs.Holding.{may_have_decides}
 use Rattle.stream_state.specs.State.{facts_of}
 use Rattle.sync_core.specs.declared.wait.Number.{Number}
 use Rattle.sync_core.specs.Standing.{Standing, IsKnown, first_order}

@@ -1,3 +1,5 @@
+pub mod Reaching
+pub mod Holding
 pub mod Watching
 pub mod Turning
 pub mod Copying

@@ -8,7 +8,7 @@ use Rattle.std.proofs.lemmas.List.Elements.{All-get_or}
 use Rattle.std.proofs.lemmas.Option.{slice_get_read, slice_get_within, slice_get-get_or, get_or_from_slice_get}
 use Rattle.gpu_plan.specs.Plans.{PlanData, PlansData, plan_of}
 use Rattle.gpu_plan.specs.Passes.{bound}
-use Rattle.client_reach.specs.Client.{Client, IsClient}
+use Rattle.journal_verify.specs.Client.{Client, IsClient}
 use Rattle.sync_core.specs.Standing.{IsKnown}
 use Rattle.sync_core.specs.Core.{Core, left_of}
 use Rattle.sync_core.proofs.Stands.{has_known}

@@ -8,7 +8,7 @@ use Rattle.gpu_cmd.specs.declared.facts.StreamFacts.{StreamFacts}
 use Rattle.gpu_cmd.specs.Errors.{code_of}
 use Rattle.gpu_plan.specs.declared.plan.Action.{Action}
 use Rattle.gpu_plan.specs.Plans.{PlanData, PlansData, is_closed, plan_of}
-use Rattle.client_reach.specs.Client.{may_have}
+use Rattle.journal_verify.specs.Client.{may_have}
 use Rattle.stream_state.specs.State.{State, facts_of}
 use Rattle.stream_state.specs.Verdict.{checked_state}
 use Rattle.sync_core.specs.Standing.{first_order}

@@ -5,7 +5,7 @@ use Rattle.gpu_store.specs.Images.{Pictures}
 use Rattle.gpu_plan.specs.Plans.{PlanData, PlansData, plan_of}
 use Rattle.gpu_plan.specs.Passes.{bound}
 use Rattle.gpu_plan.specs.Places.{flush_places}
-use Rattle.client_reach.specs.Client.{Client, IsClient}
+use Rattle.journal_verify.specs.Client.{Client, IsClient}
 use Rattle.stream_state.specs.State.{State}
 use Rattle.sync_core.specs.Core.{Core}
 

@@ -1,3 +1,6 @@
+pub mod Held
+pub mod Reached
+pub mod Client
 pub mod Rules
 pub mod Answers
 pub mod Copy

@@ -11,6 +11,8 @@
 //!   for each stream with its counts and its client. Each event is judged by the rules in their order and then taken up.
 //! - A client has two positions in its script, the least and the most that it can have done, which go forward only. The
 //!   words stand at the least. Of the puts before the most, the last one at each place is kept.
+//! - `Client::may_hold` decides whether a place has a value at some position from the least to the most. `go_on` brings the
+//!   most to the bound by the finished flushes and the greatest token. `has_done` brings the least to any later position.
 //! - A put that another stands over is kept in a map, by its place and its value, where the client may not have done it
 //!   yet. So the time goes with the journal and the script, and not with their product.
 //!
@@ -22,18 +24,22 @@
 //! - Events are counted in 32 bits, so a list that is judged is shorter than 2^32.
 #![tactic(auto)]
 
+mod client;
 mod copy;
 mod entering;
+mod held;
 mod judge;
 mod judging;
 mod laws;
 mod making;
 mod outcome;
+mod reach;
 mod stepping;
 mod verdict;
 mod verifying;
 mod watch;
 
+pub use client::Client;
 pub use laws::verdicts_exclude_one_another;
 pub use verdict::Verdict;
 pub use verifying::verify;

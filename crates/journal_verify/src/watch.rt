@@ -1,13 +1,13 @@
 ghost use Rattle.std.specs.Prelude.{◌≡◌, ◌+◌, ◌<◌, ◌≤◌, ◌^◌, ℕ, [], ◌∷◌, Some, max, false, true, slice_get, slice_index, IfOk, OnOk};
 ghost use Rattle.std.specs.List.{list_all};
 ghost use Rattle.gpu_plan.specs.Places.{flush_places};
-ghost use Rattle.client_reach.specs.Client.{may_have, IsClient};
+ghost use Rattle.journal_verify.specs.Client.{may_have, IsClient};
 ghost use Rattle.gpu_plan.specs.Passes.{bound};
 ghost use Rattle.journal_verify.specs.Kept.{IsWatch};
 ghost use Rattle.journal_verify.specs.Faults.{next_flush, may_close, is_done, is_settled};
 ghost use Rattle.journal_verify.specs.Entered.{counts_of};
 
-use client_reach::Client;
+use crate::client::Client;
 use gpu_plan::{Action, Plan, flush_places};
 use gpu_word::Memory;
 use std::alloc::Global;

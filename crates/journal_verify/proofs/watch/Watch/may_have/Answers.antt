@@ -1,6 +1,6 @@
 use Rattle.std.proofs.Common.{◌≡◌, false, get_or, sym, ap, subst, ◌∙◌}
 use Rattle.std.proofs.lemmas.List.Folds.{list_all_at}
-use Rattle.client_reach.specs.Client.{Client, may_have}
+use Rattle.journal_verify.specs.Client.{Client, may_have}
 use Rattle.journal_verify.specs.Kept.{WatchData}
 use Rattle.journal_verify.proofs.watch.Watch.may_have.Goals as goal
 

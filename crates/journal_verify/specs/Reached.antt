@@ -9,7 +9,7 @@ use Rattle.gpu_plan.specs.declared.plan.Action.{Action}
 use Rattle.gpu_plan.specs.declared.plan.Action.TheVariants.{Put, Flush, Finish, Token, Close}
 use Rattle.gpu_plan.specs.Plans.{IsWithin}
 use Rattle.gpu_plan.specs.Passes.{flush_count, flushes}
-use Rattle.client_reach.specs.Held.{stored}
+use Rattle.journal_verify.specs.Held.{stored}
 
 -- a position, how many flushes stand before it, the value of the last put at each place and the position after that put,
 -- which is 0 where there is none, and the position of an older put of each value at each place

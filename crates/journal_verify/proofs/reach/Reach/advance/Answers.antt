@@ -6,9 +6,9 @@ use Rattle.std.proofs.lemmas.Option.{slice_get_read}
 use Rattle.gpu_plan.specs.declared.plan.Action.{Action}
 use Rattle.gpu_plan.specs.Plans.{IsWithin}
 use Rattle.gpu_plan.specs.Passes.{passes_behind}
-use Rattle.client_reach.specs.Reached.{Reached}
-use Rattle.client_reach.proofs.Reaching.{reached_more, few_behind, bound_behind_passed, bound_at_stop, bound_at_end}
-use Rattle.client_reach.proofs.reach.Reach.advance.Goals as goal
+use Rattle.journal_verify.specs.Reached.{Reached}
+use Rattle.journal_verify.proofs.Reaching.{reached_more, few_behind, bound_behind_passed, bound_at_stop, bound_at_end}
+use Rattle.journal_verify.proofs.reach.Reach.advance.Goals as goal
 
 -- what is read at a position is the action there
 action_at : (actions : List Action) (at upto : ℕ) (action : Action) → at ≡ upto → at < length actions → action ≡ get_or actions at action → slice_get actions upto ≡ Some action

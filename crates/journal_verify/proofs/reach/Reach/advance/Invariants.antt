@@ -1,7 +1,7 @@
 use Rattle.std.proofs.Common.{◌≤◌, ◌-◌, [], ◌∷◌, length}
 use Rattle.gpu_plan.specs.Passes.{bound}
-use Rattle.client_reach.specs.Reached.{IsReached}
-use Rattle.client_reach.proofs.reach.Reach.advance.Given as goal
+use Rattle.journal_verify.specs.Reached.{IsReached}
+use Rattle.journal_verify.proofs.reach.Reach.advance.Given as goal
 
 abbrev pub invariant-loop-self : goal.invariant-loop-self
 invariant-loop-self l = record {

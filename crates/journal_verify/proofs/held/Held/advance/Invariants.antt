@@ -1,6 +1,6 @@
 use Rattle.std.proofs.Common.{◌≡◌, ◌-◌, ◌≤◌, length}
-use Rattle.client_reach.specs.Held.{IsHeld}
-use Rattle.client_reach.proofs.held.Held.advance.Given as goal
+use Rattle.journal_verify.specs.Held.{IsHeld}
+use Rattle.journal_verify.proofs.held.Held.advance.Given as goal
 
 abbrev pub invariant-loop-self : goal.invariant-loop-self
 invariant-loop-self l = record {

@@ -14,8 +14,8 @@ use Rattle.gpu_plan.specs.declared.plan.Action.TheVariants.{Put, Flush, Finish, 
 use Rattle.gpu_plan.specs.Plans.{IsWithin}
 use Rattle.gpu_plan.specs.Passes.{flush_count, flushes, passes, passes_behind, passes_if_there, bound}
 use Rattle.gpu_plan.proofs.Passing.{flushes_one_further, flushes_within, bound_one_further, passes_below_bound, bound_within}
-use Rattle.client_reach.specs.Held.{stored}
-use Rattle.client_reach.specs.Reached.{Reached, pair_cmp, last_of, is_since, has_since, PutBetween, older_with, ends_after, older_after, IsTakenUp, IsReached}
+use Rattle.journal_verify.specs.Held.{stored}
+use Rattle.journal_verify.specs.Reached.{Reached, pair_cmp, last_of, is_since, has_since, PutBetween, older_with, ends_after, older_after, IsTakenUp, IsReached}
 
 -- ---- pairs of a place and a value
 

@@ -2,10 +2,10 @@ use Rattle.std.proofs.Common.{◌≡◌, ◌<◌, length, get_or, refl, sym, ap,
 use Rattle.std.proofs.lemmas.List.Elements.{All-get_or}
 use Rattle.std.proofs.lemmas.Option.{slice_get_read}
 use Rattle.gpu_plan.specs.Plans.{IsWithin}
-use Rattle.client_reach.specs.Held.{Held}
-use Rattle.client_reach.proofs.Holding.{held_more}
-use Rattle.client_reach.proofs.Reaching.{length-stored}
-use Rattle.client_reach.proofs.held.Held.advance.Goals as goal
+use Rattle.journal_verify.specs.Held.{Held}
+use Rattle.journal_verify.proofs.Holding.{held_more}
+use Rattle.journal_verify.proofs.Reaching.{length-stored}
+use Rattle.journal_verify.proofs.held.Held.advance.Goals as goal
 
 pub loop-self-preserved : goal.loop-self-preserved
 loop-self-preserved c =

@@ -5,7 +5,7 @@ ghost use Rattle.gpu_plan.specs.declared.plan.Action.{Action};
 ghost use Rattle.gpu_plan.specs.Plans.{IsWithin};
 ghost use Rattle.gpu_plan.specs.Passes.{bound};
 ghost use Rattle.gpu_plan.specs.MayHold.{MayHold};
-ghost use Rattle.client_reach.specs.Client.{may_have, IsClient};
+ghost use Rattle.journal_verify.specs.Client.{may_have, IsClient};
 
 use crate::held::Held;
 use crate::reach::Reach;
@@ -23,7 +23,7 @@ pub struct Client {
 }
 
 impl Model for Client {
-    ghost use Rattle.client_reach.specs.Client.{Client};
+    ghost use Rattle.journal_verify.specs.Client.{Client};
 
     ghost Value = { Client };
 

@@ -1,10 +1,10 @@
 use Rattle.std.proofs.Common.{ap, sym, subst, length, ◌∙◌}
 use Rattle.std.specs.List.{All}
 use Rattle.gpu_plan.specs.Plans.{IsWithin}
-use Rattle.client_reach.specs.Client.{Client}
-use Rattle.client_reach.specs.Reached.{Reached, IsReached}
-use Rattle.client_reach.proofs.Reaching.{reached_later}
-use Rattle.client_reach.proofs.client.Client.has_done.Goals as goal
+use Rattle.journal_verify.specs.Client.{Client}
+use Rattle.journal_verify.specs.Reached.{Reached, IsReached}
+use Rattle.journal_verify.proofs.Reaching.{reached_later}
+use Rattle.journal_verify.proofs.client.Client.has_done.Goals as goal
 
 pub returns-clause-client : goal.returns-clause-client
 returns-clause-client c =

@@ -3,7 +3,7 @@ ghost use Rattle.std.specs.List.{All};
 ghost use Rattle.gpu_plan.specs.declared.plan.Action.{Action};
 ghost use Rattle.gpu_plan.specs.Plans.{IsWithin};
 ghost use Rattle.gpu_plan.specs.Passes.{bound};
-ghost use Rattle.client_reach.specs.Reached.{has_since, is_last_since, is_since, last_of, IsKept, IsTakenUp, IsReached};
+ghost use Rattle.journal_verify.specs.Reached.{has_since, is_last_since, is_since, last_of, IsKept, IsTakenUp, IsReached};
 
 use gpu_plan::Action;
 use std::alloc::{AllocError, Global};
@@ -25,7 +25,7 @@ pub(crate) struct Reach {
 }
 
 impl Model for Reach {
-    ghost use Rattle.client_reach.specs.Reached.{Reached};
+    ghost use Rattle.journal_verify.specs.Reached.{Reached};
 
     ghost Value = { Reached };
 

@@ -2,7 +2,7 @@ ghost use Rattle.std.specs.Prelude.{◌≡◌, ◌+◌, ◌≤◌, ◌<◌, List
 ghost use Rattle.std.specs.List.{All};
 ghost use Rattle.gpu_plan.specs.declared.plan.Action.{Action};
 ghost use Rattle.gpu_plan.specs.Plans.{IsWithin};
-ghost use Rattle.client_reach.specs.Held.{stored, IsHeld};
+ghost use Rattle.journal_verify.specs.Held.{stored, IsHeld};
 
 use gpu_plan::Action;
 use std::alloc::{AllocError, Global};
@@ -16,7 +16,7 @@ pub(crate) struct Held {
 }
 
 impl Model for Held {
-    ghost use Rattle.client_reach.specs.Held.{Held};
+    ghost use Rattle.journal_verify.specs.Held.{Held};
 
     ghost Value = { Held };
 

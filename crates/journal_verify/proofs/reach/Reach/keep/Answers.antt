@@ -2,9 +2,9 @@ use Rattle.std.proofs.Common.{◌≡◌, ◌-◌, ◌<◌, ℕ, Option, Some, Bo
 use Rattle.std.specs.Prelude.{◌&&◌}
 use Rattle.std.proofs.lemmas.Bool.{lt-ltb}
 use Rattle.std.proofs.lemmas.List.{get_or_default}
-use Rattle.client_reach.specs.Reached.{Reached, last_of, older_with, IsKept}
-use Rattle.client_reach.proofs.Reaching.{same_pair}
-use Rattle.client_reach.proofs.reach.Reach.keep.Goals as goal
+use Rattle.journal_verify.specs.Reached.{Reached, last_of, older_with, IsKept}
+use Rattle.journal_verify.proofs.Reaching.{same_pair}
+use Rattle.journal_verify.proofs.reach.Reach.keep.Goals as goal
 
 and_true : (b c : Bool) → c ≡ true → b ≡ (b && c)
 and_true true c e = sym e

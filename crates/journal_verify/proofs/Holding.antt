@@ -12,9 +12,9 @@ use Rattle.gpu_plan.specs.Plans.{IsWithin}
 use Rattle.gpu_plan.specs.Values.{after, value_at}
 use Rattle.gpu_plan.specs.MayHold.{MayHold}
 use Rattle.gpu_plan.proofs.Holding.{value_one_further}
-use Rattle.client_reach.specs.Reached.{has_since, PutBetween}
-use Rattle.client_reach.specs.Held.{Held, stored, IsHeld}
-use Rattle.client_reach.specs.Client.{Client, may_have, IsClient}
+use Rattle.journal_verify.specs.Reached.{has_since, PutBetween}
+use Rattle.journal_verify.specs.Held.{Held, stored, IsHeld}
+use Rattle.journal_verify.specs.Client.{Client, may_have, IsClient}
 
 -- ---- the values after one more action
 

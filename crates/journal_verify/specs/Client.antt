@@ -3,8 +3,8 @@ use Rattle.std.specs.Prelude.{ℕ, ◌==◌, ◌||◌, Bool, List, length, slice
 use Rattle.std.specs.List.{All}
 use Rattle.gpu_plan.specs.declared.plan.Action.{Action}
 use Rattle.gpu_plan.specs.Plans.{IsWithin}
-use Rattle.client_reach.specs.Reached.{Reached, has_since, IsReached}
-use Rattle.client_reach.specs.Held.{Held, IsHeld}
+use Rattle.journal_verify.specs.Reached.{Reached, has_since, IsReached}
+use Rattle.journal_verify.specs.Held.{Held, IsHeld}
 
 -- the values after the least, and how far the client can be
 pub record Client : Type 0 where

@@ -1,3 +1,0 @@
-pub mod Held
-pub mod Reached
-pub mod Client
