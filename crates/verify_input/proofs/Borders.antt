@@ -2,7 +2,7 @@
 use Rattle.std.proofs.Common.{◌≡◌, ℕ, ◌+◌, ◌-◌, ◌<◌, ◌≤◌, true, false, List, [], ◌∷◌, ◌++◌, length, length-append, take, Some, None, refl, sym, ap, ◌∙◌, append_assoc, arith}
 use Rattle.std.proofs.lemmas.List.{append-nil}
 use Rattle.script_lines.specs.Text.{words_of}
-use Rattle.journal_reader.specs.Reading.{whole_lines}
+use Rattle.verify_input.specs.Reading.{whole_lines}
 use Rattle.verify_input.specs.declared.border.Border.{Border}
 use Rattle.verify_input.specs.Parts.{words_on, is_end, before, behind}
 use Rattle.verify_input.specs.Cuts.{IsFirstLine}

@@ -13,7 +13,7 @@ use Rattle.gpu_journal.specs.Digits.{digits_within, numeral, number_text}
 use Rattle.gpu_journal.specs.Lines.{journal_head, name_text}
 use Rattle.gpu_journal.specs.Output.{streams_of}
 use Rattle.gpu_journal.proofs.Following.{plan_here}
-use Rattle.journal_reader.specs.Reading.{HasNoFeed, IsFirstBad, whole_lines}
+use Rattle.verify_input.specs.Reading.{HasNoFeed, IsFirstBad, whole_lines}
 use Rattle.verify_input.specs.Cuts.{IsLine}
 use Rattle.verify_input.specs.Found.{head_of, IsFirstOther}
 use Rattle.verify_input.proofs.Wholes.{concat_whole, few_whole, line_first}

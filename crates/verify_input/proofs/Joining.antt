@@ -4,7 +4,7 @@ use Rattle.std.specs.Prelude.{IfOk}
 use Rattle.std.specs.List.{concat}
 use Rattle.gpu_plan.specs.Plans.{PlansData}
 use Rattle.gpu_plan.specs.Script.{script_of}
-use Rattle.journal_reader.specs.Reading.{whole_lines}
+use Rattle.verify_input.specs.Reading.{whole_lines}
 use Rattle.verify_input.specs.declared.border.Border.TheVariants.{Script, Journal}
 use Rattle.verify_input.specs.declared.finding.Finding.{Finding}
 use Rattle.verify_input.specs.declared.finding.Finding.TheVariants.{Refused, NoJournal, No, NotComplete, Yes}

@@ -11,8 +11,8 @@ use Rattle.gpu_journal.specs.declared.event.Event.{Event}
 use Rattle.gpu_journal.specs.Text.{journal_text}
 use Rattle.gpu_journal.specs.World.{replay}
 use Rattle.gpu_journal.specs.Legal.{IsLegal}
-use Rattle.journal_reader.specs.Reading.{IsFirstBad, whole_lines}
-use Rattle.journal_reader.proofs.Lines.{refused_is_no_journal, journal_is_one}
+use Rattle.verify_input.specs.Reading.{IsFirstBad, whole_lines}
+use Rattle.verify_input.proofs.Lines.{refused_is_no_journal, journal_is_one}
 use Rattle.journal_verify.specs.Rules.{BreaksFirst}
 use Rattle.journal_verify.specs.Answers.{IsFirstWrong, IsWhole, IsUnfinished}
 use Rattle.journal_verify.proofs.Firsts.{wrong_is_illegal, rule_is_one}

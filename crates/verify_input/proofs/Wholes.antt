@@ -5,8 +5,8 @@ use Rattle.std.specs.List.{concat}
 use Rattle.std.proofs.lemmas.List.{append-nil}
 use Rattle.std.proofs.lemmas.List.Elements.{All-head, All-tail}
 use Rattle.script_lines.specs.Text.{ends_line, words_of}
-use Rattle.journal_reader.specs.Reading.{HasNoFeed, joined, whole_lines}
-use Rattle.journal_reader.proofs.Lines.{lines_first}
+use Rattle.verify_input.specs.Reading.{HasNoFeed, joined, whole_lines}
+use Rattle.verify_input.proofs.Lines.{lines_first}
 use Rattle.verify_input.specs.Parts.{words_on}
 use Rattle.verify_input.specs.Cuts.{IsFirstLine, IsLine}
 

@@ -1,6 +1,6 @@
 -- A text and its first line.
 use Rattle.std.specs.Prelude.{◌≡◌, ℕ, ◌<◌, ◌⊎◌, List, [], ◌∷◌, ◌++◌, length}
-use Rattle.journal_reader.specs.Reading.{HasNoFeed}
+use Rattle.verify_input.specs.Reading.{HasNoFeed}
 
 -- the line, without its line feed, is the first of the text, and this stands after it; the last line may have no line feed
 abbrev pub IsFirstLine : List ℕ → List ℕ → List ℕ → Type 0

@@ -10,9 +10,9 @@ use Rattle.gpu_journal.specs.Text.{journal_text}
 use Rattle.gpu_journal.specs.Lines.{journal_head, name_text}
 use Rattle.gpu_journal.specs.Output.{streams_of}
 use Rattle.gpu_journal.specs.World.{replay}
-use Rattle.journal_reader.specs.Reading.{IsWritten, IsFirstBad, whole_lines}
-use Rattle.journal_reader.specs.declared.fault.JournalFault.{JournalFault}
-use Rattle.journal_reader.specs.declared.fault.JournalFault.TheVariants as faults
+use Rattle.verify_input.specs.Reading.{IsWritten, IsFirstBad, whole_lines}
+use Rattle.verify_input.specs.declared.fault.JournalFault.{JournalFault}
+use Rattle.verify_input.specs.declared.fault.JournalFault.TheVariants as faults
 use Rattle.journal_verify.specs.Answers.{IsFirstWrong, IsWhole, IsUnfinished}
 use Rattle.verify_input.specs.Parts.{script_part, journal_part}
 use Rattle.verify_input.specs.declared.finding.Finding.{Finding}

@@ -1,3 +1,6 @@
+pub mod Said
+pub mod Reading
+pub mod Fronts
 pub mod Parts
 pub mod Cuts
 pub mod Found

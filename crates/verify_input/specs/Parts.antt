@@ -2,7 +2,7 @@
 use Rattle.std.specs.Prelude.{ℕ, Bool, not, false, List, [], ◌∷◌, filter, Option, Some, None, codes, bytes_eq, if◌then◌else◌}
 use Rattle.std.specs.List.{list_any}
 use Rattle.script_lines.specs.Text.{ends_line, words_of}
-use Rattle.journal_reader.specs.Reading.{whole_lines}
+use Rattle.verify_input.specs.Reading.{whole_lines}
 use Rattle.verify_input.specs.declared.border.Border.{Border}
 use Rattle.verify_input.specs.declared.border.Border.TheVariants.{Script, Journal}
 

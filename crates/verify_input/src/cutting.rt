@@ -1,5 +1,5 @@
 ghost use Rattle.std.specs.Prelude.{◌≡◌, ◌+◌, ◌<◌, ◌≤◌, ◌^◌, [], None, Some, length, MatchOption};
-ghost use Rattle.journal_reader.specs.Reading.{whole_lines};
+ghost use Rattle.verify_input.specs.Reading.{whole_lines};
 ghost use Rattle.verify_input.specs.Cuts.{IsFirstLine};
 ghost use Rattle.verify_input.specs.Parts.{before, behind};
 

@@ -1,17 +1,17 @@
 ghost use Rattle.std.specs.Prelude.{◌+◌, ◌<◌, ◌≤◌, ◌^◌, length, IfOk};
-ghost use Rattle.journal_reader.specs.Reading.{whole_lines};
+ghost use Rattle.verify_input.specs.Reading.{whole_lines};
 ghost use Rattle.verify_input.specs.Parts.{before};
 ghost use Rattle.verify_input.specs.Found.{Finds};
 ghost use Rattle.verify_input.specs.Steps.{FindsOf, FindsIn};
 
 use crate::border::Border;
 use crate::cutting::cut_at_border;
+use crate::fault::JournalFault;
 use crate::finding::Finding;
 use crate::heading::read_behind_head;
 use gpu_journal::Event;
 use gpu_plan::{Plans, ScriptFault, parse};
 use gpu_word::Memory;
-use journal_reader::JournalFault;
 use journal_verify::{Verdict, verify};
 use std::alloc::Global;
 

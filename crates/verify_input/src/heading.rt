@@ -1,11 +1,12 @@
 ghost use Rattle.std.specs.Prelude.{◌≡◌, ◌+◌, ◌≤◌, ◌∷◌, ◌++◌, [], length, IfOk, IfErr, MatchOption};
-ghost use Rattle.journal_reader.specs.Reading.{whole_lines};
+ghost use Rattle.verify_input.specs.Reading.{whole_lines};
 ghost use Rattle.verify_input.specs.Cuts.{IsLine};
 ghost use Rattle.verify_input.specs.Found.{head_of, IsFirstOther, TellsBehind, IsOtherAt};
 
+use crate::fault::JournalFault;
+use crate::reading::read_journal;
 use gpu_journal::{Event, Line};
 use gpu_plan::Plans;
-use journal_reader::{JournalFault, read_journal};
 use std::alloc::Global;
 
 // What stands after a line, if that is the first of a text.

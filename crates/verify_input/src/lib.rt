@@ -1,4 +1,5 @@
-//! Judges an input of a script and a journal: whether the journal is a legal and complete history of the script.
+//! Reads journal texts, and judges an input of a script and a journal: whether the journal is a legal and complete history
+//! of the script.
 //!
 //! What the contracts say:
 //! - `examine` takes a whole input: a script, a line whose only word is `journal`, and a journal text that the rest of an
@@ -8,16 +9,32 @@
 //!   - this event is the first that breaks a rule, and this is the rule;
 //!   - the journal is legal and not complete;
 //!   - it is a legal and complete history, of this number of events, that leaves these images.
-//! - Law: one of these alone holds of an input.
+//! - `read_journal` gives the events whose journal text the text is, of numbers of 32 bits. Else it gives the first line
+//!   that is no event's, counted from 1. It does so for every text within the limit.
+//! - Laws: one of the findings alone holds of an input. A text with a line that is no event's is no journal text. A text is
+//!   that of one list of events at most.
+//!
+//! Notes:
+//! - The reader of scripts takes leading zeros; a further look at the first byte refuses them in journals. What follows the
+//!   last line feed is a line too, and never an event's.
 #![tactic(auto)]
 
 mod border;
 mod cutting;
+mod digit;
+mod event;
 mod examining;
+mod fault;
 mod finding;
 mod heading;
 mod laws;
+mod number;
+mod pieces;
+mod reading;
+mod word;
 
 pub use examining::examine;
+pub use fault::JournalFault;
 pub use finding::Finding;
-pub use laws::findings_exclude_one_another;
+pub use laws::{findings_exclude_one_another, journal_texts_are_told_apart};
+pub use reading::read_journal;

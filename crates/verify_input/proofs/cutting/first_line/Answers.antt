@@ -1,6 +1,6 @@
 use Rattle.std.proofs.Common.{◌∷◌, ◌++◌, inl, inr, refl, sym, subst, ◌∙◌, arith}
-use Rattle.journal_reader.specs.Reading.{HasNoFeed}
-use Rattle.journal_reader.proofs.Lines.{feed_found, feed_missing}
+use Rattle.verify_input.specs.Reading.{HasNoFeed}
+use Rattle.verify_input.proofs.Lines.{feed_found, feed_missing}
 use Rattle.verify_input.proofs.cutting.first_line.Goals as goal
 
 pub returns-in-Some : goal.returns-in-Some

@@ -1,5 +1,5 @@
 use Rattle.std.proofs.Common.{subst, arith}
-use Rattle.journal_reader.specs.Reading.{whole_lines}
+use Rattle.verify_input.specs.Reading.{whole_lines}
 use Rattle.verify_input.specs.Found.{head_of, IsOtherAt}
 use Rattle.verify_input.proofs.Heads.{other_early}
 use Rattle.verify_input.proofs.examining.examine_journal.Goals as goal

@@ -1,6 +1,6 @@
 use Rattle.std.proofs.Common.{◌≡◌, ◌+◌, ◌∷◌, sym, ◌∙◌, subst, ap, arith, List, ℕ}
 use Rattle.std.proofs.lemmas.Bool.Decides.{nat_tests}
-use Rattle.journal_reader.specs.Reading.{whole_lines}
+use Rattle.verify_input.specs.Reading.{whole_lines}
 use Rattle.verify_input.specs.Cuts.{IsLine}
 use Rattle.verify_input.proofs.Heads.{head_line, name_line, name_here, headed_none, headed_more, headed_other}
 use Rattle.verify_input.proofs.heading.behind_head.Goals as goal

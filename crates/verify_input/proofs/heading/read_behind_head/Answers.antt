@@ -1,5 +1,5 @@
 use Rattle.std.proofs.Common.{◌+◌, ◌≤◌, length, sym, subst, ap, arith}
-use Rattle.journal_reader.specs.Reading.{IsFault, whole_lines}
+use Rattle.verify_input.specs.Reading.{IsFault, whole_lines}
 use Rattle.verify_input.specs.Found.{head_of, IsFirstOther}
 use Rattle.verify_input.proofs.Heads.{bad_early, bad_behind_head}
 use Rattle.verify_input.proofs.Counts.{few_told}

@@ -1,6 +1,0 @@
-use Rattle.std.proofs.Common.{sym, ◌∙◌}
-use Rattle.journal_reader.proofs.Cuts.{cut_found}
-use Rattle.journal_reader.proofs.pieces.first_piece.Goals as goal
-
-pub returns-in-Some : goal.returns-in-Some
-returns-in-Some c = cut_found c.args.text.now c.split_at.result.0.now c.split_at.result.1.now c.in-Some.at (sym c.space_in.ensures ∙ c.in-Some.is) c.split_at.ensures.front c.split_at.ensures.back

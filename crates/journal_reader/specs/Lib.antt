@@ -1,3 +1,0 @@
-pub mod Said
-pub mod Reading
-pub mod Fronts

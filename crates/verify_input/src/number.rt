@@ -1,0 +1,34 @@
+ghost use Rattle.std.specs.Prelude.{◌≡◌};
+ghost use Rattle.verify_input.specs.Said.{own_number, own_value};
+
+use crate::digit::small_digit;
+use script_lines::decimal_u32;
+
+/// The number of 32 bits whose own decimal digits a word is.
+#[tactic(auto, unfolding(crate::specs::Said::own_number))]
+pub(crate) fn own_number(word: &[u8]) -> Option<u32>
+    ensures { result ≡ own_number word.now }
+{
+    if word.len() > 1 && word[0] == b'0' {
+        return None;
+    }
+    decimal_u32(word)
+}
+
+/// The value that a word of one to eight hexadecimal digits with small letters says.
+pub(crate) fn own_value(word: &[u8]) -> Option<u32>
+    ensures { result ≡ own_value word.now }
+{
+    if word.is_empty() || word.len() > 8 {
+        return None;
+    }
+    let mut value: u32 = 0;
+    for byte in word {
+        let digit = small_digit(*byte);
+        if digit >= 16 {
+            return None;
+        }
+        value = value * 16 + digit;
+    }
+    Some(value)
+}
