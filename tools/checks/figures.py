@@ -149,7 +149,7 @@ FACTS = (
     Fact(r"id in the other #", ID_BITS),
     Fact(
         r"[Aa] serial history has at most # events",
-        found("crates/history_laws/specs/Laws.antt", r"most_events p ≤ (\d+)"),
+        found("crates/script_laws/specs/Laws.antt", r"most_events p ≤ (\d+)"),
     ),
     Fact(
         r"block of # values|BASE and PUT are #|and # for even",
@@ -167,7 +167,7 @@ FACTS = (
     Fact(
         r"# theorems in",
         files(
-            "crates/history_laws/proofs/worked/*.antt",
+            "crates/script_laws/proofs/worked/*.antt",
             ("Applied.antt", "Said.antt", "MayBeTold.antt", "ClosesWaiting.antt"),
         ),
     ),

@@ -7,8 +7,8 @@ use Rattle.gpu_plan.specs.Plans.{PlansData}
 use Rattle.wait_hooks.specs.Marks.{mark}
 use Rattle.gpu_journal.specs.declared.event.Event.{Event}
 use Rattle.gpu_journal.specs.Output.{output}
-use Rattle.history_laws.specs.Laws.{look_lines}
-use Rattle.history_laws.proofs.Outputs.{same_threaded_run_is_same_history}
+use Rattle.script_laws.specs.Laws.{look_lines}
+use Rattle.script_laws.proofs.Outputs.{same_threaded_run_is_same_history}
 use Rattle.live_view.specs.declared.look.Look.{Look}
 use Rattle.run_output.specs.Parts.{look_text, view_texts}
 use Rattle.script_main.specs.Runs.{IsViewedRun}

@@ -15,7 +15,7 @@ use Rattle.gpu_journal.specs.Output.{output}
 use Rattle.gpu_journal.specs.Dumps.{dump_lines, AreDumpLines}
 use Rattle.gpu_journal.specs.Serial.{serial}
 use Rattle.serial_laws.specs.Going.{wants_memory}
-use Rattle.generated_scripts.specs.Trials.{trial_text}
+use Rattle.script_laws.specs.Trials.{trial_text}
 use Rattle.live_view.specs.declared.look.Look.{Look}
 use Rattle.gpu_threads.specs.Views.{AreAllLooks}
 use Rattle.run_output.specs.Parts.{view_texts}
