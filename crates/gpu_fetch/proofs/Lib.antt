@@ -4,5 +4,4 @@ pub mod Storing
 pub mod Fetching
 pub mod Cutting
 pub mod Parts
-pub mod Stirring
 pub mod Counting

@@ -7,4 +7,3 @@ pub mod Shared
 pub mod Plain
 pub mod Fetched
 pub mod Parts
-pub mod Stirred

@@ -11,14 +11,13 @@
 //! - Each word is one that the client may have put between the latest flush met and its bound by the side's own numbers.
 //!   That holds for every client that goes on storing meanwhile.
 //! - Where memory runs out, the list has grown by words at the first of these places.
-//! - A side over plain words answers the value of each place, and so does one whose client goes on between two fetches.
+//! - A side over plain words answers the value of each place.
 //! - None of these sides needs memory for a fetch, nor does the side over words that a client may overwrite. So where
 //!   memory runs out, the words fetched are none, the header, or all ring words of the command.
 //! - The sides:
 //!   - `ServicePass` fetches from words that a client overwrites on another thread;
 //!   - `FullPass` of `gpu_threads` does so too, with result words beside them: `run_threads` uses it;
-//!   - `PlainPass` serves words that one thread keeps for itself: `run_one` uses it;
-//!   - `StirredPass` is for tests: its client does more puts between two fetches.
+//!   - `PlainPass` serves words that one thread keeps for itself: `run_one` uses it.
 //!
 //! Notes:
 //! - The facts that a verdict rests on are data of contracts alone, so what was fetched is its words and their verdict.
@@ -26,8 +25,6 @@
 //!   fetches is data of contracts alone, which no code reads. The calls that make it are proved by hand.
 //! - Where memory runs out, a word that is missing counts as 0 among the places that must be fetched.
 //! - A list of results that is not told stays untold, whatever is written.
-//! - Of `StirredPass` puts alone stand before its client's first flush, which `can_stir` tests. After the flush only the
-//!   puts that follow at once are stirred in.
 #![tactic(auto)]
 
 mod fetch;
@@ -37,7 +34,6 @@ mod seen_facts;
 mod shared;
 mod sharing;
 mod side;
-mod stirred;
 
 pub use fetch::{fetch_command, fetch_onto};
 pub use fetched::Fetched;
@@ -45,4 +41,3 @@ pub use plain::{PlainNote, PlainPass, PlainWords};
 pub use seen_facts::SeenFacts;
 pub use sharing::{FetchedPart, share};
 pub use side::ServiceSide;
-pub use stirred::{StirNote, StirredPass};

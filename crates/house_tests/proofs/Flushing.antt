@@ -9,7 +9,7 @@ use Rattle.gpu_plan.specs.Passes.{flushes}
 use Rattle.gpu_plan.specs.Places.{flush_places, mark_of}
 use Rattle.gpu_plan.proofs.Passing.{flushes_all}
 use Rattle.gpu_fetch.specs.Plain.{IsNext, IsFlush}
-use Rattle.gpu_fetch.specs.Stirred.{ComesToFlush, puts_ahead}
+use Rattle.house_tests.specs.Stirred.{ComesToFlush, puts_ahead}
 use Rattle.gpu_fetch.proofs.Counting.{flush_counts}
 use Rattle.serial_laws.proofs.Flushes.{flush_placed}
 

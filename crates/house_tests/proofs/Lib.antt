@@ -4,3 +4,4 @@ pub mod Belonging
 pub mod Turning
 pub mod Beginning
 pub mod Pairing
+pub mod Stirring

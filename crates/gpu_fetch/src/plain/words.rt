@@ -188,7 +188,7 @@ impl PlainWords {
     }
 
     // How many actions are done.
-    pub(crate) fn done(&self) -> u32
+    pub fn done(&self) -> u32
         ensures value { result ≡ self.now.done }
         ensures within { result ≤ length self.now.plan.actions }
     {

@@ -1,8 +1,8 @@
 use super::drive::Pace;
 use super::opening::{drive, only_plan, plans_of};
 use super::output::output_of;
+use super::stirred_pass::StirredPass;
 use gpu_books::make;
-use gpu_fetch::StirredPass;
 use gpu_house::Report;
 use std::alloc::Global;
 use std::marker::Brand;

@@ -1,8 +1,8 @@
 use Rattle.std.proofs.Common.{◌≡◌, ℕ, ◌+◌, drop, ap, ◌∙◌, arith}
 use Rattle.gpu_fetch.specs.Plain.{PlainData, one_further}
-use Rattle.gpu_fetch.specs.Stirred.{puts_ahead}
-use Rattle.gpu_fetch.proofs.Stirring.{next_is_put, puts_left}
-use Rattle.gpu_fetch.proofs.stirred.put_many.Goals as goal
+use Rattle.house_tests.specs.Stirred.{puts_ahead}
+use Rattle.house_tests.proofs.Stirring.{next_is_put, puts_left}
+use Rattle.house_tests.proofs.tests.stirred_pass.put_many.Goals as goal
 
 pub put-requires-clause-next : goal.put-requires-clause-next
 put-requires-clause-next c =

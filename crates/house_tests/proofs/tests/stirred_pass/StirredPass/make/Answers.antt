@@ -4,8 +4,8 @@ use Rattle.gpu_plan.specs.declared.plan.Action.{Action}
 use Rattle.gpu_plan.specs.Plans.{PlanData}
 use Rattle.gpu_fetch.specs.Side.{SideData}
 use Rattle.gpu_fetch.specs.Plain.{PlainData, one_further}
-use Rattle.gpu_fetch.specs.Stirred.{puts_ahead, puts_further}
-use Rattle.gpu_fetch.proofs.stirred.StirredPass.make.Goals as goal
+use Rattle.house_tests.specs.Stirred.{puts_ahead, puts_further}
+use Rattle.house_tests.proofs.tests.stirred_pass.StirredPass.make.Goals as goal
 
 pub invariant_of-stirred : goal.invariant_of-stirred
 invariant_of-stirred c =

@@ -3,10 +3,9 @@ ghost use Rattle.gpu_cmd.specs.Lawful.{places_of};
 ghost use Rattle.gpu_plan.specs.Values.{value_at};
 ghost use Rattle.gpu_fetch.specs.Side.{SideData, MayFetch, fresh_side, with_words};
 ghost use Rattle.gpu_fetch.specs.Plain.{IsBeside, IsNoteBeside};
-ghost use Rattle.gpu_fetch.specs.Stirred.{ComesToFlush, puts_ahead, puts_further, stirred_words};
+ghost use Rattle.house_tests.specs.Stirred.{ComesToFlush, puts_ahead, puts_further, stirred_words};
 
-use crate::plain::{PlainNote, PlainPass, PlainWords};
-use crate::side::ServiceSide;
+use gpu_fetch::{PlainNote, PlainPass, PlainWords, ServiceSide};
 use gpu_plan::{Action, Plan};
 use gpu_word::Memory;
 use std::alloc::Global;
@@ -28,7 +27,7 @@ pub struct StirredPass {
 
 impl Model for StirredPass {
     ghost use Rattle.std.specs.Prelude.{◌≡◌, drop, length, min};
-    ghost use Rattle.gpu_fetch.specs.Stirred.{StirredData, puts_ahead};
+    ghost use Rattle.house_tests.specs.Stirred.{StirredData, puts_ahead};
 
     ghost Value = { StirredData };
 
@@ -56,7 +55,7 @@ impl Model for StirNote {
 }
 
 // How many puts stand at the head of actions.
-pub(crate) fn count_puts(actions: &[Action]) -> usize
+fn count_puts(actions: &[Action]) -> usize
     ensures { result ≡ puts_ahead actions.now }
 {
     let mut count = 0;
@@ -70,7 +69,7 @@ pub(crate) fn count_puts(actions: &[Action]) -> usize
 }
 
 // Does a given number of puts.
-pub(crate) fn put_many(words: &mut PlainWords, plan: &Plan, count: usize)
+fn put_many(words: &mut PlainWords, plan: &Plan, count: usize)
     requires plan { plan.now ≡ words.old.plan }
     requires there { count ≤ puts_ahead (drop words.old.done plan.now.actions) }
 

@@ -4,7 +4,7 @@ use Rattle.atomic_table.proofs.shared.Shared.TheSendSync as shared
 use Rattle.atomic_table.proofs.send_lease.SendLease.TheSendSync as lease
 use Rattle.shm_words.specs.contracts.words.SharedWords as words
 use Rattle.shm_words.proofs.Crossing.{pass_send}
-use Rattle.client_tests.proofs.tests.words.race.Goals as goal
+use Rattle.house_tests.proofs.tests.words.race.Goals as goal
 
 words_sync : IsSync words.the_row
 words_sync = search (sendable, crosses, shared.the_sync, lease.the_sync) depth 20

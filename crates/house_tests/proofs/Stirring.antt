@@ -3,7 +3,7 @@ use Rattle.std.proofs.Common.{◌≡◌, ℕ, zero, suc, ◌+◌, ◌<◌, List,
 use Rattle.gpu_plan.specs.declared.plan.Action.{Action}
 use Rattle.gpu_plan.specs.declared.plan.Action.TheVariants.{Put, Flush, Finish, Token, Close}
 use Rattle.gpu_fetch.specs.Plain.{IsNext, IsPut}
-use Rattle.gpu_fetch.specs.Stirred.{puts_ahead}
+use Rattle.house_tests.specs.Stirred.{puts_ahead}
 
 -- where a put is ahead, the next action is one
 pub next_is_put : (xs : List Action) (k : ℕ) → 0 < puts_ahead (drop k xs) → IsNext IsPut xs k

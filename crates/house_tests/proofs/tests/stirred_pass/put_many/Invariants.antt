@@ -1,8 +1,8 @@
 use Rattle.std.proofs.Common.{◌≡◌, ℕ, ◌+◌, drop}
 use Rattle.gpu_fetch.specs.Side.{SideData}
 use Rattle.gpu_fetch.specs.Plain.{IsBeside, IsNoteBeside}
-use Rattle.gpu_fetch.specs.Stirred.{puts_ahead, puts_further}
-use Rattle.gpu_fetch.proofs.stirred.put_many.Given as goal
+use Rattle.house_tests.specs.Stirred.{puts_ahead, puts_further}
+use Rattle.house_tests.proofs.tests.stirred_pass.put_many.Given as goal
 
 abbrev pub invariant-loop-put : goal.invariant-loop-put
 invariant-loop-put l = record {

@@ -1,4 +1,0 @@
-mod books;
-mod commands;
-mod scripts;
-mod words;
