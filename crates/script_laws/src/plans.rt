@@ -2,7 +2,7 @@ ghost use Rattle.std.specs.Prelude.{◌≡◌, ◌≤◌, Ok, IfOk};
 ghost use Rattle.script_generator.specs.Generator.{generated};
 ghost use Rattle.gpu_plan.specs.Script.{script_of};
 
-use crate::laws::{generated_is_script, generated_is_short};
+use crate::generated::{generated_is_script, generated_is_short};
 use gpu_plan::{Plans, ScriptFault, parse};
 use gpu_word::Memory;
 use script_generator::generate;
