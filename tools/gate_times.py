@@ -7,6 +7,8 @@
     tools/gate_times LOG --keep              the same, and writes its seconds to the file by which
                                              tools/build orders crates: tools/crate_times.tsv
     tools/gate_times --expect                says in one line how long the gate takes here
+    tools/gate_times --above                 prints what stands on each crate, the most first: how
+                                             many crates, and the seconds of their proofs
 
 Each line of LOG comes after the seconds since the start. The tool also watches the processes of the
 prover. Each one that has ended leaves a line `@ CRATE PART KEY BEGAN ENDED CPU`. PART is `proof`,
@@ -286,10 +288,29 @@ def keep(times: Times, below: crates.Libraries) -> None:
     crates.write_times(TOP / crates.TIMES, below, rows)
 
 
+def expected_seconds(below: crates.Libraries) -> dict[str, crates.Seconds]:
+    """The seconds of each crate by the file of times, which may lack some."""
+    times = crates.read_times(TOP / crates.TIMES)
+    return {it: times.get(it, crates.Seconds(crates.UNKNOWN)) for it in below}
+
+
+def above_lines() -> Iterator[str]:
+    """What an edit of each crate proves again beside the crate itself, the most first."""
+    below = crates.libraries(TOP / crates.LIST)
+    seconds = expected_seconds(below)
+    rows = [
+        (sum(seconds[it].proof for it in above), len(above), crate)
+        for crate, above in crates.above(below).items()
+    ]
+    yield f"{'crate':<18}{'crates':>8}{'seconds':>9}"
+    for took, count, crate in sorted(rows, key=lambda it: -it[0]):
+        yield f"{crate:<18}{count:>8}{took:>9.0f}"
+
+
 def expectation() -> str:
     """How long the gate takes here from nothing, in one line."""
-    below, times = crates.libraries(TOP / crates.LIST), crates.read_times(TOP / crates.TIMES)
-    seconds = {it: times.get(it, crates.Seconds(crates.UNKNOWN)) for it in below}
+    below = crates.libraries(TOP / crates.LIST)
+    seconds = expected_seconds(below)
     proofs = {it: of.proof for it, of in seconds.items()}
     chain = sum(proofs[it] for it in crates.longest_chain(below, proofs))
     processors = machine.processors()
@@ -312,12 +333,13 @@ def main() -> int:
     add("--crates", type=Path, default=TOP / crates.LIST, help="the crates.txt of the run")
     add("--keep", action="store_true", help=f"write the seconds of the log to {crates.TIMES}")
     add("--expect", action="store_true", help="say how long the gate takes here")
+    add("--above", action="store_true", help="print what stands on each crate")
     asked = parser.parse_args(sys.argv[1:cut])
-    if asked.expect == (asked.log is not None) or asked.keep and asked.run:
-        parser.error("a log is wanted, or --expect alone, and --keep goes with a log that stands")
+    if (asked.log is not None) + asked.expect + asked.above != 1 or asked.keep and asked.run:
+        parser.error("give a log, --expect or --above, and --keep only with a log that stands")
     try:
-        if asked.expect:
-            print(expectation())
+        if not asked.log:
+            print(expectation() if asked.expect else "\n".join(above_lines()))
             return 0
         if asked.run:
             return run(sys.argv[cut + 1 :] or GATE, asked.log)

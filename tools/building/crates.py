@@ -58,6 +58,15 @@ def made_of(crate: str, listed: Libraries) -> list[str]:
     return list(found)
 
 
+def above(listed: Libraries) -> dict[str, list[str]]:
+    """The crates that stand on each crate, directly or on others that do."""
+    found: dict[str, list[str]] = {name: [] for name in listed}
+    for crate in listed:
+        for lower in made_of(crate, listed)[:-1]:
+            found[lower].append(crate)
+    return found
+
+
 def longest_chain(listed: Libraries, seconds: Mapping[str, float]) -> list[str]:
     """The crates of the chain that takes longest, each standing on the one before."""
     chains: dict[str, list[str]] = {}

@@ -30,6 +30,14 @@ CHAIN = """longest chain of proofs: 65 s of a processor, of 85 s in all
   top                    5   saves 5
 whole run: 95 s (2 min), 1.3 processors in use; 4 passed, 0 failed
 """
+# left and right have top alone above them, and low has all.
+ABOVE = """crate               crates  seconds
+low                      4       82
+left                     1        5
+right                    1        5
+top                      0        0
+aside                    0        0
+"""
 HEAD = "crate\tproof\ttests\tedits\n"
 TIMES = HEAD + "low\t1\t2\t-\naside\t7\t-\t-\ngone\t7\t7\t7\n"
 # The seconds that are kept of the log; a log of a build measures no tests and no edits.
@@ -90,6 +98,8 @@ def check(top: Path, program: Path, tally: Tally) -> None:
             ran.stdout,
         )
         tell("how long a gate takes", ran.returncode == 0 and said is not None, ran)
-        for words in ((), (log, "--expect"), (Path(folder) / "none",)):
+        ran = of("--above")
+        tell("what stands on each crate", (ran.returncode, ran.stdout) == (0, ABOVE), ran)
+        for words in ((), (log, "--expect"), ("--expect", "--above"), (Path(folder) / "none",)):
             ran = of(*words)
             tell(f"the words {words}", ran.returncode == 2 and "Traceback" not in ran.stderr, ran)
