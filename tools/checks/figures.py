@@ -67,6 +67,25 @@ def files(pattern: str, without: tuple[str, ...] = ()) -> Source:
     return lambda top: sum(path.name not in without for path in top.glob(pattern))
 
 
+def fields(path: str, record: str) -> Source:
+    """How many fields a record of a definition has."""
+
+    def source(top: Path) -> int:
+        text = (top / path).read_text(encoding="utf-8")
+        body = re.search(rf"^pub record {record} .*?\n((?: .*\n|\n)+)", text, re.MULTILINE)
+        return len(re.findall(r"^  pub \w+ :", body[1], re.MULTILINE)) if body else -1
+
+    return source
+
+
+def spare_entries(top: Path) -> int:
+    """How many entries of waits the lines keep beside those that grow with the slots.
+
+    A line is made anew after three times FEW waits, each of which has two entries.
+    """
+    return 2 * 3 * constant("sync_core/src/queues.rt", "FEW")(top)
+
+
 def most_wrong_bodies(top: Path) -> int:
     """How many wrong bodies the crate has that has most."""
     return max(len(list(folder.glob("*.edit"))) for folder in top.glob("crates/*/must-fail"))
@@ -143,6 +162,8 @@ FACTS = (
     Fact(r"size up to #|that SIZE, from 1 to #", MOST_SIZE),
     Fact(r"marks over the base #|answered: #", constant("script_main/src/main.rt", "BASE")),
     Fact(r"the same # clauses", CLAUSES),
+    Fact(r"whose # fields", fields("crates/script_main/specs/Conducts.antt", "Conducts")),
+    Fact(r"times the slots, and # more", spare_entries),
     Fact(r"[Rr]ules? (?:\d+ (?:to|and) )#|# rules", RULES),
     Fact(r"checks \d+ (?:to|and) #|check #,|checks # and|[Cc]hecks 1 to #", CHECKS),
     Fact(r"low # bits", SIZE_BITS),
