@@ -64,6 +64,9 @@ PLANTED = (
     ("command_lines", "view/files.py", "path = path.parent / os.readlink(path)", "break"),
     ("pages", "view/pages/chart.js", "index = leap(list, index + 1, back(pixel + wide / 2 + 0.5));",
      "index += 1;"),
+    ("pages", "view/pages/data.js", "if (words.length) prepareLines(total);",
+     "for (const end = performance.now() + 150; performance.now() < end;);\n"
+     "  if (words.length) prepareLines(total);"),
     ("pages", "view/pages/images.js", "bytes.set(given, to + 4 * texel)", "bytes.set(given, to)"),
     ("manual", "docs/zorvleid.1", ".It Cm explain", ".It Cm expound"),
     ("releases", "tools/release.py", '"view",', ""),

@@ -9,8 +9,11 @@ import shutil
 import subprocess
 import tempfile
 import time
+from collections.abc import Callable
 from pathlib import Path
 from typing import Any
+
+from tools.checks import clock
 
 NAMES = ("chromium", "chromium-browser", "google-chrome")
 SECONDS = 120
@@ -121,9 +124,14 @@ class Browser:
         self.call("Emulation.setDeviceMetricsOverride", width=width, height=height,
                   deviceScaleFactor=sharp, mobile=width < 600)
 
-    def before_each_page(self, script: str) -> None:
-        """Runs a script in each page that is opened from now on, before its own."""
-        self.call("Page.addScriptToEvaluateOnNewDocument", source=script)
+    def before_each_page(self, script: str) -> str:
+        """Runs a script before those of each page that is opened, until `before_no_page`."""
+        told = self.call("Page.addScriptToEvaluateOnNewDocument", source=script)
+        return str(told["identifier"])
+
+    def before_no_page(self, script: str) -> None:
+        """Runs the script of this name before no page any more."""
+        self.call("Page.removeScriptToEvaluateOnNewDocument", identifier=script)
 
     def scheme(self, name: str) -> None:
         """Asks for light or dark colours."""
@@ -131,19 +139,23 @@ class Browser:
             "Emulation.setEmulatedMedia", features=[{"name": "prefers-color-scheme", "value": name}]
         )
 
-    def open(self, path: Path, fragment: str = "") -> float:
-        """Opens a file, waits until it is loaded and drawn, and gives the seconds that it took."""
-        self.errors, self.events = [], []
-        begun = time.monotonic()
-        self.call("Page.navigate", url="about:blank")
-        while "Page.loadEventFired" not in self.events:
-            self.message(begun + SECONDS)
+    def load(self, address: str) -> None:
+        """Goes to an address, and waits until the page is loaded."""
         self.events, begun = [], time.monotonic()
-        self.call("Page.navigate", url=path.resolve().as_uri() + fragment)
+        self.call("Page.navigate", url=address)
         while "Page.loadEventFired" not in self.events:
             self.message(begun + SECONDS)
+
+    def open(self, path: Path, fragment: str = "") -> None:
+        """Opens a file, and waits until it is loaded and drawn."""
+        self.errors = []
+        self.load("about:blank")
+        self.load(path.resolve().as_uri() + fragment)
         self.value("new Promise(done => requestAnimationFrame(() => setTimeout(done)))")
-        return time.monotonic() - begun
+
+    def seconds(self, act: Callable[[], object]) -> float:
+        """How many seconds the browser takes for an act, without those of other programs."""
+        return clock.seconds_of(self.process.pid, act)
 
     def value(self, script: str) -> Any:
         told = self.call(

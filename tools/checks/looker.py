@@ -1,6 +1,7 @@
 """A browser that looks at one page, and reports its faults."""
 
-from collections.abc import Callable
+import math
+from collections.abc import Callable, Iterable
 from pathlib import Path
 from typing import Any
 
@@ -10,7 +11,7 @@ from view import page as pages
 from zorvleid.output import read_output
 
 WIDTHS = (1280, 700, 390)
-TRIES = 5  # as a machine may be busy
+TRIES = 5
 FRAME = 100  # the most milliseconds of a frame
 TEXT = "document.querySelector('{}').textContent"
 
@@ -27,14 +28,17 @@ class Looker:
 
     def quick(self, what: str, measured: Callable[[], float]) -> None:
         """Reports a fault where each of some tries takes longer than a frame may."""
-        took: float = FRAME
-        for _ in range(TRIES):
-            took = min(took, measured())
-            if took < FRAME:
+        self.within(what, FRAME, (measured() for _ in range(TRIES)))
+
+    def within(self, what: str, most: float, tries: Iterable[float]) -> None:
+        """Reports a fault where no try takes less milliseconds than this; the first ends them."""
+        least = math.inf
+        for took in tries:
+            least = min(least, took)
+            if least < most:
                 break
-        self.tally.note(f"{what} takes {took:.0f} ms")
-        self.tally.tell(what,
-                        None if took < FRAME else f"it took {took:.0f} ms or more, {TRIES} times")
+        self.tally.note(f"{what}: {least:.0f} ms")
+        self.tally.tell(what, None if least < most else f"each time it took {least:.0f} ms or more")
 
     def value(self, script: str) -> Any:
         return self.page.value(script)

@@ -15,7 +15,7 @@ from tools.checks.tally import Tally
 TOUR, LAYERS = Path("docs/DEFINITIONS.md"), Path("docs/LAYERS.md")
 THEOREM = tuple(
     Path("crates/script_main") / name
-    for name in ("src/program.rt", "src/plain.rt", "specs/Conducts.antt"))
+    for name in ("src/program.rt", "src/plain.rt", "src/main.rt", "specs/Conducts.antt"))
 
 USE = re.compile(
     r"^(?:pub )?use Rattle\.(?P<crate>\w+)\.specs\.(?P<file>[A-Z]\w*)(?:\.\{(?P<names>[^}]*)\}| as "

@@ -126,12 +126,14 @@ function drawAxis(pen) {
   pen.lineWidth = 1;
   pen.beginPath();
   const begin = Math.max(1, Math.ceil((view.from + 0.5) / step) * step);
-  for (let number = begin; number <= Math.min(total, until() + 0.5); number += step) {
+  for (let number = begin, free = 0; number <= Math.min(total, until() + 0.5); number += step) {
     const at = Math.round(x(number - 1)) + 0.5;
     pen.moveTo(at, AXIS - 4);
     pen.lineTo(at, view.height - LANE_GAP);
-    const text = shown(number), wide = pen.measureText(text).width;
-    pen.fillText(text, limited(at - wide / 2, 0, view.width - wide), 11);
+    const text = shown(number), wide = pen.measureText(text).width, left = limited(at - wide / 2, 0, view.width - wide);
+    if (left < free) continue; // the number before stands there
+    free = left + wide + 6;
+    pen.fillText(text, left, 11);
   }
   pen.stroke();
 }

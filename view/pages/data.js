@@ -210,9 +210,9 @@ function search(asked) {
 }
 
 function testOf(field, value) {
-  const number = Number(value);
+  const digits = value.replaceAll(",", ""), number = Number(digits); // numbers are shown with commas
   if (field === "image") {
-    const named = new Set(data.named[value] ?? []);
+    const named = new Set(data.named[digits] ?? []);
     return place => named.has(place);
   }
   if (field === "stream") return place => streamOf(place) === number - 1;

@@ -42,7 +42,7 @@ function tellEvent() {
 
 function tellWait(parent, wait, place) {
   if (wait.how === "dropped") return;
-  const box = tag(parent, "p"), who = `number ${wait.number} of stream ${wait.stream + 1}`;
+  const box = tag(parent, "p"), who = `number ${shown(wait.number)} of stream ${wait.stream + 1}`;
   const on = `stream ${wait.target} to come to release ${wait.release}`;
   if (wait.made === place) {
     tag(box, "span", wait.how === "gone" ? "Its wait is gone at " : `Its wait for ${on} ends (${wait.how}) at `);
@@ -83,9 +83,9 @@ function tellState() {
     if (state.open.length) fact(list, "PUT", state.put < 0 ? "not in the output" : shown(state.put));
     fact(list, "release count", String(state.release));
     fact(list, "token", state.token === undefined ? "none" : String(state.token));
-    fact(list, "open numbers", few(state.open, String) || "none");
+    fact(list, "open numbers", few(state.open, shown) || "none");
     fact(list, "pending waits", few(state.waits, wait =>
-      `number ${wait.number} for stream ${wait.target} to come to release ${wait.release}`) || "none");
+      `number ${shown(wait.number)} for stream ${wait.target} to come to release ${wait.release}`) || "none");
     if (state.buckets.length) fact(list, "buckets", few(state.buckets, ([key, size]) => `${key}: ${counted(size, "byte")}`));
     if (state.buffers.length) fact(list, "buffers", few(state.buffers, ([key, size]) => `${key}: ${counted(size, "byte")}`));
   });
