@@ -31,7 +31,7 @@ class Form:
         return " ".join((self.first, *self.once, *self.group, *([".."] if self.group else [])))
 
     def names(self, count: int) -> list[str]:
-        """The names of so many words after the first, or of more where a group has to end."""
+        """The names of `count` words after the first, or of more where a group has to end."""
         names = [*self.once, *self.group * self.least]
         while self.group and len(names) < count:
             names += self.group

@@ -19,7 +19,7 @@ from .waits import Wait
 # row R of stream S is track S + 100 R, so that no two tracks have the same number
 ROWS_APART = 100
 HOW = {"finish": "finished", "close": "ended by the close of its stream",
-       "memory": "lost for want of memory"}
+       "memory": "lost as out of memory"}
 # names that chrome://tracing knows
 COLOURS = {"failed": "bad", "dropped": "terrible", "lost": "black"}
 LINES_AT_ONCE = 4096

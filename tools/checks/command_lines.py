@@ -24,7 +24,7 @@ from tools.places import PROGRAM
 ROWS = Path("tests/command_lines.tsv")
 PARTS = ("zorvleid", "command_line", "view", "python", "docs", "examples", "crates.txt", "HANDLES")
 COMMANDS = ("sh", "cat", "dirname", "readlink", "find", "head", "mktemp", "rm", "tr")
-SHELL = ("zorvleid", "tools/build", ".ci/run", "view/run")
+SHELL = ("zorvleid", "tools/build", "tools/check", ".ci/run", "bench/run", "python/run", "view/run")
 LEAST = {"command lines": 60, "right lines": 40, "wrong lines": 60}
 SECONDS, WORKERS = 600, 4
 
@@ -251,7 +251,7 @@ NAMES = (
          "write fault: /dev/full: No space left on device",
          "[ -c /dev/full ]"),
     Name("a pipe", "mkfifo pipe; cat pipe > page &", "--page pipe",
-         after=f"[ -p pipe ] && sleep 0.5 && {PAGE.format('page')}"),
+         after=f"[ -p pipe ] && wait && {PAGE.format('page')}"),
     Name("a folder", "mkdir f", "--page f", 2, "bad command line: f is a folder, and no file",
          "[ -d f ]"),
     Name("a folder that is not there", ":", "--page f/", 2,

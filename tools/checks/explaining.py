@@ -57,7 +57,7 @@ def check(top: Path, program: Path, tally: Tally) -> None:
         tally.tell(f"explain, as it is called: {said}", fault_of_call(top, program, script))
     for text, wanted in PUT_BEHIND_TOKENS:
         line = meaning(text.encode(), program)[2][-1]
-        tally.tell(f"explain a word behind a token: {wanted}",
+        tally.tell(f"explain a word after a token: {wanted}",
                    None if line == f"wanted: {wanted}" else f"it says {line!r}")
     wrong = wrong_inputs(top)
     for name, data in wrong:
