@@ -2,11 +2,11 @@
 
 No contract ties this answer to a cause, so a body that gives it without need would be proved. This
 search finds each place of the sources that makes such an answer, but for tests: a `Memory` of any
-type, a status for it, and a call that loses a stream for it. Each place must be in the list PLACES
-with its reason, its function and its guard. The guard is the nearest line before it with a smaller
-indent, as the head of an `if` or of a `match`. Each place of the list must exist. Declarations,
-patterns, clauses and types are no answers. `?` passes on an answer made elsewhere; the bodies of
-`From` are places.
+type, a status for it, and the name of a function that loses a stream for it, however it is called
+or passed on. Each place must be in the list PLACES with its reason, its function and its guard. The
+guard is the nearest line before it with a smaller indent, as the head of an `if` or of a `match`.
+Each place of the list must exist. Declarations, patterns, clauses and types are no answers. `?`
+passes on an answer made elsewhere; the bodies of `From` are places.
 """
 
 import re
@@ -23,7 +23,7 @@ NO_ANSWER = re.compile(
 )
 TYPE = re.compile(r"Result<.*?\bMemory>|: Memory\b")
 ANSWER = re.compile(r"\b(?:Memory|NoMemory|MemoryLost)\b(?!::)|"
-                    r"\b(?:no_memory|lose_client|lose_for_memory)\(|\blose\(")
+                    r"\b(?:no_memory|lose|lose_client|lose_for_memory)\b")
 FUNCTION = re.compile(r"\bfn (\w+)")
 
 
