@@ -91,8 +91,11 @@ def without_number(event: Event) -> tuple[object, ...]:
 
 
 def firsts(count: int) -> str:
-    """The events before two rows part, as the subject of a sentence."""
-    return "first event is" if count == 1 else f"first {counted(count, 'event')} are"
+    """What is said of the events before two rows part."""
+    if count == 0:
+        return "first events differ"
+    are = "first event is" if count == 1 else f"first {counted(count, 'event')} are"
+    return f"{are} the same, and then"
 
 
 class Comparison:
@@ -204,14 +207,14 @@ def lines(comparison: Comparison) -> Iterator[str]:
     if comparison.whole.is_none:
         yield f"journal: the same, {counted(len(comparison.outputs[0].events), 'event')}"
     else:
-        yield f"journal: the {firsts(comparison.whole.same)} the same, and then"
+        yield f"journal: the {firsts(comparison.whole.same)}"
         yield from told(both, (comparison.whole.first, comparison.whole.second))
     for number, found in enumerate(comparison.streams):
         places = [side[number] for side in comparison.places]
         if found.is_none:
             yield f"stream {number + 1}: the same, {counted(len(places[0]), 'event')}"
             continue
-        yield f"stream {number + 1}: its {firsts(found.same)} the same, and then"
+        yield f"stream {number + 1}: its {firsts(found.same)}"
         yield from told(
             both, [at if at is None else side[at] for side, at in zip(places, found[1:])]
         )

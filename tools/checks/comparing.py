@@ -47,7 +47,7 @@ LATER = (
     .replace("image 8 1 1\n336699ff", "image 8 1 1\n00000000")
 )
 SAID_B = (
-    "journal: the first 0 events are the same, and then",
+    "journal: the first events differ",
     "    A  1  stream 1  order 1  order: drawn for the flush after 14 actions, up to PUT 14",
     "    B  1  stream 2  order 1  order: drawn for the flush after 13 actions, up to PUT 13",
     "stream 1: the same, 5 events",
