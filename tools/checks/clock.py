@@ -1,18 +1,21 @@
 """How long a program takes for something, by the clock, whatever else this machine does meanwhile.
 
-Linux keeps of each thread how long it ran, and how long it stood ready and had no processor. The
-second time is taken off the clock, for all threads of the program together. What is left is never
-less than what its busiest thread ran. A program that sleeps is as slow as the clock says. Where
-Linux does not keep the times, the clock alone counts.
+Two times are taken off the clock. Linux keeps of each thread how long it stood ready and had no
+processor; those of all threads of the program are added. It also keeps how long the host of a
+virtual machine took its processors away. What is left is never less than what the busiest thread
+ran. A program that sleeps is as slow as the clock says. Where Linux does not keep the times, the
+clock alone counts.
 """
 
+import os
 import time
 from collections.abc import Callable, Iterator
 from dataclasses import dataclass
 from pathlib import Path
 
 PROCESSES = Path("/proc")
-SECOND = 10**9  # what Linux counts in
+SECOND = 10**9  # what Linux counts in for a thread
+STOLEN = 8  # the place of the time that the host took, in the first line of `stat`
 
 
 @dataclass(frozen=True)
@@ -49,15 +52,25 @@ def times(process: int) -> Iterator[tuple[str, Times]]:
             yield str(path), Times(int(ran) / SECOND, int(waited) / SECOND)
 
 
+def stolen() -> float:
+    """The seconds that the host took from the processors of this machine since its start."""
+    try:
+        words = (PROCESSES / "stat").read_text().split("\n", 1)[0].split()
+        return int(words[STOLEN]) / os.sysconf("SC_CLK_TCK")
+    except (OSError, ValueError, IndexError):
+        return 0
+
+
 def seconds_of(process: int, act: Callable[[], object]) -> float:
     """How many seconds a process takes for an act."""
-    before, begun = dict(times(process)), time.monotonic()
+    before, taken, begun = dict(times(process)), stolen(), time.monotonic()
     act()
     clock = time.monotonic() - begun
+    taken = stolen() - taken
     spent = [
         (after.ran - before.get(thread, Times()).ran,
          after.waited - before.get(thread, Times()).waited)
         for thread, after in times(process)
     ]
     busiest = max((ran for ran, _ in spent), default=0.0)
-    return max(busiest, clock - sum(waited for _, waited in spent))
+    return max(busiest, clock - taken - sum(waited for _, waited in spent))
