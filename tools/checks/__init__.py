@@ -69,8 +69,7 @@ PLANTED = (
     ("pages", "view/pages/chart.js", "index = leap(list, index + 1, back(pixel + wide / 2 + 0.5));",
      "index += 1;"),
     ("pages", "view/pages/data.js", "if (words.length) prepareLines(total);",
-     "for (const end = performance.now() + 150; performance.now() < end;);\n"
-     "  if (words.length) prepareLines(total);"),
+     "for (let at = 0; at < 20; at += 1) { lines.length = 0; prepareLines(total); }"),
     ("pages", "view/pages/images.js", "bytes.set(given, to + 4 * texel)", "bytes.set(given, to)"),
     ("manual", "docs/zorvleid.1", ".It Cm explain", ".It Cm expound"),
     ("releases", "tools/release.py", '"view",', ""),
