@@ -9,7 +9,6 @@ Beside a case, NAME.script.sum and NAME.stdout.sum have the length and the SHA-2
 import argparse
 import hashlib
 import sys
-from pathlib import Path
 
 from tests import limits, model
 from zorvleid import output as outputs

@@ -14,7 +14,7 @@ from zorvleid.output import Event, Mark, OutputRefused, words_of
 from zorvleid.script import Name
 
 from . import faults, working
-from .commands import Command, decode
+from .commands import decode
 from .images import Images, Written
 from .script import Plan, Target
 from .table import ERRORS

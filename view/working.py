@@ -8,7 +8,7 @@ from zorvleid.output import Event
 from . import commands, faults
 from .images import Failed, Written, texels_of
 from .plain import counted, joined
-from .table import NOOP, TABLE
+from .table import TABLE
 
 if TYPE_CHECKING:
     from .standing import Stand, Standing

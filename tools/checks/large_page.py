@@ -55,18 +55,7 @@ def check_run(look: Looker, program: Path, path: Path) -> None:
     write_page(text, path)
     page.size(WIDTHS[0])
     check_opening(look, path)
-    for what, begin, step in (("all of it", "fit()", "show(0, total - 40 * at)"),
-                              ("a tenth of it", "show(30000, 11000)", "show(30000 + 300 * at)"),
-                              ("a small part", "show(50000, 100)", "show(50000 + 9 * at)"),
-                              ("by zooming", "fit()", "zoom(0.8, 500)"),
-                              ("events next to each other", "show(50000, 100)",
-                               "choose(50000 + at)"),
-                              ("events far from each other", "fit()", "choose(total - 9000 * at)")):
-        look.quick(f"a frame of a large page, {what}", functools.partial(frame, look, begin, step))
-        look.tell(f"what is drawn of it at most, {what}",
-                  look.value("drawn.count <= lanes.length * view.width"), True)
-    for asked in ("ClearRect", "image 3", "nothing like it"):
-        look.quick(f"a search of a large page for {asked}", functools.partial(search, look, asked))
+    check_speed(look)
     check_sight(look)
     check_table(look)
     look.tell("the last lane in the strip of the whole run", look.value(LAST_OF_STRIP), True)
@@ -93,6 +82,22 @@ def check_run(look: Looker, program: Path, path: Path) -> None:
     look.tell("the last images", dict(got),
               {number: texels.hex() for number, (_, _, texels) in final.items()})
     look.tell("the console", complaints(page), [])
+
+
+def check_speed(look: Looker) -> None:
+    """Each frame and each search is quick, and the width bounds how much is drawn."""
+    for what, begin, step in (("all of it", "fit()", "show(0, total - 40 * at)"),
+                              ("a tenth of it", "show(30000, 11000)", "show(30000 + 300 * at)"),
+                              ("a small part", "show(50000, 100)", "show(50000 + 9 * at)"),
+                              ("by zooming", "fit()", "zoom(0.8, 500)"),
+                              ("events next to each other", "show(50000, 100)",
+                               "choose(50000 + at)"),
+                              ("events far from each other", "fit()", "choose(total - 9000 * at)")):
+        look.quick(f"a frame of a large page, {what}", functools.partial(frame, look, begin, step))
+        look.tell(f"what is drawn of it at most, {what}",
+                  look.value("drawn.count <= lanes.length * view.width"), True)
+    for asked in ("ClearRect", "image 3", "nothing like it"):
+        look.quick(f"a search of a large page for {asked}", functools.partial(search, look, asked))
 
 
 def search(look: Looker, asked: str) -> float:

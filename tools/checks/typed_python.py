@@ -1,7 +1,11 @@
-"""The types of all Python of the repository, by mypy --strict with pyproject.toml's settings."""
+"""The Python of the repository: its types, by mypy --strict, its imports and its path of modules.
+
+The settings of mypy are those of pyproject.toml.
+"""
 
 import ast
 import os
+import re
 import shutil
 import subprocess
 import sys
@@ -49,12 +53,32 @@ def path_changes(path: Path) -> Iterator[int]:
                 yield node.lineno
 
 
+def unused_imports(path: Path) -> Iterator[str]:
+    """The names that a source imports and never uses. A name within a text counts as used."""
+    nodes = list(ast.walk(ast.parse(path.read_text(encoding="utf-8"))))
+    remarks = {id(node.value) for node in nodes if isinstance(node, ast.Expr)}
+    used = {node.id for node in nodes if isinstance(node, ast.Name)}
+    for node in nodes:
+        if isinstance(node, ast.Constant) and isinstance(node.value, str):
+            used |= set() if id(node) in remarks else set(re.findall(r"\w+", node.value))
+    for node in nodes:
+        if isinstance(node, ast.Import | ast.ImportFrom):
+            names = (name.asname or name.name.partition(".")[0] for name in node.names)
+            yield from (name for name in names if name not in used)
+
+
+def fault_of_source(path: Path) -> str | None:
+    """Why a source is not as it should be."""
+    line, unused = next(path_changes(path), None), list(unused_imports(path))
+    if line is not None:
+        return f"line {line} names sys.path: start it as a module"
+    return f"it imports {', '.join(unused)} and does not use that" if unused else None
+
+
 def check(top: Path, _program: Path, tally: Tally) -> None:
-    """Reports each source that changes the path of modules, and the faults of mypy."""
+    """Reports each source that changes the path of modules or imports too much; faults of mypy."""
     for path in sources(top):
-        line = next(path_changes(path), None)
-        fault = None if line is None else f"line {line} names sys.path: start it as a module"
-        tally.tell(str(path.relative_to(top)), fault)
+        tally.tell(str(path.relative_to(top)), fault_of_source(path))
     mypy = checker(top)
     if mypy is None:
         tally.skip("the types of the Python", "mypy is missing (apt install mypy)")
