@@ -31,7 +31,7 @@ class Looker:
         self.within(what, FRAME, (measured() for _ in range(TRIES)))
 
     def within(self, what: str, most: float, tries: Iterable[float]) -> None:
-        """Reports a fault where no try takes less milliseconds than this; the first ends them."""
+        """Reports a fault where no try takes fewer milliseconds. The first that does ends them."""
         least = math.inf
         for took in tries:
             least = min(least, took)
