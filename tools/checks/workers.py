@@ -52,6 +52,12 @@ WHOLE = ("hostile/*", "large/largest_*", "large/widest_spans", "lost/*", "refuse
          "runs/overlapping_copy", "runs/two_texels", "runs/views", "runs/wrap_at_the_end",
          "runs/write_is_read_back")
 
+# Cases that would not end if a client gave up where it waits: for room in its queue, for its flushes,
+# for a token, for the value of a dump. Where one does not end, no other case is run.
+WAITING = ("runs/full_queue", "runs/write_is_read_back", "runs/falling_token",
+           "results/results_during_the_run")
+WAITING_SECONDS = 20.0
+
 # How often each line comes, and its pattern; a line belongs to the first pattern that fits it.
 SHAPES = {
     # The words that the uploads fetch may be any that the client put from their flush on.
@@ -99,6 +105,10 @@ SHAPES = {
         1 stream 3 done entries 6432 release 200 token 0 words 6605 errors 0 [0-9]+ 0
         1 stream 4 done entries 6432 release 200 token 0 words 6605 errors 0 [0-9]+ 0
         0-800 mark [1-4] [0-9]+ [1-4] [0-9]+ (release|guard) [0-9]+""",
+    "runs/full_queue": """
+        400 order 1 [0-9]+ [0-9]+
+        400 finish 1 [0-9]+
+        1 stream 1 done entries 0 release 0 token 0 words 0 errors 0 0 0""",
     "runs/many_flushes": """
         20 order 1 [0-9]+ [0-9]+
         20 finish 1 [0-9]+
@@ -368,8 +378,22 @@ def random_runs(top: Path) -> tuple[list[Planned], int, int]:
     )
 
 
+def unended(top: Path, program: Path, seconds: float = WAITING_SECONDS) -> list[str]:
+    """The runs of cases in which clients wait that do not end within these seconds."""
+    return [
+        f"{name} with {threads_of(workers, 0)}"
+        for name in WAITING
+        for workers in COUNTS
+        if run(program, words_of(workers), Case(top, name).script, seconds).status is None
+    ]
+
+
 def check(top: Path, program: Path, tally: Tally) -> None:
     """Reports the faults of each case, number of workers and number of viewers."""
+    hung = unended(top, program)
+    tally.tell("clients that wait", f"no end of {', '.join(hung)}" if hung else None)
+    if hung:
+        return
     drawn, lawful, with_dumps = random_runs(top)
     runs = [*stored_runs(top), *drawn]
     there = {case.name for case, _, _ in runs}
@@ -477,6 +501,10 @@ def selftest(top: Path, program: Path, tally: Tally) -> None:
         tally.tell(f"{name} with 2 workers, nothing planted",
                    f"{found[0][0]}: {found[0][1]}" if found else None)
     with tempfile.TemporaryDirectory() as folder:
+        asleep = wrapped(program, Path(folder), "run", "exec sleep 20")
+        tally.tell("clients that wait for ever",
+                   None if len(unended(top, asleep, 0.5)) == len(WAITING) * len(COUNTS)
+                   else "not each of their runs was found")
         for wanted, name, words, line in PLANTED:
             seconds = 5 if "sleep" in line else SECONDS
             program_of = wrapped(program, Path(folder), words, line)
