@@ -66,8 +66,9 @@ def places_of_file(name: str, text: str) -> Iterator[tuple[str, str, str]]:
 
 def places_of(top: Path) -> Iterator[tuple[str, str, str]]:
     for path in sorted((top / "crates").glob("*/src/**/*.rt")):
-        if "tests" not in path.parts and path.stem != "tests":
-            name = path.relative_to(top / "crates").as_posix().replace("/src/", "/")
+        inner = path.relative_to(top / "crates")
+        if "tests" not in inner.parts and path.stem != "tests":
+            name = inner.as_posix().replace("/src/", "/")
             yield from places_of_file(name, path.read_text(encoding="utf-8"))
 
 
