@@ -52,8 +52,8 @@ WHOLE = ("hostile/*", "large/largest_*", "large/widest_spans", "lost/*", "refuse
          "runs/overlapping_copy", "runs/two_texels", "runs/views", "runs/wrap_at_the_end",
          "runs/write_is_read_back")
 
-# Cases that would not end if a client gave up where it waits: for room in its queue, for its flushes,
-# for a token, for the value of a dump. Where one does not end, no other case is run.
+# Cases that would not end if a client gave up where it waits: for room in its queue, for its
+# flushes, for a token, for the value of a dump. Where one does not end, no other case is run.
 WAITING = ("runs/full_queue", "runs/write_is_read_back", "runs/falling_token",
            "results/results_during_the_run")
 WAITING_SECONDS = 20.0
