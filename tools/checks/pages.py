@@ -35,6 +35,7 @@ def check(top: Path, program: Path, tally: Tally) -> None:
                 large_page.check_run(Looker(page, "a large run", tally), program,
                                      Path(folder) / "large.html")
                 check_empty(Looker(page, "an empty output", tally), Path(folder) / "empty.html")
+                check_comparison(Looker(page, "two outputs", tally), top, Path(folder) / "two.html")
         except browser.BrowserFault as fault:
             tally.tell("the page in a browser", str(fault))
 
@@ -330,3 +331,32 @@ def check_empty(look: Looker, path: Path) -> None:
     """A run without streams has a page too."""
     look.page.open(write_page("", path))
     look.tell("what it says", (look.text("#drawn"), look.page.errors), ("There is no event.", []))
+
+
+# --- Two outputs beside each other ---
+
+BEFORE = ("[...document.querySelector('.wide tbody tr, .wide tr:nth-child(2)').children]"
+          ".map(one => getComputedStyle(one, '::before').content)")
+LOST, FENCED = "examples/lost_stream.stdout", "examples/two_streams_and_a_fence.stdout"
+
+
+def check_comparison(look: Looker, top: Path, path: Path) -> None:
+    """No text of the page of `compare` lies over another one, and only its tables are wide."""
+    both = (top / LOST, top / FENCED)
+    subprocess.run([top / "zorvleid", "compare", "--page", path, *both], capture_output=True,
+                   check=False)
+    for width in WIDTHS:
+        look.where = f" at {width}"
+        look.page.size(width)
+        look.page.open(path)
+        look.tell("cells that are there", look.value("document.querySelectorAll('td').length > 40"),
+                  True)
+        look.tell("cells whose text goes past them", look.value(
+            "[...document.querySelectorAll('td')].filter(one => one.scrollWidth > one.clientWidth)"
+            ".map(one => one.textContent)"), [])
+        look.tell("what is wider than its place", look.value(
+            "[...document.querySelectorAll('html, .wide')]"
+            ".filter(one => one.scrollWidth > one.clientWidth).map(one => one.className)"), [])
+        look.tell("what stands before a cell", look.value(BEFORE),
+                  ['"A "', "none", '"B "', "none"] if width < 600 else ["none"] * 4)
+        look.tell("the console", complaints(look.page), [])
