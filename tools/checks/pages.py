@@ -69,7 +69,8 @@ def check_example(look: Looker, text: str, path: Path) -> None:
         look.tell("the line after a link", look.line(), journal[1])
         look.tell("the address", look.value("location.hash"), "#event=2")
         look.tell("what is wider than the window",
-                  look.value("Math.max(0, document.documentElement.scrollWidth - innerWidth)"), 0)
+                  look.value("(page => page.scrollWidth - page.clientWidth)"
+                             "(document.documentElement)"), 0)
         look.tell("the console", complaints(page), [])
     look.where = ", by its address"
     page.open(path, "#event=5")
