@@ -1,5 +1,5 @@
 -- Each kind of step keeps the rule of a book.
-use Rattle.std.proofs.Common.{◌≡◌, ◌≢◌, ℕ, zero, suc, List, [], ◌∷◌, ◌++◌, set, ⊎_elim, refl, sym, ap, ◌∙◌, subst, arith}
+use Rattle.std.proofs.Common.{◌≡◌, ◌≢◌, ℕ, zero, suc, List, [], ◌∷◌, set, ⊎_elim, refl, sym, ap, ◌∙◌, subst, arith}
 use Rattle.std.proofs.lemmas.List.{set-get_or}
 use mathlib.Core.Option.{none, some, some-injective, some-ne-none}
 use lib.ListN.{get_elem?}
@@ -8,7 +8,7 @@ use Rattle.atomic_table.specs.Table.{step, keeps, opening, Allows, Splits, Joins
 use Rattle.gpu_books.specs.declared.table.View.{View}
 use Rattle.gpu_books.specs.declared.table.View.TheVariants.{Full, Joined, Halved, Spent}
 use Rattle.gpu_books.specs.Views.{Sat, weight, numbers_of, joined_of, six_zeros, opened, halved, compares, renumbers}
-use Rattle.gpu_books.specs.Rule.{Words, weights, HasOnly, Keeps}
+use Rattle.gpu_books.specs.Rule.{weights, HasOnly, Keeps}
 use Rattle.gpu_books.proofs.Weights.{weights-set, weights-snoc, two_at}
 
 -- a view with the book's numbers has the same ones twice

@@ -18,7 +18,6 @@ use Rattle.gpu_cmd.proofs.Fitting.{accepted_leaves_room}
 use Rattle.gpu_plan.specs.Plans.{PlansData}
 use Rattle.gpu_plan.proofs.Dumps.{found_behind}
 use Rattle.gpu_fetch.specs.Side.{SideData, Fetches}
-use Rattle.gpu_fetch.specs.declared.seen_facts.SeenFacts.{SeenFacts}
 use Rattle.gpu_fetch.specs.declared.sharing.FetchedPart.{FetchedPart}
 use Rattle.gpu_fetch.specs.Fetched.{FetchedData, added, IsFetched, FetchesSome}
 use Rattle.gpu_fetch.specs.Parts.{words_in, parts_of}

@@ -1,5 +1,5 @@
-ghost use Rattle.std.specs.Prelude.{◌≡◌, ◌≤◌, [], length, map, reverse};
-ghost use Rattle.std.specs.List.{concat, All};
+ghost use Rattle.std.specs.Prelude.{◌≡◌, ◌≤◌, [], length};
+ghost use Rattle.std.specs.List.{concat};
 ghost use Rattle.gpu_journal.specs.Picture.{picture_text};
 ghost use Rattle.gpu_journal.specs.Output.{head_lines};
 ghost use Rattle.run_output.specs.Pieces.{Adds, Puts};

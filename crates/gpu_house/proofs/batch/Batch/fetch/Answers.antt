@@ -4,7 +4,6 @@ use Rattle.std.specs.Prelude.{slice_range}
 use Rattle.std.specs.List.{All}
 use Rattle.gpu_fetch.specs.Side.{SideData, Fetches}
 use Rattle.gpu_cmd.specs.declared.facts.StreamFacts.{StreamFacts}
-use Rattle.gpu_fetch.specs.declared.seen_facts.SeenFacts.{SeenFacts}
 use Rattle.gpu_fetch.specs.declared.sharing.FetchedPart.{FetchedPart}
 use Rattle.gpu_fetch.specs.Fetched.{FetchedData, IsFetched, added}
 use Rattle.gpu_fetch.specs.Parts.{words_in, parts_of}
