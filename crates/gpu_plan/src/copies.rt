@@ -2,8 +2,9 @@ ghost use Rattle.std.specs.Prelude.{◌≡◌, slice_get, Some, IfOk};
 ghost use Rattle.gpu_plan.specs.Fencing.{fences_in};
 
 use crate::fenced::{Fenced, noted_at};
+use crate::fences::Fences;
 use crate::place::Place;
-use crate::plan::{Action, Fences, Plan};
+use crate::plan::{Action, Plan};
 use std::alloc::{AllocError, Global};
 
 impl Fenced {

@@ -9,8 +9,9 @@ ghost use Rattle.gpu_plan.specs.declared.plan.Action.TheVariants.{Flush, Finish}
 ghost use Rattle.gpu_plan.specs.Fencing.{fences_in};
 
 use crate::fenced::Fenced;
+use crate::fences::Fences;
 use crate::place::Place;
-use crate::plan::{Action, Fences, Plan};
+use crate::plan::{Action, Plan};
 use gpu_cmd::{Areas, Name, Priority, Span};
 use script_lines::Values;
 use std::alloc::{AllocError, Global};

@@ -8,36 +8,10 @@ ghost use Rattle.gpu_plan.specs.Fencing.{fences_in};
 ghost use Rattle.gpu_plan.specs.Named.{names_in, IsVersion, AreLawfulNames};
 
 use crate::fenced::{Fenced, noted_at};
+use crate::fences::Fences;
 use crate::place::Place;
 use gpu_cmd::{Areas, Name, Priority};
 use std::marker::Model;
-use std::snapshot::Snapshot;
-
-/// What a flush waits for, as contracts see it: a list of pairs, each a stream's number and a release.
-///
-/// The number 0 stands for a stream that is not there. The list takes no memory here: the plan keeps it, and `fences_at` gives it.
-#[derive(Drop)]
-pub struct Fences {
-    pairs: Snapshot<Vec<(u32, u64)>>,
-}
-
-impl Model for Fences {
-    ghost use Rattle.std.specs.Prelude.{ℕ, List};
-
-    ghost Value = { List (ℕ × ℕ) };
-
-    ghost view = { λ fences. fences.pairs.value.items };
-}
-
-impl Fences {
-    pub(crate) fn of(pairs: &Vec<(u32, u64)>) -> Fences
-        ensures { result ≡ pairs.now.items }
-    {
-        Fences {
-            pairs: Snapshot::of(pairs),
-        }
-    }
-}
 
 /// One act of a client, in the order of its script.
 ///

@@ -8,7 +8,8 @@ ghost use Rattle.gpu_plan.specs.Fencing.{Rise, fences_in, fenced_from, noted_at}
 use crate::adding::streams;
 use crate::draft::Draft;
 use crate::fenced::{Fenced, noted_at};
-use crate::plan::{Action, Fences, Plan, Plans, number_of};
+use crate::fences::Fences;
+use crate::plan::{Action, Plan, Plans, number_of};
 use script_lines::Names;
 use std::alloc::{AllocError, Global};
 

@@ -1,4 +1,3 @@
-pub mod Crossing
 pub mod Planned
 pub mod Going
 pub mod Made

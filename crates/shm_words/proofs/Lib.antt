@@ -1,4 +1,3 @@
-pub mod Crossing
 mod Seats
 mod ClientSteps
 mod ServiceSteps
