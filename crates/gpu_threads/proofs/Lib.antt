@@ -1,7 +1,7 @@
 pub mod Planned
 pub mod Going
-pub mod Made
 pub mod Shared
+pub mod Made
 pub mod Complete
 pub mod Cutting
 pub mod Watched

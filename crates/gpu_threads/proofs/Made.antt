@@ -22,8 +22,10 @@ use Rattle.gpu_house.specs.Making.{AreFreshResults}
 use Rattle.gpu_threads.specs.declared.full_pass.FullPass.{FullPass}
 use Rattle.gpu_threads.specs.declared.parts.Parts.{Parts}
 use Rattle.gpu_threads.specs.Clients.{ClientData, AreClientsFrom, AreClientsOf}
-use Rattle.gpu_threads.specs.Making.{AreNumbered, AreClients, AreFreshWriters, AreFreshFor}
+use Rattle.gpu_threads.specs.Making.{AreNumbered, AreClients, AreFreshWriters, AreFreshFor, AreNamed}
 use Rattle.gpu_threads.specs.Rows.{AreShared, shared_in, results_in}
+use Rattle.gpu_threads.specs.Words.{of_tables}
+use Rattle.gpu_threads.proofs.Shared.{shared_words}
 
 -- ---- what the house wants
 
@@ -173,34 +175,33 @@ take_number plans k plan e =
 
 -- ---- by the names of the words and of the queues
 
-pub writers_named : (p plans : PlansData) (parts : Parts) (results : List TableId) → plans ≡ p → results_in parts.words.items ≡ results → AreFreshFor p.plans parts
-    → AreFreshResults (λ (w : WriterData) (place : ℕ). nat_lt place w.places) (λ (w : WriterData). Some w.written) (λ (w : WriterData) (table : TableId). w.table ≡ table) (table_at results) 1 plans.plans parts.results.items
-writers_named p plans parts results plans_are results_are fresh =
-    fresh_writers plans results parts.results.items
-    (subst (λ (q : PlansData). AreFreshWriters q.plans results parts.results.items) (sym plans_are)
-    (subst (λ (row : List TableId). AreFreshWriters p.plans row parts.results.items) results_are fresh.writers))
+module _ (words results books queues : List TableId) (parts : Parts) (named : AreNamed words results books queues parts) where
+  pub writers_named : (p plans : PlansData) → plans ≡ p → AreFreshFor p.plans parts
+      → AreFreshResults (λ (w : WriterData) (place : ℕ). nat_lt place w.places) (λ (w : WriterData). Some w.written) (λ (w : WriterData) (table : TableId). w.table ≡ table) (table_at results) 1 plans.plans parts.results.items
+  writers_named p plans plans_are fresh =
+      fresh_writers plans results parts.results.items
+      (subst (λ (q : PlansData). AreFreshWriters q.plans results parts.results.items) (sym plans_are)
+      (subst (λ (row : List TableId). AreFreshWriters p.plans row parts.results.items) named.results_are fresh.writers))
 
-pub clients_named : (plans : List PlanData) (parts : Parts) (words results queues : List TableId) → shared_in parts.words.items ≡ words → results_in parts.words.items ≡ results → parts.queues.items ≡ queues → AreFreshFor plans parts → AreClients plans words results queues parts.clients.items
-clients_named plans parts words results queues words_are results_are queues_are fresh =
-    subst (λ (row : List TableId). AreClients plans words results row parts.clients.items) queues_are
-    (subst (λ (row : List TableId). AreClients plans words row parts.queues.items parts.clients.items) results_are
-    (subst (λ (row : List TableId). AreClients plans row (results_in parts.words.items) parts.queues.items parts.clients.items) words_are fresh.clients))
+  pub clients_named : (plans : List PlanData) → AreFreshFor plans parts → AreClients plans words results queues parts.clients.items
+  clients_named plans fresh =
+      subst (λ (row : List TableId). AreClients plans words results row parts.clients.items) named.queues_are
+      (subst (λ (row : List TableId). AreClients plans words row parts.queues.items parts.clients.items) named.results_are
+      (subst (λ (row : List TableId). AreClients plans row (results_in parts.words.items) parts.queues.items parts.clients.items) named.words_are fresh.clients))
 
--- the words and the queues are by their names
-pub shared_named : (p : PlansData) (parts : Parts) (words results queues : List TableId) → shared_in parts.words.items ≡ words → results_in parts.words.items ≡ results → parts.queues.items ≡ queues → AreFreshFor p.plans parts → AreShared p words results queues parts.words.items parts.queues.items
-shared_named p parts words results queues words_are results_are queues_are fresh =
-    let clients = parts.clients.items in
-    let many = clients_many p.plans (shared_in parts.words.items) (results_in parts.words.items) parts.queues.items clients fresh.clients in
-    let a = ap length fresh.clients.words_are in
-    let b = length-map clients (λ (c : ClientData). c.pass.table) in
-    let d = length-map parts.words.items (λ (own : TableId × TableId). own.0) in
-    let e = ap length fresh.clients.queues_are in
-    let f = length-map clients (λ (c : ClientData). c.poster.queue) in
-    let q = ap length queues_are in
-    record {
-      words_are = words_are;
-      results_are = results_are;
-      queues_are = queues_are;
-      word_count = omega (arith, many, a, b, d);
-      queue_count = omega (arith, many, e, f, q);
-    }
+  -- the words and the queues are by their names
+  pub shared_named : (p : PlansData) → AreFreshFor p.plans parts → AreShared of_tables p words results queues parts.words.items parts.queues.items
+  shared_named p fresh =
+      let clients = parts.clients.items in
+      let many = clients_many p.plans (shared_in parts.words.items) (results_in parts.words.items) parts.queues.items clients fresh.clients in
+      let a = ap length fresh.clients.words_are in
+      let b = length-map clients (λ (c : ClientData). c.pass.table) in
+      let d = length-map parts.words.items (λ (own : TableId × TableId). own.0) in
+      let e = ap length fresh.clients.queues_are in
+      let f = length-map clients (λ (c : ClientData). c.poster.queue) in
+      let q = ap length named.queues_are in
+      record {
+        words_are = shared_words p words results parts.words.items named.words_are named.results_are (omega (arith, many, a, b, d));
+        queues_are = named.queues_are;
+        queue_count = omega (arith, many, e, f, q);
+      }

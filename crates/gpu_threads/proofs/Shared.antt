@@ -10,11 +10,11 @@ use Rattle.sync_core.specs.Standing.{IsKnown}
 use Rattle.sync_core.proofs.Rows.{position_of}
 use Rattle.gpu_house.specs.Names.{table_at}
 use Rattle.gpu_threads.specs.Words.{of_tables}
-use Rattle.gpu_threads.specs.Rows.{AreWordsOf, AreShared}
+use Rattle.gpu_threads.specs.Rows.{AreWordsOf, shared_in, results_in}
 
 -- the words of each stream are of its tables
-pub shared_words : (p : PlansData) (tables results names : List TableId) (words : List (TableId × TableId)) (queues : List TableId) → AreShared p tables results names words queues → AreWordsOf of_tables p tables results words
-shared_words p tables results names words queues are = record { count = are.word_count; each = at }
+pub shared_words : (p : PlansData) (tables results : List TableId) (words : List (TableId × TableId)) → shared_in words ≡ tables → results_in words ≡ results → length words ≡ length p.plans → AreWordsOf of_tables p tables results words
+shared_words p tables results words words_are results_are count = record { count = count; each = at }
   where
     at : (s : ℕ) → IsKnown (length p.plans) s → IfSome (slice_get words (s - 1)) (λ own. of_tables own (table_at tables s) (table_at results s))
     at s known = by (slice_get words (s - 1)) refl
@@ -28,4 +28,4 @@ shared_words p tables results names words queues are = record { count = are.word
 
         by : (o : Option (TableId × TableId)) → slice_get words (s - 1) ≡ o → IfSome o (λ own. of_tables own (table_at tables s) (table_at results s))
         by None e = tt
-        by (Some own) e = (found (λ (own : TableId × TableId). own.0) tables own e are.words_are, found (λ (own : TableId × TableId). own.1) results own e are.results_are)
+        by (Some own) e = (found (λ (own : TableId × TableId). own.0) tables own e words_are, found (λ (own : TableId × TableId). own.1) results own e results_are)

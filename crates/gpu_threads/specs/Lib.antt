@@ -8,3 +8,4 @@ pub mod Over
 pub mod Dumps
 pub mod Views
 pub mod Viewers
+pub mod Runs

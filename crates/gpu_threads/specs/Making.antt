@@ -6,7 +6,7 @@ use Rattle.gpu_cmd.specs.Spans.{words_in}
 use Rattle.gpu_plan.specs.Plans.{PlanData}
 use Rattle.gpu_fetch.specs.Shared.{side_of}
 use Rattle.result_words.specs.Seen.{WriterData}
-use Rattle.house_core.specs.Core.{IsFresh}
+use Rattle.house_core.specs.Core.{IsFresh, names_of}
 use Rattle.gpu_house.specs.Making.{AreFreshSides}
 use Rattle.gpu_hall.specs.Takers.{AreFreshTakers}
 use Rattle.gpu_threads.specs.declared.full_pass.FullPass.{FullPass}
@@ -42,3 +42,10 @@ pub record AreFreshFor (plans : List PlanData) (parts : Parts) : Type 0 where
   pub writers : AreFreshWriters plans (results_in parts.words.items) parts.results.items
   pub books : length parts.books.items ≡ length plans
   pub blank : All IsFresh parts.books.items
+
+-- the words, the result words, the books and the queues of these parts have these names
+pub record AreNamed (words results books queues : List TableId) (parts : Parts) : Type 0 where
+  pub words_are : shared_in parts.words.items ≡ words
+  pub results_are : results_in parts.words.items ≡ results
+  pub books_are : names_of parts.books.items ≡ books
+  pub queues_are : parts.queues.items ≡ queues

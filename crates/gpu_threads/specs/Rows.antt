@@ -17,10 +17,9 @@ shared_in words = map (λ (own : TableId × TableId). own.0) words
 abbrev pub results_in : List (TableId × TableId) → List TableId
 results_in words = map (λ (own : TableId × TableId). own.1) words
 
--- these are the words, the result words and the queues of all streams, in order, by their names
-pub record AreShared (p : PlansData) (tables results names : List TableId) (words : List (TableId × TableId)) (queues : List TableId) : Type 0 where
-  pub words_are : shared_in words ≡ tables
-  pub results_are : results_in words ≡ results
+-- these are the words and the queues of all streams, in order: the words are of the tables that are named for them, and the queues
+-- have their names
+pub record AreShared {Words : Type 0} (words_of : Words → TableId → TableId → Type 0) (p : PlansData) (tables results names : List TableId) (words : List Words) (queues : List TableId) : Type 0 where
+  pub words_are : AreWordsOf words_of p tables results words
   pub queues_are : queues ≡ names
-  pub word_count : length words ≡ length p.plans
   pub queue_count : length names ≡ length p.plans

@@ -2,54 +2,47 @@
 ghost use Rattle.std.specs.Prelude.{◌≡◌, length, Some, IfSome};
 ghost use Rattle.sync_core.specs.Standing.{IsKnown};
 ghost use Rattle.gpu_hall.specs.Ready.{IsReady};
-ghost use Rattle.gpu_threads.specs.Rows.{AreWordsOf};
 
+use crate::ground::Ground;
 use crate::over::{all_over, is_lost};
-use crate::rows::{queue_of, words_of};
 use crate::shift::{Leave, Shift};
-use flush_queue::FlushQueue;
 use gpu_hall::{Hall, NamedSide};
 use gpu_house::{Naming, Run};
 use gpu_io::{Gate, Place};
-use std::sync::{Mutex, MutexGuard, Wait};
+use std::sync::{MutexGuard, Wait};
 use wait_hooks::Hook;
 
 // Orders the flushes that were posted, of each stream whose earlier flushes are finished: later ones could not run yet.
-fn collect<N: Naming, P: NamedSide, H: Hook, R: Wait>(
+fn collect<N: Naming, P: NamedSide, H: Hook, R: Wait, G: Gate>(
     rt: &R,
+    ground: &Ground<'_, N, P, H, G>,
     hall: &mut Hall<N, P, H>,
-    queues: &[FlushQueue],
     shift: &mut Shift<'_>,
-)
-    requires queues { queues.now ≡ N.queues }
-    requires many { length N.queues ≡ length N.plans.plans }
-{
+) {
     if !shift.takes_posted() {
         return;
     }
     for stream in 1..=hall.count() {
         if shift.may_collect(stream, hall.finishes(stream)) {
-            let count = hall.collect_from(rt, stream, queue_of(queues, stream));
+            let count = hall.collect_from(rt, stream, ground.queue_of(stream));
             shift.note_taken(stream, count);
         }
     }
 }
 
 // Orders the flushes that were posted, and takes the run of the scheduler's choice, unless the thread has enough.
-fn next<N: Naming, P: NamedSide, H: Hook, R: Wait>(
+fn next<N: Naming, P: NamedSide, H: Hook, R: Wait, G: Gate>(
     rt: &R,
+    ground: &Ground<'_, N, P, H, G>,
     hall: &mut Hall<N, P, H>,
-    queues: &[FlushQueue],
     shift: &mut Shift<'_>,
 ) -> Option<Run<N, P>>
-    requires queues { queues.now ≡ N.queues }
-    requires many { length N.queues ≡ length N.plans.plans }
     ensures { IfSome result (IsReady P.side P.table P.mark P.note_of N.plans N.words N.books) }
 {
     if shift.has_enough() {
         return None;
     }
-    collect(rt, hall, queues, shift);
+    collect(rt, ground, hall, shift);
     shift.note_run();
     let run = hall.take();
     if run.is_none() {
@@ -63,22 +56,20 @@ fn next<N: Naming, P: NamedSide, H: Hook, R: Wait>(
 }
 
 // The run that goes on, where there is one: no other is taken then. Else the next one.
-fn on_or_next<N: Naming, P: NamedSide, H: Hook, R: Wait>(
+fn on_or_next<N: Naming, P: NamedSide, H: Hook, R: Wait, G: Gate>(
     rt: &R,
+    ground: &Ground<'_, N, P, H, G>,
     hall: &mut Hall<N, P, H>,
-    queues: &[FlushQueue],
     shift: &mut Shift<'_>,
     on: Option<Run<N, P>>,
 ) -> Option<Run<N, P>>
-    requires queues { queues.now ≡ N.queues }
-    requires many { length N.queues ≡ length N.plans.plans }
     requires ready { IfSome on (IsReady P.side P.table P.mark P.note_of N.plans N.words N.books) }
     ensures ready { IfSome result (IsReady P.side P.table P.mark P.note_of N.plans N.words N.books) }
     ensures same { IfSome on (λ run. result ≡ Some run) }
 {
     match on {
         Some(run) => Some(run),
-        None => next(rt, hall, queues, shift),
+        None => next(rt, ground, hall, shift),
     }
 }
 
@@ -115,39 +106,33 @@ fn tell_finish<G: Gate>(gate: &G, finished: bool, stream: u32, order: u32) {
 // the next run is taken under the same lock.
 fn advance<N: Naming, P: NamedSide, H: Hook, R: Wait, G: Gate>(
     rt: &R,
-    hall: &Mutex<Hall<N, P, H>>,
-    words: &[P::Words],
-    queues: &[FlushQueue],
-    gate: &G,
+    ground: &Ground<'_, N, P, H, G>,
     shift: &mut Shift<'_>,
     run: Run<N, P>,
 ) -> Option<Run<N, P>>
-    requires ready { IsReady P.side P.table P.mark P.note_of N.plans N.words N.books run }
-    requires words { AreWordsOf P.words_of N.plans N.words N.result_words words.now }
-    requires queues { queues.now ≡ N.queues }
-    requires many { length N.queues ≡ length N.plans.plans }
+    requires { IsReady P.side P.table P.mark P.note_of N.plans N.words N.books run }
     ensures { IfSome result (IsReady P.side P.table P.mark P.note_of N.plans N.words N.books) }
 {
     let mut run = run;
     run.holds();
     let stream = run.stream();
     let order = run.order();
-    let own = words_of::<N, P>(words, stream);
+    let own = ground.words_of(stream);
     if run.at_end() {
-        let mut hall = hall.lock(rt);
+        let mut hall = ground.hall.lock(rt);
         let before = (hall.finishes(stream), hall.greatest(stream));
         hall.finish(run, own);
         let finished = show_end(rt, &mut hall, stream, before, shift);
-        let next = next(rt, &mut hall, queues, shift);
+        let next = next(rt, ground, &mut hall, shift);
         MutexGuard::unlock(hall);
         shift.ring();
-        tell_finish(gate, finished, stream, order);
+        tell_finish(ground.gate, finished, stream, order);
         return next;
     }
-    gate.reach(Place::BeforeFetch { stream });
+    ground.gate.reach(Place::BeforeFetch { stream });
     let fetched = run.fetch_batch(own);
-    gate.reach(Place::AfterFetch { stream });
-    let mut hall = hall.lock(rt);
+    ground.gate.reach(Place::AfterFetch { stream });
+    let mut hall = ground.hall.lock(rt);
     let before = (hall.finishes(stream), hall.greatest(stream));
     let on = match fetched {
         Ok(batch) => hall.commit(run, own, batch),
@@ -157,31 +142,25 @@ fn advance<N: Naming, P: NamedSide, H: Hook, R: Wait, G: Gate>(
         }
     };
     let finished = show_end(rt, &mut hall, stream, before, shift);
-    let next = on_or_next(rt, &mut hall, queues, shift, on);
+    let next = on_or_next(rt, ground, &mut hall, shift, on);
     MutexGuard::unlock(hall);
     shift.ring();
-    tell_finish(gate, finished, stream, order);
+    tell_finish(ground.gate, finished, stream, order);
     next
 }
 
 // A run goes on until it is at home again, and then the next one, until the thread takes no more.
 fn run_on<N: Naming, P: NamedSide, H: Hook, R: Wait, G: Gate>(
     rt: &R,
-    hall: &Mutex<Hall<N, P, H>>,
-    words: &[P::Words],
-    queues: &[FlushQueue],
-    gate: &G,
+    ground: &Ground<'_, N, P, H, G>,
     shift: &mut Shift<'_>,
     run: Run<N, P>,
 )
-    requires ready { IsReady P.side P.table P.mark P.note_of N.plans N.words N.books run }
-    requires words { AreWordsOf P.words_of N.plans N.words N.result_words words.now }
-    requires queues { queues.now ≡ N.queues }
-    requires many { length N.queues ≡ length N.plans.plans }
+    requires { IsReady P.side P.table P.mark P.note_of N.plans N.words N.books run }
 {
     let mut out = run;
     for _ in rt.forever() {
-        match advance(rt, hall, words, queues, gate, shift, out) {
+        match advance(rt, ground, shift, out) {
             Some(on) => out = on,
             None => return,
         }
@@ -196,24 +175,17 @@ fn run_on<N: Naming, P: NamedSide, H: Hook, R: Wait, G: Gate>(
 /// - then, with no lock, bells are rung and the gate is told of the finish
 pub(crate) fn serve_on<N: Naming, P: NamedSide, H: Hook, R: Wait, G: Gate>(
     rt: &R,
-    hall: &Mutex<Hall<N, P, H>>,
-    words: &[P::Words],
-    queues: &[FlushQueue],
-    gate: &G,
+    ground: &Ground<'_, N, P, H, G>,
     shift: Shift<'_>,
-) -> Leave
-    requires words { AreWordsOf P.words_of N.plans N.words N.result_words words.now }
-    requires queues { queues.now ≡ N.queues }
-    requires many { length N.queues ≡ length N.plans.plans }
-{
+) -> Leave {
     let mut shift = shift;
     shift.begin();
-    let mut guard = hall.lock(rt);
-    let first = next(rt, &mut guard, queues, &mut shift);
+    let mut guard = ground.hall.lock(rt);
+    let first = next(rt, ground, &mut guard, &mut shift);
     MutexGuard::unlock(guard);
     shift.ring();
     if let Some(run) = first {
-        run_on(rt, hall, words, queues, gate, &mut shift, run);
+        run_on(rt, ground, &mut shift, run);
     }
     shift.end()
 }

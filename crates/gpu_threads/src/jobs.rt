@@ -1,27 +1,21 @@
 //! What each thread of a run does.
-ghost use Rattle.std.specs.Prelude.{◌≡◌, length};
+ghost use Rattle.std.specs.Prelude.{length};
 ghost use Rattle.sync_core.specs.Standing.{IsKnown};
-ghost use Rattle.gpu_house.specs.Names.{table_at};
 ghost use Rattle.gpu_threads.specs.Clients.{IsClientOf, IsSameClient, AreClientsOf};
-ghost use Rattle.gpu_threads.specs.Rows.{AreShared};
 
 use crate::chain::serve_on;
 use crate::client::{Act, Client};
 use crate::full_pass::FullPass;
+use crate::ground::Ground;
 use crate::pace::Pace;
-use crate::rows::words_of;
 use crate::shift::Leave;
 use crate::signals::{OR_TOKEN, ROOM, Signals};
 use crate::turns::{is_ended, turn};
-use flush_queue::FlushQueue;
-use gpu_hall::Hall;
 use gpu_house::Naming;
 use gpu_io::Gate;
 use gpu_word::Memory;
-use result_words::ResultWords;
-use shm_words::SharedWords;
 use std::alloc::Global;
-use std::sync::{Mutex, Wait};
+use std::sync::Wait;
 use std::thread;
 use std::thread::Threads;
 use wait_hooks::Hook;
@@ -30,16 +24,11 @@ use wait_hooks::Hook;
 // rung, which it was where it got what it waits for.
 fn wait<N: Naming, H: Hook, R: Wait, G: Gate>(
     rt: &R,
-    hall: &Mutex<Hall<N, FullPass, H>>,
-    words: &[(SharedWords, ResultWords)],
-    queues: &[FlushQueue],
-    gate: &G,
+    ground: &Ground<'_, N, FullPass, H, G>,
     pace: &mut Pace<'_>,
-) -> Leave
-    requires shared { AreShared N.plans N.words N.result_words N.queues words.now queues.now }
-{
+) -> Leave {
     let leave = if pace.may_serve() {
-        serve_on(rt, hall, words, queues, gate, pace.shift())
+        serve_on(rt, ground, pace.shift())
     } else {
         Leave::NothingRunnable
     };
@@ -51,24 +40,20 @@ fn wait<N: Naming, H: Hook, R: Wait, G: Gate>(
 // lost or closed: the answer says so.
 fn pause<N: Naming, H: Hook, R: Wait, G: Gate>(
     rt: &R,
-    hall: &Mutex<Hall<N, FullPass, H>>,
-    words: &[(SharedWords, ResultWords)],
-    queues: &[FlushQueue],
-    gate: &G,
+    ground: &Ground<'_, N, FullPass, H, G>,
     stream: u32,
     needs: u64,
     pace: &mut Pace<'_>,
 ) -> bool
-    requires known { IsKnown (length N.plans.plans) stream }
-    requires shared { AreShared N.plans N.words N.result_words N.queues words.now queues.now }
+    requires { IsKnown (length N.plans.plans) stream }
 {
     if pace.asks(needs) {
         return false;
     }
-    if pace.may_be_over() && is_ended(rt, stream, hall) {
+    if pace.may_be_over() && is_ended(rt, ground, stream) {
         return true;
     }
-    wait(rt, hall, words, queues, gate, pace);
+    wait(rt, ground, pace);
     false
 }
 
@@ -82,29 +67,23 @@ fn needs_of(client: &Client, act: Act) -> u64 {
     }
 }
 
-// A client has turns until it has come to its end. While it waits it serves, so that it comes to its end alone.
-fn play_on<N: Naming, H: Hook, R: Wait, G: Gate>(
+/// The client of a stream has turns until it has come to its end. While it waits it serves, so that it comes to its end alone.
+pub(crate) fn play<N: Naming, H: Hook, R: Wait, G: Gate>(
     rt: &R,
-    hall: &Mutex<Hall<N, FullPass, H>>,
-    own: &(SharedWords, ResultWords),
-    words: &[(SharedWords, ResultWords)],
-    queues: &[FlushQueue],
-    gate: &G,
+    ground: &Ground<'_, N, FullPass, H, G>,
     signals: &Signals,
     client: &mut Client,
 )
-    requires client { IsClientOf N.plans N.words N.result_words N.queues client.old }
-    requires own { own.now.0 ≡ table_at N.words client.old.stream }
-    requires results { own.now.1 ≡ table_at N.result_words client.old.stream }
-    requires shared { AreShared N.plans N.words N.result_words N.queues words.now queues.now }
+    requires { IsClientOf N.plans N.words N.result_words N.queues client.old }
     ensures { IsSameClient client.old client.new }
 {
-    let mut pace = Pace::of_client(signals, client.stream());
+    let stream = client.stream();
+    let own = ground.words_of(stream);
+    let mut pace = Pace::of_client(signals, stream);
     for _ in rt.forever() {
         pace.listen();
-        let stream = client.stream();
         let posted = client.posted();
-        match turn(rt, client, hall, own, queues, gate) {
+        match turn(rt, ground, own, client) {
             Act::Went => pace.go(client.posted() != posted),
             Act::End => {
                 pace.end();
@@ -112,7 +91,7 @@ fn play_on<N: Naming, H: Hook, R: Wait, G: Gate>(
             }
             act => {
                 let needs = needs_of(client, act);
-                if pause(rt, hall, words, queues, gate, stream, needs, &mut pace) {
+                if pause(rt, ground, stream, needs, &mut pace) {
                     return;
                 }
             }
@@ -120,40 +99,17 @@ fn play_on<N: Naming, H: Hook, R: Wait, G: Gate>(
     }
 }
 
-/// The client of a stream has turns until it has come to its end.
-pub(crate) fn play<N: Naming, H: Hook, R: Wait, G: Gate>(
-    rt: &R,
-    hall: &Mutex<Hall<N, FullPass, H>>,
-    words: &[(SharedWords, ResultWords)],
-    queues: &[FlushQueue],
-    gate: &G,
-    signals: &Signals,
-    client: &mut Client,
-)
-    requires client { IsClientOf N.plans N.words N.result_words N.queues client.old }
-    requires shared { AreShared N.plans N.words N.result_words N.queues words.now queues.now }
-    ensures { IsSameClient client.old client.new }
-{
-    let own = words_of::<N, FullPass>(words, client.stream());
-    play_on(rt, hall, own, words, queues, gate, signals, client);
-}
-
 // A worker serves until nothing is left to do for any stream.
 fn serve<N: Naming, H: Hook, R: Wait, G: Gate>(
     rt: &R,
-    hall: &Mutex<Hall<N, FullPass, H>>,
-    words: &[(SharedWords, ResultWords)],
-    queues: &[FlushQueue],
-    gate: &G,
+    ground: &Ground<'_, N, FullPass, H, G>,
     signals: &Signals,
     worker: usize,
-)
-    requires shared { AreShared N.plans N.words N.result_words N.queues words.now queues.now }
-{
+) {
     let mut pace = Pace::of_worker(signals, worker);
     for _ in rt.forever() {
         pace.listen();
-        if wait(rt, hall, words, queues, gate, &mut pace) == Leave::AllOver {
+        if wait(rt, ground, &mut pace) == Leave::AllOver {
             return;
         }
     }
@@ -165,17 +121,8 @@ pub(crate) fn play_all<
     H: Hook + Send,
     G: Gate + Sync,
     R: Threads + Wait + Sync,
->(
-    rt: &R,
-    hall: &Mutex<Hall<N, FullPass, H>>,
-    words: &[(SharedWords, ResultWords)],
-    queues: &[FlushQueue],
-    gate: &G,
-    signals: &Signals,
-    clients: &mut [Client],
-)
-    requires clients { AreClientsOf N.plans N.words N.result_words N.queues clients.old }
-    requires shared { AreShared N.plans N.words N.result_words N.queues words.now queues.now }
+>(rt: &R, ground: &Ground<'_, N, FullPass, H, G>, signals: &Signals, clients: &mut [Client])
+    requires { AreClientsOf N.plans N.words N.result_words N.queues clients.old }
     ensures { AreClientsOf N.plans N.words N.result_words N.queues clients.new }
 {
     let threads = clients.len().max(1);
@@ -184,14 +131,13 @@ pub(crate) fn play_all<
         clients,
         threads,
         &|_, client: &mut Client|
-            requires { IsClientOf N.plans N.words N.result_words N.queues client.now
-                × AreShared N.plans N.words N.result_words N.queues words.now queues.now }
+            requires { IsClientOf N.plans N.words N.result_words N.queues client.now }
             ensures { IsSameClient client.entry.now client.exit.now }
-        { play(rt, hall, words, queues, gate, signals, client) },
+        { play(rt, ground, signals, client) },
     );
 }
 
-/// A given number of workers serves, each on a thread of its own where there is one.
+/// The workers serve, each on a thread of its own where there is one.
 ///
 /// # Errors
 ///
@@ -204,22 +150,14 @@ pub(crate) fn serve_all<
 >(
     rt: &R,
     alloc: Global,
-    workers: u32,
-    hall: &Mutex<Hall<N, FullPass, H>>,
-    words: &[(SharedWords, ResultWords)],
-    queues: &[FlushQueue],
-    gate: &G,
+    ground: &Ground<'_, N, FullPass, H, G>,
     signals: &Signals,
-) -> Result<(), Memory>
-    requires { AreShared N.plans N.words N.result_words N.queues words.now queues.now }
-{
+) -> Result<(), Memory> {
     thread::map_indices(
         rt,
         alloc,
-        workers as usize,
-        &|worker: usize|
-            requires { AreShared N.plans N.words N.result_words N.queues words.now queues.now }
-        { serve(rt, hall, words, queues, gate, signals, worker) },
+        signals.workers(),
+        &|worker: usize| { serve(rt, ground, signals, worker) },
     )?;
     Ok(())
 }

@@ -1,9 +1,10 @@
 //! Runs of whole scripts on threads: a client for each stream, workers, and viewers.
 //!
 //! What the contracts say:
-//! - `run_threads` runs any script with 1 to 8 workers and up to 4 viewers. On Ok:
+//! - `run_threads` runs any script with 1 to 8 workers and up to 4 viewers. On Ok it gives a `ThreadedRun`, of which
+//!   `IsThreadedRun` says:
 //!   - the journal of the report is legal (`legal`) and complete (`complete`);
-//!   - the report has the plans and the base of the callback's marks;
+//!   - the report has the plans and the base of the callback's marks (`plans`, `based`);
 //!   - beside it is what the client of each stream read: one value for each dump of its plan, or none where the stream is
 //!     lost.
 //! - Each value may be told of its dump (`dumps`). It is that of its result place after a prefix of the journal. In that
@@ -11,6 +12,8 @@
 //!   went on no clause says.
 //! - Each viewer has 17 looks (`looks`). Each tells a number of first events of the journal and the sum of all texels that
 //!   these leave. The number does not fall from look to look, and the last look is of all events.
+//! - A `Ground` is what the threads of a run share. Its type keeps that the words and the queues are those of the run
+//!   (`AreShared`).
 //! - `client_turn` gives back a client of the same stream, words, plan, queue and result words. Its answers:
 //!   - Went only where it did one action, posted the flush that it held, or read the dump that was due;
 //!   - Waiting only where its await did not pass, it holds a flush that the queue did not take, too few finishes were
@@ -44,14 +47,14 @@
 //! - A client's note is posted in the turn that makes it. Only one for which the queue had no room waits for the next turn.
 //! - After the joins each client has a turn in every round. A stream that is lost prints no dumps, whatever its client has
 //!   read.
-//! - Looks come before the dumps in the answer, in the order of the viewers. No clause says which number of a flush the
-//!   gate hears: a gate changes nothing of a run.
+//! - No clause says which number of a flush the gate hears: a gate changes nothing of a run.
 #![tactic(auto)]
 
 mod bell;
 mod chain;
 mod client;
 mod full_pass;
+mod ground;
 mod jobs;
 mod over;
 mod pace;
@@ -61,6 +64,7 @@ mod rows;
 mod serving;
 mod shift;
 mod signals;
+mod threaded_run;
 mod threads;
 mod turns;
 mod views;
@@ -68,6 +72,8 @@ mod watch;
 
 pub use client::Client;
 pub use full_pass::FullPass;
+pub use ground::Ground;
 pub use serving::{Turn, serve_turn};
-pub use threads::run_threads;
+pub use threaded_run::ThreadedRun;
+pub use threads::{Team, run_threads};
 pub use turns::{ClientTurn, client_turn};

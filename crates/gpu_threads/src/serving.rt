@@ -1,14 +1,11 @@
 //! One turn of a worker.
-ghost use Rattle.std.specs.Prelude.{◌≡◌, length};
-ghost use Rattle.gpu_threads.specs.Rows.{AreWordsOf};
-
 use crate::chain::serve_on;
+use crate::ground::Ground;
 use crate::shift::{Leave, Shift};
-use flush_queue::FlushQueue;
-use gpu_hall::{Hall, NamedSide};
+use gpu_hall::NamedSide;
 use gpu_house::Naming;
 use gpu_io::Gate;
-use std::sync::{Mutex, Wait};
+use std::sync::Wait;
 use wait_hooks::Hook;
 
 /// What a turn of a worker came to.
@@ -26,16 +23,9 @@ pub enum Turn {
 /// - after a finish or a loss viewers are shown the whole journal, before the gate hears of the finish
 pub fn serve_turn<N: Naming, P: NamedSide, H: Hook, R: Wait, G: Gate>(
     rt: &R,
-    hall: &Mutex<Hall<N, P, H>>,
-    words: &[P::Words],
-    queues: &[FlushQueue],
-    gate: &G,
-) -> Turn
-    requires words { AreWordsOf P.words_of N.plans N.words N.result_words words.now }
-    requires queues { queues.now ≡ N.queues }
-    requires many { length N.queues ≡ length N.plans.plans }
-{
-    match serve_on(rt, hall, words, queues, gate, Shift::of_one_turn()) {
+    ground: &Ground<'_, N, P, H, G>,
+) -> Turn {
+    match serve_on(rt, ground, Shift::of_one_turn()) {
         Leave::Enough => Turn::Ran,
         Leave::NothingRunnable => Turn::NothingRunnable,
         Leave::AllOver => Turn::NothingRunnable,

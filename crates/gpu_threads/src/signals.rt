@@ -101,6 +101,11 @@ impl Signals {
         Some(padded)
     }
 
+    /// How many workers there are.
+    pub(crate) fn workers(&self) -> usize {
+        self.bells.len().saturating_sub(self.streams.len())
+    }
+
     /// The number of a worker's bell. Workers are counted from 0.
     pub(crate) fn bell_of_worker(&self, worker: usize) -> usize {
         self.streams.len().saturating_add(worker).saturating_add(1)

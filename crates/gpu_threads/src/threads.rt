@@ -1,62 +1,77 @@
 //! The threads of a run.
 ghost use Rattle.std.specs.Prelude.{◌≡◌, ◌≤◌, length, IfOk, IfSome, IsTrue};
 ghost use Rattle.std.specs.List.{All};
-ghost use Rattle.gpu_journal.specs.Legal.{IsLegal};
 ghost use Rattle.gpu_journal.specs.Complete.{IsComplete};
-ghost use Rattle.gpu_journal.specs.Output.{streams_of};
-ghost use Rattle.house_core.specs.Core.{names_of};
-ghost use Rattle.gpu_threads.specs.Dumps.{AreAllRead, IsThrough};
-ghost use Rattle.gpu_threads.specs.Clients.{AreClientsOf};
-ghost use Rattle.gpu_threads.specs.Making.{AreFreshFor};
 ghost use Rattle.gpu_hall.specs.Views.{IsFreshView};
-ghost use Rattle.gpu_threads.specs.Rows.{AreShared, shared_in, results_in};
-ghost use Rattle.gpu_threads.specs.Views.{AreAllLooks, HasNotLooked, HasWatched, HaveWatched};
+ghost use Rattle.gpu_threads.specs.Dumps.{IsThrough};
+ghost use Rattle.gpu_threads.specs.Clients.{AreClientsOf};
+ghost use Rattle.gpu_threads.specs.Making.{AreFreshFor, AreNamed};
+ghost use Rattle.gpu_threads.specs.Runs.{IsThreadedRun};
+ghost use Rattle.gpu_threads.specs.Views.{HasNotLooked, HasWatched, HaveWatched};
 
 use crate::client::Client;
 use crate::full_pass::FullPass;
+use crate::ground::Ground;
 use crate::jobs::{play_all, serve_all};
 use crate::over::all_over;
 use crate::parts::Parts;
 use crate::reading::{all_read, all_through};
-use crate::rows::words_of;
 use crate::serving::serve_turn;
 use crate::signals::Signals;
+use crate::threaded_run::ThreadedRun;
 use crate::turns::turn;
 use crate::views::{Views, end_writer, show_all, watch_all};
 use crate::watch::Watch;
-use flush_queue::FlushQueue;
 use gpu_hall::Hall;
-use gpu_house::{House, Naming, Report};
+use gpu_house::{House, Naming};
 use gpu_io::Gate;
 use gpu_plan::Plans;
-use gpu_run::Dumps;
 use gpu_word::Memory;
-use live_view::Look;
-use result_words::ResultWords;
-use shm_words::SharedWords;
 use std::alloc::Global;
 use std::marker::Brand;
-use std::sync::{Mutex, Wait};
+use std::sync::Wait;
 use std::thread;
 use std::thread::Threads;
 use wait_hooks::Hook;
 
+/// How many threads serve in a run, and how many look.
+#[derive(Clone, Copy, Debug, PartialEq, Eq)]
+pub struct Team {
+    /// The workers.
+    pub workers: u32,
+    /// The viewers.
+    pub viewers: u32,
+}
+
+// What a run begins with.
+//
+// It is not `Drop`, as no writer of a view is.
+struct Setup<H: Hook> {
+    plans: Plans,
+    hook: H,
+    parts: Parts,
+    views: Views,
+}
+
+// The clients and the viewers of a run.
+#[derive(Drop)]
+struct Crew {
+    clients: Vec<Client>,
+    watches: Vec<Watch>,
+}
+
 // Each client has a turn.
 fn turn_each<N: Naming, H: Hook, R: Wait, G: Gate>(
     rt: &R,
-    hall: &Mutex<Hall<N, FullPass, H>>,
-    words: &[(SharedWords, ResultWords)],
-    queues: &[FlushQueue],
-    gate: &G,
+    ground: &Ground<'_, N, FullPass, H, G>,
     clients: &mut [Client],
 )
-    requires clients { AreClientsOf N.plans N.words N.result_words N.queues clients.old }
-    requires shared { AreShared N.plans N.words N.result_words N.queues words.now queues.now }
+    requires { AreClientsOf N.plans N.words N.result_words N.queues clients.old }
     ensures { AreClientsOf N.plans N.words N.result_words N.queues clients.new }
 {
     for client in clients.iter_mut() {
-        let own = words_of::<N, FullPass>(words, client.stream());
-        turn(rt, client, hall, own, queues, gate);
+        let own = ground.words_of(client.stream());
+        turn(rt, ground, own, client);
     }
 }
 
@@ -72,31 +87,28 @@ fn all_done<N: Naming, H: Hook>(hall: &Hall<N, FullPass, H>, clients: &[Client])
     all_through(hall, clients)
 }
 
-// Plays and serves what is left, with the hall in hand, and gives it back once nothing is left to do: what the clients saw under a lock
-// is not known here. Each round every client has a turn, and a run is served.
+// Plays and serves what is left, and gives the hall back once nothing is left to do: what the clients saw under a lock is not
+// known here. Each round every client has a turn, and a run is served.
 fn play_left<N: Naming, H: Hook, R: Wait, G: Gate>(
     rt: &R,
-    hall: Hall<N, FullPass, H>,
-    words: &[(SharedWords, ResultWords)],
-    queues: &[FlushQueue],
-    gate: &G,
+    ground: Ground<'_, N, FullPass, H, G>,
     clients: &mut [Client],
 ) -> Hall<N, FullPass, H>
-    requires clients { AreClientsOf N.plans N.words N.result_words N.queues clients.old }
-    requires shared { AreShared N.plans N.words N.result_words N.queues words.now queues.now }
+    requires { AreClientsOf N.plans N.words N.result_words N.queues clients.old }
     ensures complete { IsComplete N.plans result.past }
     ensures clients { AreClientsOf N.plans N.words N.result_words N.queues clients.new }
     ensures through { All (IsThrough N.plans result.past) clients.new }
 {
-    let mut hall = hall;
+    let (words, queues, gate) = (ground.words, ground.queues, ground.gate);
+    let mut ground = ground;
     for _ in rt.forever() {
+        let hall = ground.into_hall();
         if all_done(&hall, clients) {
             return hall;
         }
-        let lock = Mutex::new(hall);
-        turn_each(rt, &lock, words, queues, gate, clients);
-        serve_turn(rt, &lock, words, queues, gate);
-        hall = lock.into_inner();
+        ground = Ground::new(hall, words, queues, gate);
+        turn_each(rt, &ground, clients);
+        serve_turn(rt, &ground);
     }
     unreachable!()
 }
@@ -106,28 +118,20 @@ fn play_left<N: Naming, H: Hook, R: Wait, G: Gate>(
 fn run_clients<N: Naming + Send + Sync, H: Hook + Send, G: Gate + Sync, R: Threads + Wait + Sync>(
     rt: &R,
     alloc: Global,
-    workers: u32,
-    hall: &Mutex<Hall<N, FullPass, H>>,
-    words: &[(SharedWords, ResultWords)],
-    queues: &[FlushQueue],
-    gate: &G,
+    ground: &Ground<'_, N, FullPass, H, G>,
     signals: &Signals,
     clients: &mut [Client],
 ) -> Result<(), Memory>
-    requires clients { AreClientsOf N.plans N.words N.result_words N.queues clients.old }
-    requires shared { AreShared N.plans N.words N.result_words N.queues words.now queues.now }
+    requires { AreClientsOf N.plans N.words N.result_words N.queues clients.old }
     ensures { AreClientsOf N.plans N.words N.result_words N.queues clients.new }
 {
     let (served, _) = thread::join_mut(
         rt,
+        &mut || serve_all(rt, alloc, ground, signals),
         &mut ||
-            requires { AreShared N.plans N.words N.result_words N.queues words.now queues.now }
-        { serve_all(rt, alloc, workers, hall, words, queues, gate, signals) },
-        &mut ||
-            requires { AreClientsOf N.plans N.words N.result_words N.queues clients.now
-                × AreShared N.plans N.words N.result_words N.queues words.now queues.now }
+            requires { AreClientsOf N.plans N.words N.result_words N.queues clients.now }
             ensures { AreClientsOf N.plans N.words N.result_words N.queues clients.exit.now }
-        { play_all(rt, hall, words, queues, gate, signals, clients) },
+        { play_all(rt, ground, signals, clients) },
     );
     served
 }
@@ -136,154 +140,88 @@ fn run_clients<N: Naming + Send + Sync, H: Hook + Send, G: Gate + Sync, R: Threa
 fn run_all<N: Naming + Send + Sync, H: Hook + Send, G: Gate + Sync, R: Threads + Wait + Sync>(
     rt: &R,
     alloc: Global,
-    workers: u32,
-    hall: &Mutex<Hall<N, FullPass, H>>,
-    words: &[(SharedWords, ResultWords)],
-    queues: &[FlushQueue],
-    gate: &G,
+    ground: &Ground<'_, N, FullPass, H, G>,
     signals: &Signals,
-    clients: &mut [Client],
-    watches: &mut [Watch],
+    crew: &mut Crew,
 ) -> Result<(), Memory>
-    requires clients { AreClientsOf N.plans N.words N.result_words N.queues clients.old }
-    requires watches { All (HasWatched N.view 0) watches.old }
-    requires shared { AreShared N.plans N.words N.result_words N.queues words.now queues.now }
-    ensures clients { AreClientsOf N.plans N.words N.result_words N.queues clients.new }
-    ensures watched { All (HasWatched N.view 16) watches.new }
+    requires clients { AreClientsOf N.plans N.words N.result_words N.queues crew.old.clients.items }
+    requires watches { All (HasWatched N.view 0) crew.old.watches.items }
+    ensures clients { AreClientsOf N.plans N.words N.result_words N.queues crew.new.clients.items }
+    ensures watched { All (HasWatched N.view 16) crew.new.watches.items }
+    ensures many { length crew.new.watches.items ≡ length crew.old.watches.items }
 {
+    let clients = crew.clients.as_mut_slice();
+    let watches = crew.watches.as_mut_slice();
     let (_, served) = thread::join_mut(
         rt,
         &mut ||
             requires { All HasNotLooked watches.now }
             ensures { HaveWatched 16 watches.entry.now watches.exit.now }
-        { watch_all(rt, gate, watches) },
+        { watch_all(rt, ground.gate, watches) },
         &mut ||
-            requires { AreClientsOf N.plans N.words N.result_words N.queues clients.now
-                × AreShared N.plans N.words N.result_words N.queues words.now queues.now }
+            requires { AreClientsOf N.plans N.words N.result_words N.queues clients.now }
             ensures { AreClientsOf N.plans N.words N.result_words N.queues clients.exit.now }
-        {
-            run_clients(
-                rt, alloc, workers, hall, words, queues, gate, signals, clients,
-            )
-        },
+        { run_clients(rt, alloc, ground, signals, clients) },
     );
     served
 }
 
-// Plays and serves what is left, and shows the viewers the whole journal. It gives what the hall then leaves, what the viewers saw, and
-// what the clients have read.
-fn end<N: Naming, H: Hook, R: Wait, G: Gate>(
+// Runs the crew and the workers, plays and serves what is then left, and shows the viewers the whole journal.
+fn run_over<N: Naming + Send + Sync, H: Hook + Send, G: Gate + Sync, R: Threads + Wait + Sync>(
     rt: &R,
     alloc: Global,
-    hall: Hall<N, FullPass, H>,
-    clients: Vec<Client>,
-    watches: Vec<Watch>,
-    words: &[(SharedWords, ResultWords)],
-    queues: &[FlushQueue],
-    gate: &G,
-) -> Result<(Report, Vec<Vec<Look>>, Vec<Dumps>), Memory>
-    requires clients { AreClientsOf N.plans N.words N.result_words N.queues clients.items }
-    requires watches { All (HasWatched N.view 16) watches.items }
-    requires shared { AreShared N.plans N.words N.result_words N.queues words.now queues.now }
-    ensures plans { IfOk result (λ ran. ran.0.plans ≡ N.plans) }
-    ensures base { IfOk result (λ ran. ran.0.base ≡ N.base) }
-    ensures legal { IfOk result (λ ran. IsLegal N.plans ran.0.past) }
-    ensures complete { IfOk result (λ ran. IsComplete N.plans ran.0.past) }
-    ensures looks { IfOk result
-        (λ ran. AreAllLooks N.plans ran.0.past (length watches.items) ran.1.items) }
-    ensures dumps { IfOk result
-        (λ ran. AreAllRead N.plans ran.0.past (streams_of N.plans) ran.2.items) }
+    ground: Ground<'_, N, FullPass, H, G>,
+    signals: &Signals,
+    crew: Crew,
+) -> Result<ThreadedRun, Memory>
+    requires clients { AreClientsOf N.plans N.words N.result_words N.queues crew.clients.items }
+    requires watches { All (HasWatched N.view 0) crew.watches.items }
+    ensures { IfOk result (IsThreadedRun N.plans N.base (length crew.watches.items)) }
 {
+    let mut crew = crew;
+    if run_all(rt, alloc, &ground, signals, &mut crew).is_err() {
+        ground.into_hall().end(rt);
+        return Err(Memory);
+    }
+    let words = ground.words;
+    let Crew { clients, watches } = crew;
     let mut clients = clients;
-    let mut hall = play_left(rt, hall, words, queues, gate, &mut clients);
+    let mut hall = play_left(rt, ground, &mut clients);
     hall.holds();
     let Ok(dumps) = all_read(alloc, &mut hall, words, clients) else {
         hall.end(rt);
         return Err(Memory);
     };
     let (report, looks) = show_all(rt, alloc, hall, watches)?;
-    Ok((report, looks, dumps))
+    Ok(ThreadedRun {
+        report,
+        looks,
+        dumps,
+    })
 }
 
-// Runs the clients, the workers and the viewers, and then does what is left.
-fn run_hall<N: Naming + Send + Sync, H: Hook + Send, G: Gate + Sync, R: Threads + Wait + Sync>(
-    rt: &R,
-    alloc: Global,
-    workers: u32,
-    hall: Hall<N, FullPass, H>,
-    clients: Vec<Client>,
-    watches: Vec<Watch>,
-    words: &[(SharedWords, ResultWords)],
-    queues: &[FlushQueue],
-    gate: &G,
-    signals: &Signals,
-) -> Result<(Report, Vec<Vec<Look>>, Vec<Dumps>), Memory>
-    requires clients { AreClientsOf N.plans N.words N.result_words N.queues clients.items }
-    requires watches { All (HasWatched N.view 0) watches.items }
-    requires shared { AreShared N.plans N.words N.result_words N.queues words.now queues.now }
-    ensures plans { IfOk result (λ ran. ran.0.plans ≡ N.plans) }
-    ensures base { IfOk result (λ ran. ran.0.base ≡ N.base) }
-    ensures legal { IfOk result (λ ran. IsLegal N.plans ran.0.past) }
-    ensures complete { IfOk result (λ ran. IsComplete N.plans ran.0.past) }
-    ensures looks { IfOk result
-        (λ ran. AreAllLooks N.plans ran.0.past (length watches.items) ran.1.items) }
-    ensures dumps { IfOk result
-        (λ ran. AreAllRead N.plans ran.0.past (streams_of N.plans) ran.2.items) }
-{
-    let mut clients = clients;
-    let mut watches = watches;
-    let lock = Mutex::new(hall);
-    let served = run_all(
-        rt,
-        alloc,
-        workers,
-        &lock,
-        words,
-        queues,
-        gate,
-        signals,
-        &mut clients,
-        &mut watches,
-    );
-    let hall = lock.into_inner();
-    if served.is_err() {
-        hall.end(rt);
-        return Err(Memory);
-    }
-    end(rt, alloc, hall, clients, watches, words, queues, gate)
-}
-
-// What the hall over these parts leaves once nothing is left to do, what its viewers saw, and what the clients have read. N names the
-// plans, the base and the tables.
+// Runs the hall over a setup of which N names the plans, the base, the tables and the view.
 fn run_named<N: Naming + Send + Sync, H: Hook + Send, G: Gate + Sync, R: Threads + Wait + Sync>(
     rt: &R,
     alloc: Global,
-    plans: Plans,
-    workers: u32,
-    hook: H,
-    parts: Parts,
-    views: Views,
+    setup: Setup<H>,
     gate: &G,
     signals: &Signals,
-) -> Result<(Report, Vec<Vec<Look>>, Vec<Dumps>), Memory>
-    requires plans { plans ≡ N.plans }
-    requires base { H.base hook ≡ N.base }
-    requires fresh { AreFreshFor N.plans.plans parts }
-    requires words { shared_in parts.words.items ≡ N.words }
-    requires results { results_in parts.words.items ≡ N.result_words }
-    requires books { names_of parts.books.items ≡ N.books }
-    requires queues { parts.queues.items ≡ N.queues }
-    requires writer { IfSome views.writer (IsFreshView N.view) }
-    requires watches { All (HasWatched N.view 0) views.watches.items }
-    ensures plans { IfOk result (λ ran. ran.0.plans ≡ N.plans) }
-    ensures base { IfOk result (λ ran. ran.0.base ≡ N.base) }
-    ensures legal { IfOk result (λ ran. IsLegal N.plans ran.0.past) }
-    ensures complete { IfOk result (λ ran. IsComplete N.plans ran.0.past) }
-    ensures looks { IfOk result
-        (λ ran. AreAllLooks N.plans ran.0.past (length views.watches.items) ran.1.items) }
-    ensures dumps { IfOk result
-        (λ ran. AreAllRead N.plans ran.0.past (streams_of N.plans) ran.2.items) }
+) -> Result<ThreadedRun, Memory>
+    requires plans { setup.plans ≡ N.plans }
+    requires base { H.base setup.hook ≡ N.base }
+    requires fresh { AreFreshFor N.plans.plans setup.parts }
+    requires named { AreNamed N.words N.result_words N.books N.queues setup.parts }
+    requires writer { IfSome setup.views.writer (IsFreshView N.view) }
+    requires watches { All (HasWatched N.view 0) setup.views.watches.items }
+    ensures { IfOk result (IsThreadedRun N.plans N.base (length setup.views.watches.items)) }
 {
+    let Setup {
+        plans,
+        hook,
+        parts,
+        views,
+    } = setup;
     let Parts {
         words,
         clients,
@@ -298,16 +236,12 @@ fn run_named<N: Naming + Send + Sync, H: Hook + Send, G: Gate + Sync, R: Threads
         end_writer(rt, writer);
         return Err(Memory);
     };
-    let hall = Hall::make(house, takers, writer);
-    run_hall(
-        rt, alloc, workers, hall, clients, watches, &words, &queues, gate, signals,
-    )
+    let ground = Ground::new(Hall::make(house, takers, writer), &words, &queues, gate);
+    run_over(rt, alloc, ground, signals, Crew { clients, watches })
 }
 
 /// Runs a script on threads: one for the client of each stream, one for each of 1 to 8 workers, and one for each of up to 4
-/// viewers. The journal that the report has is legal and complete. Beside it is what each viewer saw: 16 looks while the run
-/// went on, and one more at the whole journal. Then come the dumps of each stream, in order: what its client read of its
-/// results while the run went on. A lost stream has none.
+/// viewers. The journal that the report has is legal and complete.
 ///
 /// A waiting client serves too, and a worker ends once no stream is open; so the run also ends where a machine does one job after the
 /// other. Where memory is wanted for a stream alone, that stream is lost, and its journal says so.
@@ -319,26 +253,23 @@ pub fn run_threads<H: Hook + Send, G: Gate + Sync, R: Threads + Wait + Sync>(
     rt: &R,
     alloc: Global,
     plans: Plans,
-    workers: u32,
-    views: u32,
+    team: Team,
     hook: H,
     gate: &G,
-) -> Result<(Report, Vec<Vec<Look>>, Vec<Dumps>), Memory>
-    requires some_workers { 1 ≤ workers }
-    requires few_workers { workers ≤ 8 }
-    requires few_views { views ≤ 4 }
-    ensures plans { IfOk result (λ ran. ran.0.plans ≡ plans) }
-    ensures base { IfOk result (λ ran. ran.0.base ≡ H.base hook) }
-    ensures legal { IfOk result (λ ran. IsLegal plans ran.0.past) }
-    ensures complete { IfOk result (λ ran. IsComplete plans ran.0.past) }
-    ensures looks { IfOk result (λ ran. AreAllLooks plans ran.0.past views ran.1.items) }
-    ensures dumps { IfOk result
-        (λ ran. AreAllRead plans ran.0.past (streams_of plans) ran.2.items) }
+) -> Result<ThreadedRun, Memory>
+    requires some_workers { 1 ≤ team.workers }
+    requires few_workers { team.workers ≤ 8 }
+    requires few_viewers { team.viewers ≤ 4 }
+    ensures { IfOk result (IsThreadedRun plans (H.base hook) team.viewers) }
 {
-    let signals = Signals::make(alloc, plans.count(), workers)?;
+    let signals = Signals::make(alloc, plans.count(), team.workers)?;
     let parts = Parts::make(rt, alloc, &plans)?;
-    let viewers = Views::make(rt, alloc, views)?;
-    run_named::<Brand, H, G, R>(
-        rt, alloc, plans, workers, hook, parts, viewers, gate, &signals,
-    )
+    let views = Views::make(rt, alloc, team.viewers)?;
+    let setup = Setup {
+        plans,
+        hook,
+        parts,
+        views,
+    };
+    run_named::<Brand, H, G, R>(rt, alloc, setup, gate, &signals)
 }

@@ -5,17 +5,17 @@ ghost use Rattle.sync_core.specs.Standing.{IsKnown};
 ghost use Rattle.gpu_house.specs.Names.{table_at};
 ghost use Rattle.gpu_threads.specs.Clients.{IsClientOf, IsSameClient};
 ghost use Rattle.gpu_threads.specs.Turns.{Turns, TurnsSo};
+ghost use Rattle.gpu_threads.specs.Words.{of_tables};
 
 use crate::client::{Act, Client};
+use crate::ground::Ground;
 use crate::over::is_gone;
-use crate::rows::queue_of;
-use flush_queue::FlushQueue;
-use gpu_hall::{Hall, NamedSide};
+use gpu_hall::NamedSide;
 use gpu_house::{Closing, Naming};
 use gpu_io::Gate;
 use result_words::ResultWords;
 use shm_words::SharedWords;
-use std::sync::{Mutex, MutexGuard, Wait};
+use std::sync::{MutexGuard, Wait};
 use wait_hooks::Hook;
 
 /// What a turn of a client came to.
@@ -31,33 +31,30 @@ pub enum ClientTurn {
 }
 
 /// Whether a client that could not go on has come to its end: its stream is lost or closed.
-pub(crate) fn is_ended<N: Naming, P: NamedSide, H: Hook, R: Wait>(
+pub(crate) fn is_ended<N: Naming, P: NamedSide, H: Hook, R: Wait, G: Gate>(
     rt: &R,
+    ground: &Ground<'_, N, P, H, G>,
     stream: u32,
-    hall: &Mutex<Hall<N, P, H>>,
 ) -> bool
     requires { IsKnown (length N.plans.plans) stream }
 {
-    let hall = hall.lock(rt);
+    let hall = ground.hall.lock(rt);
     let gone = is_gone(&hall, stream);
     MutexGuard::unlock(hall);
     gone
 }
 
 // Closes a stream whose client stands at its Close, once all its flushes are collected. False where it is too early.
-fn close<N: Naming, P: NamedSide, H: Hook, R: Wait>(
+fn close<N: Naming, P: NamedSide, H: Hook, R: Wait, G: Gate>(
     rt: &R,
+    ground: &Ground<'_, N, P, H, G>,
     stream: u32,
-    hall: &Mutex<Hall<N, P, H>>,
-    queues: &[FlushQueue],
 ) -> bool
     requires known { IsKnown (length N.plans.plans) stream }
     requires closes { is_closed (plan_of N.plans stream).actions ≡ true }
-    requires queues { queues.now ≡ N.queues }
-    requires many { length N.queues ≡ length N.plans.plans }
 {
-    let mut hall = hall.lock(rt);
-    hall.collect(rt, queues);
+    let mut hall = ground.hall.lock(rt);
+    hall.collect(rt, ground.queues);
     let closing = hall.close(stream);
     MutexGuard::unlock(hall);
     closing != Closing::Early
@@ -67,26 +64,21 @@ fn close<N: Naming, P: NamedSide, H: Hook, R: Wait>(
 /// comes to its end.
 pub(crate) fn turn<N: Naming, P: NamedSide, H: Hook, R: Wait, G: Gate>(
     rt: &R,
+    ground: &Ground<'_, N, P, H, G>,
+    own: &(SharedWords, ResultWords),
     client: &mut Client,
-    hall: &Mutex<Hall<N, P, H>>,
-    words: &(SharedWords, ResultWords),
-    queues: &[FlushQueue],
-    gate: &G,
 ) -> Act
     requires client { IsClientOf N.plans N.words N.result_words N.queues client.old }
-    requires words { words.now.0 ≡ table_at N.words client.old.stream }
-    requires results { words.now.1 ≡ table_at N.result_words client.old.stream }
-    requires queues { queues.now ≡ N.queues }
-    requires many { length N.queues ≡ length N.plans.plans }
+    requires own { of_tables own.now (table_at N.words client.old.stream)
+        (table_at N.result_words client.old.stream) }
     ensures same { IsSameClient client.old client.new }
     ensures acts { TurnsSo client.old client.new result }
 {
     let stream = client.stream();
-    let queue = queue_of(queues, stream);
-    let act = client.act(rt, words, queue, gate);
+    let act = client.act(rt, own, ground.queue_of(stream), ground.gate);
     match act {
         Act::AtClose => {
-            if close(rt, stream, hall, queues) {
+            if close(rt, ground, stream) {
                 return Act::End;
             }
             Act::AtClose
@@ -102,26 +94,22 @@ pub(crate) fn turn<N: Naming, P: NamedSide, H: Hook, R: Wait, G: Gate>(
 /// - at its Close the lock is taken to order the flushes of all queues and to close the stream
 pub fn client_turn<N: Naming, P: NamedSide, H: Hook, R: Wait, G: Gate>(
     rt: &R,
+    ground: &Ground<'_, N, P, H, G>,
+    own: &(SharedWords, ResultWords),
     client: Client,
-    hall: &Mutex<Hall<N, P, H>>,
-    words: &(SharedWords, ResultWords),
-    queues: &[FlushQueue],
-    gate: &G,
 ) -> ClientTurn
     requires client { IsClientOf N.plans N.words N.result_words N.queues client }
-    requires words { words.now.0 ≡ table_at N.words client.stream }
-    requires results { words.now.1 ≡ table_at N.result_words client.stream }
-    requires queues { queues.now ≡ N.queues }
-    requires many { length N.queues ≡ length N.plans.plans }
+    requires own { of_tables own.now (table_at N.words client.stream)
+        (table_at N.result_words client.stream) }
     ensures { Turns client result }
 {
     let mut client = client;
     let stream = client.stream();
-    match turn(rt, &mut client, hall, words, queues, gate) {
+    match turn(rt, ground, own, &mut client) {
         Act::Went => ClientTurn::Went(client),
         Act::End => ClientTurn::Ended(client),
         Act::Full | Act::NotYet | Act::Unread | Act::AtClose => {
-            if is_ended(rt, stream, hall) {
+            if is_ended(rt, ground, stream) {
                 return ClientTurn::Ended(client);
             }
             ClientTurn::Waiting(client)

@@ -13,7 +13,9 @@ use Rattle.gpu_journal.specs.Output.{streams_of, output}
 use Rattle.gpu_journal.specs.Dumps.{AreDumps, AreDumpsOf, dumps_of}
 use Rattle.run_output.specs.Parts.{dump_read_text, dump_texts, view_texts}
 use Rattle.run_output.specs.Runs.{OutputData, behind_text, run_text}
+use Rattle.gpu_threads.specs.declared.threaded_run.ThreadedRun.{ThreadedRun}
 use Rattle.gpu_threads.specs.Dumps.{AreRead, AreAllRead}
+use Rattle.gpu_threads.specs.Runs.{IsThreadedRun}
 use Rattle.gpu_threads.specs.Views.{AreAllLooks}
 use Rattle.script_main.specs.Runs.{IsViewedRun, IsOutput, run_ending}
 use Rattle.script_main.proofs.Endings.{none_lost}
@@ -70,10 +72,9 @@ threads_output p base viewers run plans based legal complete are looks =
     }
 
 -- the same of the output that is made ready of what a run on threads gives, where there is memory for it
-pub ready_output : {E : Type 0} (p : PlansData) (base viewers : ℕ) (gives : OutputData) (made : Result OutputData E)
-    → gives.report.plans ≡ p → gives.report.base ≡ base → IsLegal p gives.report.past → IsComplete p gives.report.past → AreAllRead p gives.report.past (streams_of p) gives.dumps → AreAllLooks p gives.report.past viewers gives.looks
-    → IfOk made (λ run. run.report ≡ gives.report) → IfOk made (λ run. run.dumps ≡ gives.dumps) → IfOk made (λ run. run.looks ≡ gives.looks)
+pub ready_output : {E : Type 0} (p : PlansData) (base viewers : ℕ) (ran : ThreadedRun) (made : Result OutputData E) → IsThreadedRun p base viewers ran
+    → IfOk made (λ run. run.report ≡ ran.report) → IfOk made (λ run. run.dumps ≡ ran.dumps.items) → IfOk made (λ run. run.looks ≡ ran.looks.items)
     → IfOk made (λ run. IsOutput (IsViewedRun viewers) p base (run_ending (reverse run.report.past)) (run_text run))
-ready_output p base viewers gives (Err e) plans based legal complete read seen reported dumped looked = tt
-ready_output p base viewers gives (Ok run) plans based legal complete read seen reported dumped looked =
-    threads_output p base viewers run (rw reported plans) (rw reported based) (rw reported legal) (rw reported complete) (rw (reported, dumped) read) (rw (reported, looked) seen)
+ready_output p base viewers ran (Err e) is reported dumped looked = tt
+ready_output p base viewers ran (Ok run) is reported dumped looked =
+    threads_output p base viewers run (rw reported is.plans) (rw reported is.based) (rw reported is.legal) (rw reported is.complete) (rw (reported, dumped) is.dumps) (rw (reported, looked) is.looks)

@@ -13,7 +13,7 @@ use crate::command::Command;
 use crate::status::Status;
 use gpu_io::Gate;
 use gpu_plan::{Plans, ScriptFault, parse};
-use gpu_threads::run_threads;
+use gpu_threads::{Team, run_threads};
 use gpu_word::Memory;
 use run_output::RunOutput;
 use std::alloc::Global;
@@ -27,42 +27,40 @@ fn run_plans<H: Hook + Send, G: Gate + Sync, R: Threads + Wait + Sync>(
     rt: &R,
     alloc: Global,
     plans: Plans,
-    workers: u32,
-    views: u32,
+    team: Team,
     gate: &G,
     hook: H,
 ) -> Result<RunOutput, Memory>
-    requires some_workers { 1 ≤ workers }
-    requires few_workers { workers ≤ 8 }
-    requires few_views { views ≤ 4 }
+    requires some_workers { 1 ≤ team.workers }
+    requires few_workers { team.workers ≤ 8 }
+    requires few_viewers { team.viewers ≤ 4 }
     ensures { IfOk result (λ run.
-        IsOutput (IsViewedRun views) plans (H.base hook) (run_ending (reverse run.report.past))
+        IsOutput (IsViewedRun team.viewers) plans (H.base hook) (run_ending (reverse run.report.past))
         (run_text run)) }
 {
-    let (report, looks, dumps) = run_threads(rt, alloc, plans, workers, views, hook, gate)?;
-    RunOutput::make(alloc, report, dumps, looks)
+    let ran = run_threads(rt, alloc, plans, team, hook, gate)?;
+    RunOutput::make(alloc, ran.report, ran.dumps, ran.looks)
 }
 
 // What `run` says of an input with a given number of workers and viewers.
 fn run_answer<H: Hook + Send, G: Gate + Sync, R: Threads + Wait + Sync>(
     rt: &R,
     alloc: Global,
-    workers: u32,
-    views: u32,
+    team: Team,
     input: &[u8],
     gate: &G,
     hook: H,
 ) -> Result<Answer, Memory>
     requires short { length input.now ≤ most_bytes }
-    requires some_workers { 1 ≤ workers }
-    requires few_workers { workers ≤ 8 }
-    requires few_views { views ≤ 4 }
+    requires some_workers { 1 ≤ team.workers }
+    requires few_workers { team.workers ≤ 8 }
+    requires few_viewers { team.viewers ≤ 4 }
     ensures { IfOk result (λ answer.
-        Says (RunOnThreads workers views) (H.base hook) input.now (answer_ending answer)
+        Says (RunOnThreads team.workers team.viewers) (H.base hook) input.now (answer_ending answer)
         (answer_text answer)) }
 {
     match parse(alloc, input) {
-        Ok(plans) => Ok(Answer::Ran(run_plans(rt, alloc, plans, workers, views, gate, hook)?)),
+        Ok(plans) => Ok(Answer::Ran(run_plans(rt, alloc, plans, team, gate, hook)?)),
         Err(ScriptFault::Refused { line, kind }) => Ok(Answer::Found(Status::Refused {
             line,
             kind,
@@ -87,7 +85,11 @@ pub(crate) fn answer_on<H: Hook + Send, G: Gate + Sync, R: Threads + Wait + Sync
 {
     match command {
         Command::RunOnThreads { workers, views } => {
-            run_answer(rt, alloc, workers, views, input, gate, hook)
+            let team = Team {
+                workers,
+                viewers: views,
+            };
+            run_answer(rt, alloc, team, input, gate, hook)
         }
         _ => answer_to(alloc, command, input, hook),
     }

@@ -15,12 +15,12 @@ ghost use Rattle.gpu_hall.specs.Ready.{IsReady};
 ghost use Rattle.gpu_threads.specs.Clients.{ClientData, IsClientOf, IsSameClient};
 ghost use Rattle.gpu_threads.specs.Acts.{HasGone, HasTried};
 ghost use Rattle.gpu_threads.specs.Turns.{HasStopped};
+ghost use Rattle.gpu_threads.specs.Words.{of_tables};
 
-use flush_queue::FlushQueue;
 use gpu_hall::{Hall, NamedSide};
 use gpu_house::{Batch, Closing, Naming, Run};
 use gpu_io::Gate;
-use gpu_threads::{Client, ClientTurn, client_turn};
+use gpu_threads::{Client, ClientTurn, Ground, client_turn};
 use result_words::ResultWords;
 use shm_words::SharedWords;
 use std::sync::{Mutex, MutexGuard, Wait};
@@ -90,17 +90,13 @@ fn is_early<N: Naming, P: NamedSide, H: Hook>(hall: &mut Hall<N, P, H>, stream: 
 // A client that went on did one thing, and one that waits could not go on.
 fn turn_once<N: Naming, P: NamedSide, H: Hook, R: Wait, G: Gate>(
     rt: &R,
+    ground: &Ground<'_, N, P, H, G>,
+    own: &(SharedWords, ResultWords),
     client: Client,
-    hall: &Mutex<Hall<N, P, H>>,
-    words: &(SharedWords, ResultWords),
-    queues: &[FlushQueue],
-    gate: &G,
 ) -> ClientTurn
     requires client { IsClientOf N.plans N.words N.result_words N.queues client }
-    requires words { words.now.0 ≡ table_at N.words client.stream }
-    requires results { words.now.1 ≡ table_at N.result_words client.stream }
-    requires queues { queues.now ≡ N.queues }
-    requires many { length N.queues ≡ length N.plans.plans }
+    requires own { of_tables own.now (table_at N.words client.stream)
+        (table_at N.result_words client.stream) }
     ensures went { (new : ClientData) → result ≡ ClientTurn.Went new
         → IsSameClient client new × HasGone client new }
     ensures waits { (new : ClientData) → result ≡ ClientTurn.Waiting new
@@ -108,5 +104,5 @@ fn turn_once<N: Naming, P: NamedSide, H: Hook, R: Wait, G: Gate>(
     ensures ended { (new : ClientData) → result ≡ ClientTurn.Ended new
         → IsSameClient client new × (HasTried client new End ⊎ HasStopped client new) }
 {
-    client_turn(rt, client, hall, words, queues, gate)
+    client_turn(rt, ground, own, client)
 }

@@ -5,7 +5,7 @@ use gpu_house::{Doing, Report};
 use gpu_io::Gate;
 use gpu_journal::journal_text;
 use gpu_plan::parse;
-use gpu_threads::run_threads;
+use gpu_threads::{Team, ThreadedRun, run_threads};
 use live_view::Look;
 use std::alloc::Global;
 use std::sync::Wait;
@@ -111,8 +111,12 @@ pub(crate) fn viewed<G: Gate + Sync, R: Threads + Wait + Sync>(
         return Err("a script".into());
     }
     let plans = parse(alloc, script.as_bytes()).ok().ok_or("a script")?;
-    let ran = run_threads(rt, alloc, plans, workers, views, Marker::make(1000), gate).ok();
-    let (report, looks, _) = ran.ok_or("memory is ample")?;
+    let team = Team {
+        workers,
+        viewers: views,
+    };
+    let ran = run_threads(rt, alloc, plans, team, Marker::make(1000), gate).ok();
+    let ThreadedRun { report, looks, .. } = ran.ok_or("memory is ample")?;
     Ok((report, looks))
 }
 

@@ -1,20 +1,25 @@
 use Rattle.std.proofs.Common.{List, sym, subst}
 use Rattle.atomic_table.specs.Seated.{TableId}
 use Rattle.gpu_threads.specs.Rows.{AreShared}
+use Rattle.gpu_threads.specs.Words.{of_tables}
 use Rattle.gpu_threads.proofs.Made.{writers_named, clients_named, clients_fit, shared_named}
 use Rattle.gpu_threads.proofs.threads.run_named.Goals as goal
 
 pub make-requires-clause-results : goal.make-requires-clause-results
-make-requires-clause-results g c = writers_named g.N.Naming.plans c.args.plans c.args.parts g.N.Naming.result_words c.requires.plans c.requires.results c.requires.fresh
-
-pub run_hall-requires-clause-clients : goal.run_hall-requires-clause-clients
-run_hall-requires-clause-clients g c κs within =
+make-requires-clause-results g c =
     let N = g.N.Naming in
-    clients_fit N.plans N.words N.result_words N.queues c.args.parts.clients.items (clients_named N.plans.plans c.args.parts N.words N.result_words N.queues c.requires.words c.requires.results c.requires.queues c.requires.fresh)
+    writers_named N.words N.result_words N.books N.queues c.args.setup.parts c.requires.named N.plans c.args.setup.plans c.requires.plans c.requires.fresh
 
-pub run_hall-requires-clause-shared : goal.run_hall-requires-clause-shared
-run_hall-requires-clause-shared g c κs within =
+pub new-ground-requires : goal.new-ground-requires
+new-ground-requires g c κs within =
     let N = g.N.Naming in
-    subst (λ (words : List (TableId × TableId)). AreShared N.plans N.words N.result_words N.queues words c.deref-2.result.now) (sym c.deref.ensures.value)
-    (subst (λ (queues : List TableId). AreShared N.plans N.words N.result_words N.queues c.args.parts.words.items queues) (sym c.deref-2.ensures.value)
-    (shared_named N.plans c.args.parts N.words N.result_words N.queues c.requires.words c.requires.results c.requires.queues c.requires.fresh))
+    let parts = c.args.setup.parts in
+    subst (λ (words : List (TableId × TableId)). AreShared of_tables N.plans N.words N.result_words N.queues words c.deref-2.result.now) (sym c.deref.ensures.value)
+    (subst (λ (queues : List TableId). AreShared of_tables N.plans N.words N.result_words N.queues parts.words.items queues) (sym c.deref-2.ensures.value)
+    (shared_named N.words N.result_words N.books N.queues parts c.requires.named N.plans c.requires.fresh))
+
+pub run_over-requires-clause-clients : goal.run_over-requires-clause-clients
+run_over-requires-clause-clients g c κs within =
+    let N = g.N.Naming in
+    let parts = c.args.setup.parts in
+    clients_fit N.plans N.words N.result_words N.queues parts.clients.items (clients_named N.words N.result_words N.books N.queues parts c.requires.named N.plans.plans c.requires.fresh)
