@@ -9,6 +9,7 @@ use std::test::Fail;
 use wait_hooks::Marker;
 
 mod on_threads;
+mod promises;
 mod words;
 
 const TWO_TEXELS: &[u8] = b"gpu-script 1
