@@ -23,14 +23,14 @@ pub record Tells (words : Option Command) (base : ℕ) (left left_then : Option 
   pub taken : Takes (reads words) left left_then input
   pub said : Says command base input ending text
 
--- a text that is known was written
+-- the text that it says of its input was written
 pub record HasTold (words : Option Command) (base : ℕ) (left left_then : Option (List ℕ))
     (ending : Status) (written written_then : Option (List ℕ)) : Type 0 where
   pub text : List ℕ
   pub told : Tells words base left left_then ending text
   pub appended : Appends written written_then text
 
--- a front was written of a text that goes with a status that writes
+-- a prefix was written of a text that it says of its input with a status that writes
 pub record HasBegun (words : Option Command) (base : ℕ) (left left_then : Option (List ℕ))
     (written written_then : Option (List ℕ)) : Type 0 where
   pub ending : Status

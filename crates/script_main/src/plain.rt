@@ -10,9 +10,8 @@ use gpu_io::{ReadError, Sink, Source};
 use std::alloc::Global;
 use wait_hooks::Hook;
 
-/// The program on one thread: it does what its words ask for.
+/// The program on one thread: it does what its words ask for. It takes no Wait, and always returns.
 ///
-/// Does what the words say. It takes no Wait, and always returns.
 /// - `run` reads a script, runs it by the rule for one thread, and writes the output.
 /// - `check` writes how much a script has.
 /// - `generate` writes a script, and `trial` one line of what comes of such a script.
@@ -29,7 +28,6 @@ pub fn plain_top<S: Source, K: Sink, H: Hook>(
     hook: H,
 ) -> Status
     requires plain { is_plain (command_of (map string_bytes words.now)) ≡ true }
-
     ensures conducts { Conducts
         (record { left = S.left; read_faults = S.faults; written = K.written; write_faults = K.faults })
         (command_of (map string_bytes words.now)) (H.base hook)

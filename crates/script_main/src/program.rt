@@ -14,7 +14,7 @@ use wait_hooks::Hook;
 
 /// The program: it does what its words ask for, on threads where they say so.
 ///
-/// For plain words it does what `plain_top` does, and it conducts itself as that does. It may wait.
+/// Its one clause is that of `plain_top`, which does the same for plain words. It may wait.
 /// - `run` with 1 to 8 workers runs the script on threads: the clients of the streams, the workers and the viewers side by
 ///   side.
 /// - It writes the output of one history, which is legal and complete. Which one that is may differ from run to run.
