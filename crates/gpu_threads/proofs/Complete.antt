@@ -1,6 +1,7 @@
 -- Where no stream is open the history is complete.
 use Rattle.std.proofs.Common.{◌≡◌, ◌≢◌, ℕ, ◌-◌, ◌<◌, eqb, Bool, true, false, not, ◌&&◌, cond, List, length, refl, sym, subst, arith}
 use Rattle.std.proofs.lemmas.Bool.Decides.{nat_tests}
+use Rattle.sync_core.specs.Standing.{IsKnown}
 use Rattle.gpu_plan.specs.Plans.{PlansData, plan_of, is_closed}
 use Rattle.gpu_plan.specs.Passes.{flushes}
 use Rattle.gpu_journal.specs.declared.event.Event.{Event}
@@ -37,3 +38,22 @@ one_more_over p h s low before here t known = by (eqb t s) refl
     by : (b : Bool) → eqb t s ≡ b → doing_of p h t ≢ Open
     by true e = let same : t ≡ s = grind (arith, nat_tests) in subst (λ (t : ℕ). doing_of p h t ≢ Open) (sym same) here
     by false e = before t (known.0, (let high = known.1 in let apart : t ≢ s = λ same. absurd (grind (arith, nat_tests)) in omega (arith, apart, high, low)))
+
+-- and where a stream is open the history is not complete
+open_so : (lost closed done : Bool) → cond lost Lost (cond closed Closed (cond done AllDone Open)) ≡ Open → (not lost && not closed ≡ true) × (done ≡ false)
+open_so true closed done is = absurd (cc)
+open_so false true done is = absurd (cc)
+open_so false false true is = absurd (cc)
+open_so false false false is = (refl, refl)
+
+undone_so : (closed : Bool) (ordered finished all : ℕ) → not closed && (eqb ordered all && eqb finished all) ≡ false → closed ≡ false → ordered ≡ all → finished ≡ all → ⊥
+undone_so true ordered finished all undone stays o f = absurd (cc)
+undone_so false ordered finished all undone stays o f = absurd (grind (arith, nat_tests))
+
+pub open_left : (p : PlansData) (h : List Event) (s : ℕ) → IsKnown (length p.plans) s → doing_of p h s ≡ Open → IsComplete p h → ⊥
+open_left p h s known_so is whole =
+    let x = standing_of p h s in
+    let k = known p h s in
+    let so = open_so x.lost x.closed (is_done p h s) is in
+    let done = whole s (record { known = known_so; stays = so.0 }) in
+    undone_so (is_closed (plan_of p s).actions) k.ordered k.finished (flushes (plan_of p s).actions) so.1 done.stays_open done.ordered done.finished

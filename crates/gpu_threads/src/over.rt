@@ -1,5 +1,5 @@
 //! Whether something is left to do.
-ghost use Rattle.std.specs.Prelude.{◌≡◌, ◌≢◌, length, not, IsTrue};
+ghost use Rattle.std.specs.Prelude.{◌≡◌, ◌≢◌, length, false, not, IsTrue};
 ghost use Rattle.sync_core.specs.Standing.{IsKnown, is_open};
 ghost use Rattle.gpu_journal.specs.Waits.{standing_of};
 ghost use Rattle.gpu_journal.specs.Complete.{IsComplete};
@@ -12,7 +12,8 @@ use wait_hooks::Hook;
 // Whether nothing is left to do for a stream.
 fn is_over<N: Naming, P: NamedSide, H: Hook>(hall: &Hall<N, P, H>, stream: u32) -> bool
     requires { IsKnown (length N.plans.plans) stream }
-    ensures { IsTrue result → doing_of N.plans hall.now.past stream ≢ Doing.Open }
+    ensures over { IsTrue result → doing_of N.plans hall.now.past stream ≢ Doing.Open }
+    ensures undone { result ≡ false → doing_of N.plans hall.now.past stream ≡ Doing.Open }
 {
     match hall.state(stream) {
         Doing::Open => false,
@@ -23,9 +24,10 @@ fn is_over<N: Naming, P: NamedSide, H: Hook>(hall: &Hall<N, P, H>, stream: u32) 
 }
 
 /// Whether nothing is left to do for any stream.
-#[tactic(auto, using(crate::proofs::Complete::complete, crate::proofs::Complete::one_more_over))]
+#[tactic(auto, using(crate::proofs::Complete::complete, crate::proofs::Complete::one_more_over, crate::proofs::Complete::open_left))]
 pub(crate) fn all_over<N: Naming, P: NamedSide, H: Hook>(hall: &Hall<N, P, H>) -> bool
-    ensures { IsTrue result → IsComplete N.plans hall.now.past }
+    ensures complete { IsTrue result → IsComplete N.plans hall.now.past }
+    ensures left { result ≡ false → IsComplete N.plans hall.now.past → ⊥ }
 {
     for stream in 1..=hall.count() {
         if !is_over(hall, stream) {
