@@ -14,6 +14,7 @@ use gpu_plan::{Plans, ScriptFault, parse};
 use gpu_word::Memory;
 use journal_verify::{Verdict, verify};
 use std::alloc::Global;
+use std::mem;
 
 // The verdict on events.
 fn judge(alloc: Global, plans: &Plans, events: &[Event]) -> Result<Finding, Memory>
@@ -38,7 +39,12 @@ fn examine_journal(alloc: Global, plans: &Plans, lines: u32, text: &[u8]) -> Res
 {
     let cut = cut_at_border(text, Border::Journal);
     match read_behind_head(alloc, plans, cut.part) {
-        Ok(events) => judge(alloc, plans, events.as_slice()),
+        Ok(events) => {
+            let finding = judge(alloc, plans, events.as_slice());
+            // The program ends with the finding, so the many lists of words are not given back one by one.
+            mem::forget(events);
+            finding
+        }
         Err(JournalFault::Refused { line }) => Ok(Finding::NoJournal {
             line: lines + 1 + line,
         }),
