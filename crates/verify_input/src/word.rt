@@ -1,4 +1,4 @@
-ghost use Rattle.std.specs.Prelude.{◌≡◌, position, MatchOption, IfOk, Some, None, if◌then◌else◌};
+ghost use Rattle.std.specs.Prelude.{◌≡◌, position, MatchOption, IfOk, IsTrue, Some, None, if◌then◌else◌};
 ghost use Rattle.std.specs.Bool.{Decides};
 ghost use Rattle.verify_input.specs.Said.{pieces_of, words_said};
 ghost use Rattle.verify_input.specs.Fronts.{is_colon, IsCut, HasValue, HasNoValue, HasWord, HasNoWord};
@@ -42,16 +42,49 @@ fn first_value(text: &[u8]) -> Option<(u32, &[u8])>
     Some((value, rest))
 }
 
-// The place and the value of the word that a text begins with, and what stands after it: nothing, or a space and more.
-fn first_word(text: &[u8]) -> Option<((u32, u32), &[u8])>
+// Whether the first colon has one byte before it.
+fn is_behind_one(text: &[u8]) -> bool
+    ensures { IsTrue result → position is_colon text.now ≡ Some 1 }
+{
+    text.len() > 1 && text[0] != b':' && text[1] == b':'
+}
+
+// Whether the first colon has two bytes before it.
+fn is_behind_two(text: &[u8]) -> bool
+    ensures { IsTrue result → position is_colon text.now ≡ Some 2 }
+{
+    text.len() > 2 && text[0] != b':' && text[1] != b':' && text[2] == b':'
+}
+
+// The place and the value of the word that a text begins with, whose first colon stands here, and what stands after it:
+// nothing, or a space and more.
+#[inline(always)]
+fn word_at(text: &[u8], colon: usize) -> Option<((u32, u32), &[u8])>
+    requires { position is_colon text.now ≡ Some colon }
     ensures { MatchOption result (HasNoWord text.now)
         (λ front. HasWord text.now front.0 front.1.now) }
 {
-    let colon = colon_in(text)?;
     let (digits, behind) = cut_at(text, colon);
     let place = own_number(digits)?;
     let (value, rest) = first_value(behind)?;
     Some(((place, value), rest))
+}
+
+// The place and the value of the word that a text begins with, and what stands after it: nothing, or a space and more.
+//
+// Most words stand in a ring or a memory of few words, so a place of one digit or two is read without a loop.
+fn first_word(text: &[u8]) -> Option<((u32, u32), &[u8])>
+    ensures { MatchOption result (HasNoWord text.now)
+        (λ front. HasWord text.now front.0 front.1.now) }
+{
+    if is_behind_two(text) {
+        return word_at(text, 2);
+    }
+    if is_behind_one(text) {
+        return word_at(text, 1);
+    }
+    let colon = colon_in(text)?;
+    word_at(text, colon)
 }
 
 // The words that all pieces say, in place of what was there; false where some piece is no word.
