@@ -18,6 +18,7 @@ use crate::naming::Naming;
 use crate::run::Run;
 use gpu_fetch::ServiceSide;
 use std::marker::PhantomData;
+use std::mem;
 use wait_hooks::Hook;
 
 impl<N: Naming, P: ServiceSide, H: Hook> House<N, P, H> {
@@ -49,6 +50,7 @@ impl<N: Naming, P: ServiceSide, H: Hook> House<N, P, H> {
             alloc,
             core,
             slots,
+            values,
             ..
         } = self;
         let carried = core.take()?;
@@ -59,7 +61,7 @@ impl<N: Naming, P: ServiceSide, H: Hook> House<N, P, H> {
                 carried,
                 side,
                 note,
-                values: Vec::new(*alloc),
+                values: mem::replace(values, Vec::new(*alloc)),
                 of: PhantomData,
             }),
             None => unreachable!(),
@@ -93,10 +95,11 @@ impl<N: Naming, P: ServiceSide, H: Hook> House<N, P, H> {
             carried,
             mut side,
             mut note,
-            values: _values,
+            values,
             of: _,
         } = run;
         let stream = carried.stream();
+        self.values = values;
         let House {
             core,
             slots,
@@ -135,10 +138,11 @@ impl<N: Naming, P: ServiceSide, H: Hook> House<N, P, H> {
             carried,
             side,
             note,
-            values: _values,
+            values,
             of: _,
         } = run;
         let stream = carried.stream();
+        self.values = values;
         self.core.back(carried);
         self.core.holds();
         self.slots[stream as usize - 1].come(side, note);
@@ -160,10 +164,11 @@ impl<N: Naming, P: ServiceSide, H: Hook> House<N, P, H> {
             carried,
             side,
             note,
-            values: _values,
+            values,
             of: _,
         } = run;
         let stream = carried.stream();
+        self.values = values;
         let House {
             core,
             slots,

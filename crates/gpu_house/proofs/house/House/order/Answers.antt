@@ -1,4 +1,4 @@
-use Rattle.std.proofs.Common.{◌≡◌, ℕ, ◌+◌, ◌-◌, ◌<◌, ◌∷◌, false, List, length, refl, sym, ap, subst, ◌∙◌, arith, length-set, IsSome, unwrap_or}
+use Rattle.std.proofs.Common.{◌≡◌, ℕ, ◌+◌, ◌-◌, ◌<◌, [], ◌∷◌, ◌++◌, false, List, length, refl, sym, ap, subst, ◌∙◌, arith, length-set, IsSome, unwrap_or}
 use Rattle.std.specs.Prelude.{slice_set, slice_get}
 use Rattle.gpu_plan.specs.Plans.{PlansData, plan_of}
 use Rattle.gpu_plan.specs.Places.{flush_places, mark_of}
@@ -14,6 +14,7 @@ use Rattle.house_core.proofs.Held.{core_lawful, core_legal}
 use Rattle.gpu_house.specs.Names.{table_at}
 use Rattle.gpu_house.specs.Marks.{AreMarked}
 use Rattle.gpu_house.proofs.Places.{set_back}
+use Rattle.gpu_house.proofs.Rows.{slot_changed}
 use Rattle.gpu_house.proofs.Cases.{not_err}
 use Rattle.gpu_house.proofs.Endings.{order_makes, grown_follow}
 use Rattle.gpu_house.proofs.Writings.{AllFit, all_still}
@@ -115,3 +116,10 @@ invariant_of-self-2 g c =
     past c.order.ensures.outs c.index_mut-slot.ensures.value c.in_default.ensures.ok was.homes)
     refl
     (subst (λ (h : List Event). AllFit takes told results_of answers p h results) (sym past) (all_still takes told results_of answers p (order_event p core.past s) core.past results (λ s. refl) was.results))
+
+pub returns-clause-slots : goal.returns-clause-slots
+returns-clause-slots g c =
+    let s = c.args.stream in
+    let known = subst (λ (n : ℕ). IsKnown n s) (sym c.self.invariant.slots) c.requires.known in
+    slot_changed (λ slot. record slot { notes = slot.notes ++ c.args.note ∷ [] }) c.self.inside.slots.items c.args.self.now.slots s s c.index_mut-slot.result.now c.push.new.self (ap (λ h. h.slots) c.self.view_is) refl known
+    c.index_mut-slot.ensures.value c.in_default.ensures.ok
