@@ -7,6 +7,7 @@ pub mod Events
 pub mod Numbers
 pub mod Values
 pub mod Wholes
+pub mod Firsts
 pub mod Borders
 pub mod Heads
 pub mod Counts

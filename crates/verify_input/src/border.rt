@@ -1,4 +1,4 @@
-ghost use Rattle.std.specs.Prelude.{◌≡◌, bytes_eq};
+ghost use Rattle.std.specs.Prelude.{◌≡◌, false, bytes_eq, IsTrue};
 ghost use Rattle.std.specs.List.{list_any};
 ghost use Rattle.script_lines.specs.Text.{words_of};
 ghost use Rattle.verify_input.specs.Parts.{is_journal, part_words, begins_part, is_end};
@@ -45,14 +45,36 @@ fn begins_part(mut words: Words<'_>) -> bool
     }
 }
 
+// Whether a line begins as that of a put, a fill, a flush or a finish does, which most lines of a script are.
+#[tactic(auto, using(crate::proofs::Firsts::p_line, crate::proofs::Firsts::f_line))]
+fn is_action(line: &[u8]) -> bool
+    ensures { IsTrue result → is_journal (words_of line.now) ≡ false }
+{
+    !line.is_empty() && (line[0] == b'p' || line[0] == b'f')
+}
+
+// Whether a line begins as that of a step, an order or a finish does, which most lines of a journal text are.
+#[tactic(auto, using(crate::proofs::Firsts::step_line, crate::proofs::Firsts::order_line, crate::proofs::Firsts::finish_line))]
+fn is_event(line: &[u8]) -> bool
+    ensures { IsTrue result → begins_part (words_of line.now) ≡ false }
+{
+    if line.len() <= 2 {
+        return false;
+    }
+    if line[0] == b's' {
+        return line[1] == b't' && line[2] == b'e';
+    }
+    line[0] == b'o' || line[0] == b'f'
+}
+
 impl Border {
-    /// Whether a line with these words ends the part.
+    /// Whether a line with these words ends the part. A line that begins as most do is not cut into words.
     pub(crate) fn is_end(self, words: Words<'_>) -> bool
         ensures { result ≡ is_end self (words_of words.entry.rest.now) }
     {
         match self {
-            Border::Script => is_journal(words),
-            Border::Journal => begins_part(words),
+            Border::Script => !is_action(words.rest) && is_journal(words),
+            Border::Journal => !is_event(words.rest) && begins_part(words),
         }
     }
 }
