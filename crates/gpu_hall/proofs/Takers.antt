@@ -36,7 +36,7 @@ own_kept (Some sync.Finished) n x e = e
 own_kept (Some sync.WasLost) n x e = absurd (cc)
 own_kept (Some sync.WasClosed) n x e = e
 
-kept_before : (p : PlansData) (e : Event) (h : List Event) (t : ℕ) → (standing_of p (e ∷ h) t).lost ≡ false → (standing_of p h t).lost ≡ false
+pub kept_before : (p : PlansData) (e : Event) (h : List Event) (t : ℕ) → (standing_of p (e ∷ h) t).lost ≡ false → (standing_of p h t).lost ≡ false
 kept_before p e h t kept = by (eqb (stream_in e) t) refl
   where
     by : (b : Bool) → eqb (stream_in e) t ≡ b → (standing_of p h t).lost ≡ false

@@ -1,10 +1,11 @@
 -- What a journal has grown by where flushes were taken from their queues.
-use Rattle.std.specs.Prelude.{◌≡◌, ◌⊎◌, ℕ, List, [], ◌∷◌, length}
+use Rattle.std.specs.Prelude.{◌≡◌, ◌⊎◌, ℕ, ◌+◌, false, List, [], ◌∷◌, length}
 use Rattle.gpu_plan.specs.Plans.{PlansData}
 use Rattle.sync_core.specs.Standing.{IsKnown}
 use Rattle.gpu_journal.specs.declared.event.Event.{Event}
 use Rattle.gpu_journal.specs.declared.event.Event.TheVariants.{Lost}
 use Rattle.gpu_journal.specs.declared.event.Why.TheVariants.{Memory}
+use Rattle.gpu_journal.specs.Waits.{standing_of}
 use Rattle.gpu_journal.specs.Serial.{order_event}
 
 -- the next flush of stream s was ordered, or as out of memory the stream was lost
@@ -19,3 +20,7 @@ IsCollected p old new = (s : ℕ) × IsKnown (length p.plans) s × OrderedOrLost
 abbrev pub HasCollected : PlansData → List Event → List Event → Type 0
 HasCollected p old [] = old ≡ []
 HasCollected p old (event ∷ new) = (old ≡ event ∷ new) ⊎ (IsCollected p new (event ∷ new) × HasCollected p old new)
+
+-- unless stream s is lost, the journal has grown by this number of events
+abbrev pub GrewBy : PlansData → ℕ → ℕ → List Event → List Event → Type 0
+GrewBy p s count old new = (standing_of p new s).lost ≡ false → length new ≡ length old + count

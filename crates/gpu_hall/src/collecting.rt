@@ -1,5 +1,5 @@
 //! Flushes come to the house by their queues.
-ghost use Rattle.std.specs.Prelude.{◌≡◌, ◌<◌, ◌⊎◌, length, true};
+ghost use Rattle.std.specs.Prelude.{◌≡◌, ◌<◌, ◌⊎◌, length, true, if◌then◌else◌};
 ghost use Rattle.gpu_plan.specs.Plans.{plan_of};
 ghost use Rattle.gpu_plan.specs.Passes.{flushes};
 ghost use Rattle.gpu_plan.specs.Places.{mark_of};
@@ -7,7 +7,7 @@ ghost use Rattle.sync_core.specs.Standing.{IsKnown, is_open};
 ghost use Rattle.gpu_journal.specs.World.{known};
 ghost use Rattle.gpu_journal.specs.Waits.{standing_of};
 ghost use Rattle.gpu_house.specs.Names.{table_at};
-ghost use Rattle.gpu_hall.specs.Collecting.{OrderedOrLost, HasCollected};
+ghost use Rattle.gpu_hall.specs.Collecting.{OrderedOrLost, HasCollected, GrewBy};
 
 use crate::hall::Hall;
 use crate::side::NamedSide;
@@ -41,11 +41,14 @@ fn order_or_lose<N: Naming, P: NamedSide, H: Hook>(
 
 impl<N: Naming, P: NamedSide, H: Hook> Hall<N, P, H> {
     // Takes the next flush of a stream, where there is one, and orders it. That of a lost stream is dropped.
+    #[tactic(auto, using(crate::proofs::Collected::none_grew, crate::proofs::Collected::dropped_grew, crate::proofs::Collected::one_grew))]
     fn collect_next<R: Wait>(&mut self, rt: &R, stream: u32, queue: &FlushQueue) -> bool
         requires known { IsKnown (length N.plans.plans) stream }
         requires queue { queue.now ≡ table_at N.queues stream }
         ensures came { (self.new.past ≡ self.old.past)
             ⊎ OrderedOrLost N.plans stream self.old.past self.new.past }
+        ensures count { GrewBy N.plans stream (if result then 1 else 0)
+            self.old.past self.new.past }
         ensures outs { self.new.outs ≡ self.old.outs }
         ensures view { self.new.view ≡ self.old.view }
     {
@@ -62,23 +65,22 @@ impl<N: Naming, P: NamedSide, H: Hook> Hall<N, P, H> {
     }
 
     /// Takes flushes from the queue of a stream until that is empty, and orders each, as `collect` does for all streams. It says
-    /// how many it took.
+    /// how many it took, and takes no more than can be said.
     #[tactic(auto, using(crate::proofs::Collected::none_collected, crate::proofs::Collected::next_collected))]
     pub fn collect_from<R: Wait>(&mut self, rt: &R, stream: u32, queue: &FlushQueue) -> u32
         requires known { IsKnown (length N.plans.plans) stream }
         requires queue { queue.now ≡ table_at N.queues stream }
         ensures came { HasCollected N.plans self.old.past self.new.past }
+        ensures count { GrewBy N.plans stream result self.old.past self.new.past }
         ensures outs { self.new.outs ≡ self.old.outs }
         ensures view { self.new.view ≡ self.old.view }
     {
-        let mut count = 0u32;
-        for _ in rt.forever() {
+        for count in 0..u32::MAX {
             if !self.collect_next(rt, stream, queue) {
                 return count;
             }
-            count = count.saturating_add(1);
         }
-        unreachable!()
+        u32::MAX
     }
 
     /// For each stream in rising number, takes flushes from its queue until that is empty, and orders each. Those of a lost stream are
