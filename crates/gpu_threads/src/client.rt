@@ -1,4 +1,4 @@
-ghost use Rattle.std.specs.Prelude.{◌≡◌, ◌<◌, ◌≤◌, [], map, slice_get, None, true, if◌then◌else◌, IsSome, IfSome, IfNone, IfOk, OnSome, IsTrue};
+ghost use Rattle.std.specs.Prelude.{◌≡◌, ◌<◌, ◌≤◌, ◌↔◌, [], map, slice_get, None, true, if◌then◌else◌, IsSome, IfSome, IfNone, IfOk, OnSome, IsTrue};
 ghost use Rattle.crossbeam_queue.specs.Fifo.{Held};
 ghost use Rattle.gpu_cmd.specs.Spans.{words_in};
 ghost use Rattle.gpu_plan.specs.Plans.{is_closed};
@@ -201,7 +201,7 @@ impl Client {
 
     /// Whether it has read all dumps of its plan.
     pub(crate) fn is_whole(&self) -> bool
-        ensures { IsTrue result → IsWhole self.now }
+        ensures { IsTrue result ↔ IsWhole self.now }
     {
         self.dumps.len() == self.planned.len()
     }

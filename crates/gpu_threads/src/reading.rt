@@ -1,5 +1,5 @@
 //! What the clients of a run have read, once nothing is left to do.
-ghost use Rattle.std.specs.Prelude.{◌≡◌, length, IfOk, IsTrue};
+ghost use Rattle.std.specs.Prelude.{◌≡◌, ◌↔◌, length, IfOk, IsTrue};
 ghost use Rattle.std.specs.List.{All};
 ghost use Rattle.sync_core.specs.Standing.{IsKnown};
 ghost use Rattle.gpu_journal.specs.Dumps.{dumps_of};
@@ -25,7 +25,7 @@ use wait_hooks::Hook;
 // Whether a client has read all its dumps, or its stream is lost.
 fn is_through<N: Naming, H: Hook>(hall: &Hall<N, FullPass, H>, client: &Client) -> bool
     requires { IsKnown (length N.plans.plans) client.now.stream }
-    ensures { IsTrue result → IsThrough N.plans hall.now.past client.now }
+    ensures { IsTrue result ↔ IsThrough N.plans hall.now.past client.now }
 {
     if is_lost(hall, client.stream()) {
         return true;
@@ -39,7 +39,7 @@ pub(crate) fn all_through<N: Naming, H: Hook>(
     clients: &[Client],
 ) -> bool
     requires { AreClientsOf N.plans N.words N.result_words N.queues clients.now }
-    ensures { IsTrue result → All (IsThrough N.plans hall.now.past) clients.now }
+    ensures { IsTrue result ↔ All (IsThrough N.plans hall.now.past) clients.now }
 {
     for client in clients {
         if !is_through(hall, client) {

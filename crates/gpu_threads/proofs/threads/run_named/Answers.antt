@@ -11,7 +11,7 @@ make-requires-clause-results g c =
     writers_named N.words N.result_words N.books N.queues c.args.setup.parts c.requires.named N.plans c.args.setup.plans c.requires.plans c.requires.fresh
 
 pub new-ground-requires : goal.new-ground-requires
-new-ground-requires g c κs within =
+new-ground-requires g c =
     let N = g.N.Naming in
     let parts = c.args.setup.parts in
     subst (λ (words : List (TableId × TableId)). AreShared of_tables N.plans N.words N.result_words N.queues words c.deref-2.result.now) (sym c.deref.ensures.value)

@@ -1,7 +1,13 @@
-use Rattle.std.proofs.Common.{length, drop, sym, subst, arith}
+use Rattle.std.proofs.Common.{◌≡◌, ℕ, List, length, drop, sym, ap, subst, ◌∙◌, arith}
 use Rattle.std.specs.List.{All}
+use Rattle.gpu_journal.specs.declared.event.Event.{Event}
+use Rattle.gpu_journal.specs.Legal.{IsLegal}
+use Rattle.gpu_journal.specs.Complete.{IsComplete}
+use Rattle.gpu_journal.specs.Output.{streams_of}
+use Rattle.gpu_hall.specs.Halls.{HallData}
 use Rattle.gpu_threads.specs.Clients.{AreClientsOf}
-use Rattle.gpu_threads.specs.Dumps.{IsThrough}
+use Rattle.gpu_threads.specs.Dumps.{IsThrough, AreAllRead}
+use Rattle.gpu_threads.specs.Views.{AreAllLooks}
 use Rattle.gpu_threads.proofs.Crew.{whole}
 use Rattle.gpu_threads.proofs.threads.run_over.Goals as goal
 
@@ -24,3 +30,20 @@ all_read-requires-clause-through g c =
     let was = c.run_all.ensures.clients.many in
     let long = crew.clients.ok in
     subst (All (IsThrough N.plans c.play_left-hall.result.past)) (sym (whole crew.clients.len new (drop (length new) crew.clients.items) (omega (arith, many, was, long)))) c.play_left-hall.ensures.through
+
+pub returns : goal.returns
+returns g c =
+    let p = g.N.Naming.plans in
+    let left = c.play_left-hall in
+    let ended = c.in_ok-report.ensures in
+    let looks = c.in_ok-report.looks.items in
+    let past : c.in_ok-report.report.past ≡ left.result.past = ended.past ∙ ap (λ (hall : HallData). hall.past) c.in-Ok.ensures.same in
+    record {
+      plans = ended.plans;
+      based = ended.base;
+      legal = subst (IsLegal p) (sym past) c.holds.ensures.legal;
+      complete = subst (IsComplete p) (sym past) left.ensures.complete;
+      looks = subst (λ (h : List Event). AreAllLooks p h (length c.args.crew.watches.items) looks) (sym ended.past)
+          (subst (λ (n : ℕ). AreAllLooks p c.all_read.new.hall.past n looks) c.run_all.ensures.many ended.looks);
+      dumps = subst (λ (h : List Event). AreAllRead p h (streams_of p) c.in-Ok.dumps.items) (sym past) c.in-Ok.ensures.read;
+    }
