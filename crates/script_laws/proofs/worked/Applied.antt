@@ -25,7 +25,7 @@ use Rattle.stream_state.specs.Laws.{IsTaken, AreTaken, StepsMoveOn, StatesAreBou
 use Rattle.sync_core.specs.declared.wait.Wait.{Wait}
 use Rattle.sync_core.specs.declared.ending.Ending.{Ending}
 use Rattle.sync_core.specs.declared.ending.How.TheVariants as how
-use Rattle.sync_core.specs.Standing.{first_order}
+use Rattle.sync_core.specs.Standing.{first_order, has_below}
 use Rattle.sync_core.specs.Events.{SyncEvent, standing, left}
 use Rattle.sync_core.specs.Pending.{is_kept, is_blocked, still, kept_waits, pending}
 use Rattle.sync_core.specs.Laws.{KeptIsDecided, EndedStaysEnded, WaitsRise, OrdersArePositive, OrdersRise, Precedes, Follows, NoCycle}
@@ -264,6 +264,16 @@ has_release law p h ending are released =
     let release : cause.wait.release ≡ ending.release = sym (ap (λ (e : Ending). e.release) cause.told) in
     let after = subst (λ (t : ℕ). cause.wait.release ≤ (standing_of p (cause.event ∷ cause.before) t).release) target ends.1 in
     (cause.later, cause.event ∷ cause.before, cause.whole, subst (λ (r : ℕ). r ≤ (standing_of p (cause.event ∷ cause.before) ending.target).release) release after)
+
+-- and by guard, that its target passed its number
+has_guard : EndingsHaveCauses → (p : PlansData) (h : List Event) (ending : Ending) → endings_in p h ≡ ending ∷ [] → ending.how ≡ how.Guard → (later past : List Event) × (later ++ past ≡ h) × (has_below ending.order (left_of p past ending.target) ≡ false)
+has_guard law p h ending are guarded =
+    let cause = All-head (HasCause p h) ending [] (subst (All (HasCause p h)) are (law p h)) in
+    let ends = subst (EndsSo cause.event (standing (sync_of p cause.before)) (standing (sync_of p (cause.event ∷ cause.before))) cause.wait) guarded cause.ended in
+    let target : cause.wait.target ≡ ending.target = sym (ap (λ (e : Ending). e.target) cause.told) in
+    let order : cause.wait.order ≡ ending.order = sym (ap (λ (e : Ending). e.order) cause.told) in
+    let after = subst (λ (t : ℕ). has_below cause.wait.order (standing_of p (cause.event ∷ cause.before) t).left ≡ false) target ends.1 in
+    (cause.later, cause.event ∷ cause.before, cause.whole, subst (λ (n : ℕ). has_below n (standing_of p (cause.event ∷ cause.before) ending.target).left ≡ false) order after)
 
 -- no run of a script leaves a wait after
 none_left_waiting : CompleteWaitsForNone → ScriptsRunLegally → ScriptsRunToTheEnd → (text : List ℕ) (p : PlansData) → script_of text ≡ Ok p → pending_in p (serial p) ≡ []
