@@ -1,6 +1,6 @@
 -- What checks 6 to 10 leave where they pass.
 use Rattle.std.proofs.Common.{ℕ, ◌+◌, ◌≤◌, Bool, true, false, Option, Some, None, Ok, List, length, refl, arith, IsTrue, IfOk}
-use Rattle.std.specs.Prelude.{◌&&◌, slice_index}
+use Rattle.std.specs.Prelude.{slice_index}
 use Rattle.std.proofs.lemmas.Bool.Decides.{nat_tests}
 use Rattle.gpu_word.specs.Header.{id_of}
 use Rattle.gpu_cmd.specs.declared.command.Command.{Command}
@@ -10,15 +10,13 @@ use Rattle.gpu_cmd.specs.declared.decoded.Decoded.{Decoded}
 use Rattle.gpu_word.specs.Outcome.{◌>>=◌, unless, or_error}
 use Rattle.gpu_cmd.specs.Table.{Row, row_of, argument}
 use Rattle.gpu_cmd.specs.Ranges.{transfer_places}
-use Rattle.gpu_cmd.specs.Checks.{checked, decoded, has_format, has_slot, has_data, has_aligned_results, has_memories, is_within_quota}
+use Rattle.gpu_cmd.specs.Checks.{checked, decoded, has_arguments, has_memories, is_within_quota}
 
-five_passed : (a b c m q : Bool) (found : Decoded) (P : Decoded → Type 0) → (IsTrue m → IsTrue q → P found) → IfOk (unless a InvalidArguments >>= λ _. unless b InvalidArguments >>= λ _. unless c InvalidArguments >>= λ _. unless m OutOfBounds >>= λ _. unless q Quota >>= λ _. Ok found) P
-five_passed false b c m q found P h = tt
-five_passed true false c m q found P h = tt
-five_passed true true false m q found P h = tt
-five_passed true true true false q found P h = tt
-five_passed true true true true false found P h = tt
-five_passed true true true true true found P h = h refl refl
+three_passed : (a m q : Bool) (found : Decoded) (P : Decoded → Type 0) → (IsTrue m → IsTrue q → P found) → IfOk (unless a InvalidArguments >>= λ _. unless m OutOfBounds >>= λ _. unless q Quota >>= λ _. Ok found) P
+three_passed false m q found P h = tt
+three_passed true false q found P h = tt
+three_passed true true false found P h = tt
+three_passed true true true found P h = h refl refl
 
 -- the answer for a command that passes
 abbrev pub answer_of : Command → StreamFacts → Decoded
@@ -27,7 +25,7 @@ answer_of command facts = record { command = command; from = (transfer_places fa
 -- each fact of a command that passed checks 9 and 10 holds of the answer
 checked_passed : (ring_words : ℕ) (command : Command) (facts : StreamFacts) (P : Decoded → Type 0) → (IsTrue (has_memories facts.areas command) → IsTrue (is_within_quota (facts.fetched + ring_words + (transfer_places facts.areas command).count)) → P (answer_of command facts)) → IfOk (checked ring_words command facts) P
 unfolding checked
-checked_passed ring_words command facts P h = five_passed (has_format command) (has_slot command) (has_data ring_words command && has_aligned_results command) (has_memories facts.areas command) (is_within_quota (facts.fetched + ring_words + (transfer_places facts.areas command).count)) (answer_of command facts) P h
+checked_passed ring_words command facts P h = three_passed (has_arguments ring_words command) (has_memories facts.areas command) (is_within_quota (facts.fetched + ring_words + (transfer_places facts.areas command).count)) (answer_of command facts) P h
 
 by_row : (row : Option Row) (words : List ℕ) (facts : StreamFacts) (P : Decoded → Type 0) → ((command : Command) → IsTrue (has_memories facts.areas command) → IsTrue (is_within_quota (facts.fetched + length words + (transfer_places facts.areas command).count)) → P (answer_of command facts)) → IfOk (or_error UnknownCommand row >>= λ row. checked (length words) (row.command (argument words)) facts) P
 by_row None words facts P h = tt

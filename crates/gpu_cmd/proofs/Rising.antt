@@ -16,7 +16,7 @@ use Rattle.gpu_cmd.specs.declared.shape.Shape.{Shape}
 use Rattle.gpu_cmd.specs.declared.decoded.Decoded.{Decoded}
 use Rattle.gpu_cmd.specs.Spans.{span_at}
 use Rattle.gpu_cmd.specs.Lawful.{IsLawfulAreas, IsLawfulFacts, places_of}
-use Rattle.gpu_cmd.specs.Ranges.{transfer_range, size_range, data_range, places_from, places_in}
+use Rattle.gpu_cmd.specs.Ranges.{named, places_from, places_in}
 use Rattle.gpu_cmd.specs.Checks.{headed, decoded, lies_in}
 use Rattle.gpu_cmd.specs.Copied.{fetched_places, places_read, places_headed, places_decoded, ring_places, value_in}
 use Rattle.gpu_cmd.specs.Laws.{PlacesRise, PlacesAreThere}
@@ -55,7 +55,7 @@ by_range areas (Some range) others lawful h = by_span areas range (span_at areas
 
 -- the transfer places of what the decoder answers stand after the ring
 pub decoded_behind : (words : List ℕ) (facts : StreamFacts) → IsLawfulAreas facts.areas → IfOk (decoded words facts) (λ found. AreBehind facts.areas found.from found.count)
-decoded_behind words facts lawful = decoded_passed words facts (λ found. AreBehind facts.areas found.from found.count) (λ command m q. by_range facts.areas (transfer_range command) (option_map_or (lies_in facts.areas.results) (size_range command) true && option_map_or (lies_in facts.areas.results) (data_range command) true) lawful m)
+decoded_behind words facts lawful = decoded_passed words facts (λ found. AreBehind facts.areas found.from found.count) (λ command m q. by_range facts.areas (named command).transfer_range (option_map_or (lies_in facts.areas.results) (named command).size_range true && option_map_or (lies_in facts.areas.results) (named command).data_range true) lawful m)
 
 -- ---- lists that rise
 

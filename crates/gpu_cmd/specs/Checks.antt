@@ -12,11 +12,12 @@ use Rattle.gpu_cmd.specs.declared.facts.StreamFacts.{StreamFacts}
 use Rattle.gpu_cmd.specs.declared.range.Range.{Range}
 use Rattle.gpu_cmd.specs.declared.shape.Shape.{Shape}
 use Rattle.gpu_cmd.specs.declared.decoded.Decoded.{Decoded}
+use Rattle.gpu_cmd.specs.declared.checks.TheConstants.{SLOTS, MOST_SLOT_BYTES}
 use Rattle.gpu_word.specs.Outcome.{◌>>=◌, unless, or_error}
 use Rattle.gpu_cmd.specs.Table.{row_of, fits, ring_words_of, argument}
 use Rattle.gpu_cmd.specs.Spans.{span_at}
 use Rattle.gpu_cmd.specs.Lawful.{most_fetched, room}
-use Rattle.gpu_cmd.specs.Ranges.{format_in, slot_in, made_size_in, immediate_size_in, transfer_range, size_range, data_range, transfer_places}
+use Rattle.gpu_cmd.specs.Ranges.{named, transfer_places}
 
 -- this number of words is no more than a stream may fetch
 abbrev pub is_within_quota : ℕ → Bool
@@ -34,15 +35,15 @@ headed entry facts = do
 
 -- check 6: a format has a number from 1 to 4
 abbrev pub has_format : Command → Bool
-has_format command = option_map_or (λ number. is_some (format_of number)) (format_in command) true
+has_format command = option_map_or (λ number. is_some (format_of number)) (named command).format true
 
 -- check 7: there are 16 buckets and 16 buffers, of at most 262,144 bytes each
 abbrev pub has_slot : Command → Bool
-has_slot command = option_map_or (λ slot. nat_lt slot 16) (slot_in command) true && option_map_or (λ size. nat_le size 262144) (made_size_in command) true
+has_slot command = option_map_or (λ slot. nat_lt slot SLOTS) (named command).slot true && option_map_or (λ size. nat_le size MOST_SLOT_BYTES) (named command).made_size true
 
 -- check 8: the data entries, which follow three arguments, hold all bytes that are read from them
 abbrev pub has_data : ℕ → Command → Bool
-has_data entries command = option_map_or (λ size. nat_le size (4 * (entries - 4))) (immediate_size_in command) true
+has_data entries command = option_map_or (λ size. nat_le size (4 * (entries - 4))) (named command).immediate_size true
 
 -- check 8: result memories are written from the start of a word on
 abbrev pub is_aligned : Range → Bool
@@ -50,7 +51,11 @@ is_aligned range = range.offset % 4 == 0
 
 -- check 8: so are all that the command writes
 abbrev pub has_aligned_results : Command → Bool
-has_aligned_results command = option_map_or is_aligned (size_range command) true && option_map_or is_aligned (data_range command) true
+has_aligned_results command = option_map_or is_aligned (named command).size_range true && option_map_or is_aligned (named command).data_range true
+
+-- checks 6 to 8, which have one error
+abbrev pub has_arguments : ℕ → Command → Bool
+has_arguments entries command = has_format command && (has_slot command && (has_data entries command && has_aligned_results command))
 
 -- check 9: a range lies in a memory that is declared
 abbrev pub lies_in : List (Option Span) → Range → Bool
@@ -59,14 +64,12 @@ lies_in spans range = option_map_or (λ (span : Span). nat_le (range.offset + ra
 -- check 9: each range of the command does, those that are read among the transfer memories and those that are written
 -- among the result memories
 abbrev pub has_memories : Areas → Command → Bool
-has_memories areas command = option_map_or (lies_in areas.memories) (transfer_range command) true && (option_map_or (lies_in areas.results) (size_range command) true && option_map_or (lies_in areas.results) (data_range command) true)
+has_memories areas command = option_map_or (lies_in areas.memories) (named command).transfer_range true && (option_map_or (lies_in areas.results) (named command).size_range true && option_map_or (lies_in areas.results) (named command).data_range true)
 
 -- checks 6 to 10, of a command with a given number of ring words
 unfoldable pub checked : ℕ → Command → StreamFacts → Result Decoded CmdError
 checked ring_words command facts = do
-  _ ← unless (has_format command) InvalidArguments  -- 6
-  _ ← unless (has_slot command) InvalidArguments  -- 7
-  _ ← unless (has_data ring_words command && has_aligned_results command) InvalidArguments  -- 8
+  _ ← unless (has_arguments ring_words command) InvalidArguments  -- 6 to 8
   _ ← unless (has_memories facts.areas command) OutOfBounds  -- 9
   _ ← unless (is_within_quota (facts.fetched + ring_words + (transfer_places facts.areas command).count)) Quota  -- 10
   Ok (record { command = command; from = (transfer_places facts.areas command).from; count = (transfer_places facts.areas command).count })

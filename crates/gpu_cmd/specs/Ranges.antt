@@ -3,66 +3,60 @@ use Rattle.std.specs.Prelude.{ℕ, ◌+◌, ◌-◌, ◌*◌, ◌/◌, List, Opt
 use Rattle.std.specs.Option.{option_map_or}
 use Rattle.gpu_word.specs.Formats.{format_of, format_bytes}
 use Rattle.gpu_cmd.specs.declared.command.Command.{Command}
-use Rattle.gpu_cmd.specs.declared.command.Command.TheVariants.{SetBucketSize, SetBucketData, SetBucketDataImmediate, GetBucketStart, GetBucketData, UploadRect, UploadBucket, CreateBuffer, DeleteBuffer, BufferData, UploadBuffer}
+use Rattle.gpu_cmd.specs.declared.command.Command.TheVariants.{Noop, SetToken, SetBucketSize, SetBucketData, SetBucketDataImmediate, GetBucketStart, GetBucketData, InsertFence, WaitToken, CreateImage, DeleteImage, ClearRect, CopyRect, UploadRect, UploadBucket, CreateBuffer, DeleteBuffer, BufferData, UploadBuffer, WaitSyncToken}
 use Rattle.gpu_cmd.specs.declared.areas.Areas.{Areas}
 use Rattle.gpu_cmd.specs.declared.areas.Span.{Span}
 use Rattle.gpu_cmd.specs.declared.range.Range.{Range}
 use Rattle.gpu_cmd.specs.declared.range.Places.{Places}
 use Rattle.gpu_cmd.specs.Spans.{span_at}
 
--- the number of the format that texels are read in
-abbrev pub format_in : Command → Option ℕ
-format_in (UploadRect image x y w h format memory offset) = Some format
-format_in (UploadBucket image x y w h format bucket) = Some format
-format_in (UploadBuffer image x y w h format buffer offset) = Some format
-format_in _ = None
-
--- the bucket or the buffer
-abbrev pub slot_in : Command → Option ℕ
-slot_in (SetBucketSize bucket size) = Some bucket
-slot_in (SetBucketData bucket offset size memory memory_offset) = Some bucket
-slot_in (SetBucketDataImmediate bucket offset size) = Some bucket
-slot_in (GetBucketStart bucket result_memory result_offset data_size data_memory data_offset) = Some bucket
-slot_in (GetBucketData bucket offset size memory memory_offset) = Some bucket
-slot_in (UploadBucket image x y w h format bucket) = Some bucket
-slot_in (CreateBuffer buffer size) = Some buffer
-slot_in (DeleteBuffer buffer) = Some buffer
-slot_in (BufferData buffer offset size memory memory_offset) = Some buffer
-slot_in (UploadBuffer image x y w h format buffer offset) = Some buffer
-slot_in _ = None
-
--- the size that a bucket or a buffer is made with
-abbrev pub made_size_in : Command → Option ℕ
-made_size_in (SetBucketSize bucket size) = Some size
-made_size_in (CreateBuffer buffer size) = Some size
-made_size_in _ = None
-
--- the bytes that are read from the data entries of the ring
-abbrev pub immediate_size_in : Command → Option ℕ
-immediate_size_in (SetBucketDataImmediate bucket offset size) = Some size
-immediate_size_in _ = None
-
 -- the bytes of a texel, by the number of its format
 abbrev pub texel_bytes : ℕ → ℕ
 texel_bytes number = option_map_or format_bytes (format_of number) 0
 
--- the bytes that are read from a transfer memory
-abbrev pub transfer_range : Command → Option Range
-transfer_range (SetBucketData bucket offset size memory memory_offset) = Some (record { memory = memory; offset = memory_offset; bytes = size })
-transfer_range (UploadRect image x y w h format memory memory_offset) = Some (record { memory = memory; offset = memory_offset; bytes = w * h * texel_bytes format })
-transfer_range (BufferData buffer offset size memory memory_offset) = Some (record { memory = memory; offset = memory_offset; bytes = size })
-transfer_range _ = None
+-- what a command names: the number of the format that texels are read in, the bucket or the buffer, the size that this is
+-- made with, the bytes that are read from the data entries, and ranges of memories. Those are the bytes that are read
+-- from a transfer memory, and in result memories the word for a bucket's size and the bytes for a bucket's bytes
+pub record Named : Type 0 where
+  pub format : Option ℕ
+  pub slot : Option ℕ
+  pub made_size : Option ℕ
+  pub immediate_size : Option ℕ
+  pub transfer_range : Option Range
+  pub size_range : Option Range
+  pub data_range : Option Range
 
--- the word of a result memory that a bucket's size is written to
-abbrev pub size_range : Command → Option Range
-size_range (GetBucketStart bucket result_memory result_offset data_size data_memory data_offset) = Some (record { memory = result_memory; offset = result_offset; bytes = 4 })
-size_range _ = None
+-- none of these
+abbrev pub none_named : Named
+none_named = record { format = None; slot = None; made_size = None; immediate_size = None; transfer_range = None; size_range = None; data_range = None }
 
--- the bytes of a result memory that a bucket's bytes are written to; a start without data looks at no data memory
-abbrev pub data_range : Command → Option Range
-data_range (GetBucketStart bucket result_memory result_offset data_size data_memory data_offset) = if data_size == 0 then None else Some (record { memory = data_memory; offset = data_offset; bytes = data_size })
-data_range (GetBucketData bucket offset size memory memory_offset) = Some (record { memory = memory; offset = memory_offset; bytes = size })
-data_range _ = None
+-- bytes of a memory from an offset on
+abbrev pub bytes_at : ℕ → ℕ → ℕ → Option Range
+bytes_at memory offset bytes = Some (record { memory = memory; offset = offset; bytes = bytes })
+
+-- what each command names; a start without data looks at no data memory
+abbrev pub named : Command → Named
+named Noop = none_named
+named (SetToken token) = none_named
+named (SetBucketSize bucket size) = record none_named { slot = Some bucket; made_size = Some size }
+named (SetBucketData bucket offset size memory memory_offset) = record none_named { slot = Some bucket; transfer_range = bytes_at memory memory_offset size }
+named (SetBucketDataImmediate bucket offset size) = record none_named { slot = Some bucket; immediate_size = Some size }
+named (GetBucketStart bucket result_memory result_offset data_size data_memory data_offset) =
+    record none_named { slot = Some bucket; size_range = bytes_at result_memory result_offset 4; data_range = if data_size == 0 then None else bytes_at data_memory data_offset data_size }
+named (GetBucketData bucket offset size memory memory_offset) = record none_named { slot = Some bucket; data_range = bytes_at memory memory_offset size }
+named (InsertFence low high) = none_named
+named (WaitToken stream low high) = none_named
+named (CreateImage image width height) = none_named
+named (DeleteImage image) = none_named
+named (ClearRect image x y w h texel) = none_named
+named (CopyRect source sx sy target dx dy w h) = none_named
+named (UploadRect image x y w h format memory memory_offset) = record none_named { format = Some format; transfer_range = bytes_at memory memory_offset (w * h * texel_bytes format) }
+named (UploadBucket image x y w h format bucket) = record none_named { format = Some format; slot = Some bucket }
+named (CreateBuffer buffer size) = record none_named { slot = Some buffer; made_size = Some size }
+named (DeleteBuffer buffer) = record none_named { slot = Some buffer }
+named (BufferData buffer offset size memory memory_offset) = record none_named { slot = Some buffer; transfer_range = bytes_at memory memory_offset size }
+named (UploadBuffer image x y w h format buffer offset) = record none_named { format = Some format; slot = Some buffer }
+named (WaitSyncToken namespace id_low id_high low high) = none_named
 
 -- the words that bytes from an offset on touch: offset div 4 to (offset + bytes - 1) div 4, and none for no byte
 abbrev pub places_from : Span → Range → Places
@@ -76,4 +70,4 @@ places_in spans range = option_map_or (λ span. places_from span range) (span_at
 
 -- the transfer places of a command
 abbrev pub transfer_places : Areas → Command → Places
-transfer_places areas command = option_map_or (places_in areas.memories) (transfer_range command) (record { from = 0; count = 0 })
+transfer_places areas command = option_map_or (places_in areas.memories) (named command).transfer_range (record { from = 0; count = 0 })

@@ -4,13 +4,13 @@ ghost use Rattle.gpu_cmd.specs.Spans.{span_at, words_in};
 ghost use Rattle.gpu_cmd.specs.Tiling.{lies_among, is_apart, each_declared, all_apart, are_tiles};
 
 /// How many entries a ring has at least.
-const LEAST_RING: u32 = 16;
+pub const LEAST_RING: u32 = 16;
 
 /// How many entries a ring has at most.
-const MOST_RING: u32 = 4096;
+pub const MOST_RING: u32 = 4096;
 
 /// How many words the transfer memories, or the result memories, of a stream have at most.
-const MOST_WORDS: u64 = 65_536;
+pub const MOST_WORDS: u64 = 65_536;
 
 /// The places of a transfer memory or of a result memory.
 #[derive(Clone, Copy, Debug, PartialEq, Eq)]

@@ -1,7 +1,8 @@
-ghost use Rattle.std.specs.Prelude.{◌≡◌, ◌+◌, ◌*◌, ◌<◌, ◌≤◌, ◌^◌, IfSome, IsTrue};
+ghost use Rattle.std.specs.Prelude.{◌≡◌, ◌+◌, ◌-◌, ◌*◌, ◌<◌, ◌≤◌, ◌^◌, nat_le, nat_lt, is_some, IfSome, IsTrue};
+ghost use Rattle.gpu_word.specs.Formats.{format_of};
 ghost use Rattle.gpu_cmd.specs.Lawful.{IsLawfulAreas, places_of};
-ghost use Rattle.gpu_cmd.specs.Ranges.{texel_bytes, format_in, slot_in, made_size_in, immediate_size_in, transfer_range, size_range, data_range, transfer_places};
-ghost use Rattle.gpu_cmd.specs.Checks.{has_format, has_slot, has_data, has_aligned_results, has_memories};
+ghost use Rattle.gpu_cmd.specs.Ranges.{texel_bytes, named, transfer_places};
+ghost use Rattle.gpu_cmd.specs.Checks.{has_aligned_results, has_arguments, has_memories};
 
 use crate::areas::Areas;
 use crate::command::Command;
@@ -9,69 +10,39 @@ use crate::range::{Places, Range, WORD_BYTES};
 use gpu_word::Format;
 
 /// How many buckets, and how many buffers, a stream has.
-const SLOTS: u32 = 16;
+pub const SLOTS: usize = 16;
 
 /// How many bytes a bucket or a buffer has at most.
-const MOST_BYTES: u32 = 262_144;
+pub const MOST_SLOT_BYTES: u32 = 262_144;
 
 /// How many ring entries of a SetBucketDataImmediate stand before its data.
 const ENTRIES_BEFORE_DATA: usize = 4;
 
+// Check 6: a format has a number from 1 to 4.
+fn is_format(number: u32) -> bool
+    ensures { result ≡ is_some (format_of number) }
+{
+    Format::of(number).is_some()
+}
+
+// Check 7: there are 16 buckets and 16 buffers.
+fn is_slot(number: u32) -> bool
+    ensures { result ≡ nat_lt number SLOTS }
+{
+    (number as usize) < SLOTS
+}
+
+// Check 8: the data entries of a number of ring words hold this number of bytes.
+fn has_data(entries: usize, size: u32) -> bool
+    ensures { result ≡ nat_le size (4 * (entries - 4)) }
+{
+    (size as usize).div_ceil(WORD_BYTES as usize) <= entries.saturating_sub(ENTRIES_BEFORE_DATA)
+}
+
 impl Command {
-    // The number of the format that texels are read in.
-    fn format(self) -> Option<u32>
-        ensures { result ≡ format_in self }
-    {
-        match self {
-            Command::UploadRect { format, .. }
-            | Command::UploadBucket { format, .. }
-            | Command::UploadBuffer { format, .. } => Some(format),
-            _ => None,
-        }
-    }
-
-    // The bucket or the buffer.
-    fn slot(self) -> Option<u32>
-        ensures { result ≡ slot_in self }
-    {
-        match self {
-            Command::SetBucketSize { bucket, .. }
-            | Command::SetBucketData { bucket, .. }
-            | Command::SetBucketDataImmediate { bucket, .. }
-            | Command::GetBucketStart { bucket, .. }
-            | Command::GetBucketData { bucket, .. }
-            | Command::UploadBucket { bucket, .. } => Some(bucket),
-            Command::CreateBuffer { buffer, .. }
-            | Command::DeleteBuffer { buffer }
-            | Command::BufferData { buffer, .. }
-            | Command::UploadBuffer { buffer, .. } => Some(buffer),
-            _ => None,
-        }
-    }
-
-    // The size that a bucket or a buffer is made with.
-    fn made_size(self) -> Option<u32>
-        ensures { result ≡ made_size_in self }
-    {
-        match self {
-            Command::SetBucketSize { size, .. } | Command::CreateBuffer { size, .. } => Some(size),
-            _ => None,
-        }
-    }
-
-    // The bytes that are read from the data entries.
-    fn immediate_size(self) -> Option<u32>
-        ensures { result ≡ immediate_size_in self }
-    {
-        match self {
-            Command::SetBucketDataImmediate { size, .. } => Some(size),
-            _ => None,
-        }
-    }
-
     // The bytes that are read from a transfer memory.
     fn transfer_range(self) -> Option<Range>
-        ensures range { result ≡ transfer_range self }
+        ensures range { result ≡ (named self).transfer_range }
         ensures small { IfSome result (λ range. range.bytes < 2 ^ 67) }
     {
         match self {
@@ -109,7 +80,7 @@ impl Command {
 
     // The word of a result memory that a bucket's size is written to.
     fn size_range(self) -> Option<Range>
-        ensures range { result ≡ size_range self }
+        ensures range { result ≡ (named self).size_range }
         ensures small { IfSome result (λ range. range.bytes < 2 ^ 67) }
     {
         match self {
@@ -128,7 +99,7 @@ impl Command {
 
     // The bytes of a result memory that a bucket's bytes are written to.
     fn data_range(self) -> Option<Range>
-        ensures range { result ≡ data_range self }
+        ensures range { result ≡ (named self).data_range }
         ensures small { IfSome result (λ range. range.bytes < 2 ^ 67) }
     {
         match self {
@@ -156,35 +127,44 @@ impl Command {
         }
     }
 
-    // Check 6: a format has a number from 1 to 4.
-    pub(crate) fn has_format(self) -> bool
-        ensures { result ≡ has_format self }
+    // Checks 6 to 8, which have one error:
+    // - a format has a number from 1 to 4
+    // - there are 16 buckets and 16 buffers, of at most 262,144 bytes each
+    // - the data entries hold all bytes that are read from them; `entries` counts the command's ring words
+    // - result memories are written from the start of a word on
+    pub(crate) fn has_arguments(self, entries: usize) -> bool
+        ensures { result ≡ has_arguments entries self }
     {
-        self.format()
-            .is_none_or(|number| Format::of(number).is_some())
-    }
-
-    // Check 7: there are 16 buckets and 16 buffers, of at most 262,144 bytes each.
-    pub(crate) fn has_slot(self) -> bool
-        ensures { result ≡ has_slot self }
-    {
-        self.slot().is_none_or(|slot| slot < SLOTS)
-            && self.made_size().is_none_or(|size| size <= MOST_BYTES)
-    }
-
-    // Check 8: the data entries hold all bytes that are read from them. `entries` counts the command's ring words.
-    pub(crate) fn has_data(self, entries: usize) -> bool
-        ensures { result ≡ has_data entries self }
-    {
-        let data_entries = entries.saturating_sub(ENTRIES_BEFORE_DATA);
-        match self.immediate_size() {
-            Some(size) => (size as usize).div_ceil(WORD_BYTES as usize) <= data_entries,
-            None => true,
+        match self {
+            Command::Noop
+            | Command::SetToken { .. }
+            | Command::InsertFence { .. }
+            | Command::WaitToken { .. }
+            | Command::CreateImage { .. }
+            | Command::DeleteImage { .. }
+            | Command::ClearRect { .. }
+            | Command::CopyRect { .. }
+            | Command::WaitSyncToken { .. } => true,
+            Command::SetBucketSize { bucket, size } => is_slot(bucket) && size <= MOST_SLOT_BYTES,
+            Command::SetBucketData { bucket, .. } => is_slot(bucket),
+            Command::SetBucketDataImmediate { bucket, size, .. } => {
+                is_slot(bucket) && has_data(entries, size)
+            }
+            Command::GetBucketStart { bucket, .. } | Command::GetBucketData { bucket, .. } => {
+                is_slot(bucket) && self.has_aligned_results()
+            }
+            Command::UploadRect { format, .. } => is_format(format),
+            Command::UploadBucket { format, bucket, .. } => is_format(format) && is_slot(bucket),
+            Command::CreateBuffer { buffer, size } => is_slot(buffer) && size <= MOST_SLOT_BYTES,
+            Command::DeleteBuffer { buffer } | Command::BufferData { buffer, .. } => is_slot(
+                buffer,
+            ),
+            Command::UploadBuffer { format, buffer, .. } => is_format(format) && is_slot(buffer),
         }
     }
 
     // Check 8: result memories are written from the start of a word on.
-    pub(crate) fn has_aligned_results(self) -> bool
+    fn has_aligned_results(self) -> bool
         ensures { result ≡ has_aligned_results self }
     {
         self.size_range().is_none_or(|range| range.is_aligned())

@@ -32,10 +32,7 @@ fn checked(ring_words: usize, command: Command, facts: &StreamFacts) -> Result<D
     ensures quota { IfOk result
         (λ found. facts.now.fetched + ring_words + found.count ≤ most_fetched) }
 {
-    if !command.has_format() || !command.has_slot() {
-        return Err(CmdError::InvalidArguments);
-    }
-    if !command.has_data(ring_words) || !command.has_aligned_results() {
+    if !command.has_arguments(ring_words) {
         return Err(CmdError::InvalidArguments);
     }
     if !command.has_memories(&facts.areas) {

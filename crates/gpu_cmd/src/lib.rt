@@ -29,8 +29,8 @@ mod range;
 mod shape;
 mod table;
 
-pub use areas::{Areas, Span, span_at, words_in};
-pub use checks::texels_bytes;
+pub use areas::{Areas, LEAST_RING, MOST_RING, MOST_WORDS, Span, span_at, words_in};
+pub use checks::{MOST_SLOT_BYTES, SLOTS, texels_bytes};
 pub use command::Command;
 pub use decoded::{Decoded, decode};
 pub use error::CmdError;

@@ -8,6 +8,7 @@ use Rattle.gpu_cmd.specs.Lawful.{IsLawfulAreas, places_of}
 use Rattle.gpu_cmd.specs.Spans.{words_in}
 use Rattle.gpu_cmd.specs.declared.name.Name.{Name}
 use Rattle.script_lines.specs.Names.{is_name}
+use Rattle.gpu_plan.specs.declared.acting.TheConstants.{MOST_FENCES}
 use Rattle.gpu_plan.specs.declared.plan.Action.{Action}
 use Rattle.gpu_plan.specs.declared.plan.Action.TheVariants.{Put, Flush, Finish, Token, Close}
 use Rattle.gpu_cmd.specs.declared.priority.Priority.{Priority}
@@ -33,10 +34,10 @@ IsWithin places Finish = Unit {0}
 IsWithin places (Token token) = Unit {0}
 IsWithin places Close = Unit {0}
 
--- a flush has at most 16 fences
+-- a flush has few fences
 abbrev pub HasFewFences : Action → Type 0
 HasFewFences (Put place value) = Unit {0}
-HasFewFences (Flush put fences) = length fences ≤ 16
+HasFewFences (Flush put fences) = length fences ≤ MOST_FENCES
 HasFewFences Finish = Unit {0}
 HasFewFences (Token token) = Unit {0}
 HasFewFences Close = Unit {0}

@@ -21,7 +21,7 @@ const MOST_ACTIONS: usize = 1_000_000;
 const MOST_FLUSHES: usize = 100_000;
 
 /// The most fences of a flush.
-const MOST_FENCES: usize = 16;
+pub const MOST_FENCES: usize = 16;
 
 // The draft, where a stream was begun.
 fn begun(draft: Draft) -> Result<Begun, LineError>

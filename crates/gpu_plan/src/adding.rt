@@ -14,18 +14,13 @@ use crate::begun::Begun;
 use crate::draft::Draft;
 use crate::plan::{Action, Plan};
 use crate::spans::spans_with;
-use gpu_cmd::Name;
+use gpu_cmd::{LEAST_RING, MOST_RING, Name};
 use script_lines::{
     Keyword, Kind, LineError, Names, Words, fill_begun, fill_said, flush_said, keyword_of,
     none_said, one_said, put_begun, put_said, stream_said, two_said,
 };
 use std::alloc::{AllocError, Global};
 use std::mem::replace;
-
-/// The fewest and the most entries of a ring.
-const LEAST_RING: u32 = 16;
-
-const MOST_RING: u32 = 4096;
 
 /// The greatest namespace of a stream's name.
 const LAST_NAMESPACE: u32 = 255;

@@ -5,6 +5,7 @@ ghost use Rattle.script_lines.specs.Left.{values_left};
 ghost use Rattle.gpu_plan.specs.Plans.{IsWithin, is_closed, ring_alone};
 ghost use Rattle.gpu_plan.specs.Adding.{fresh_plan};
 ghost use Rattle.gpu_plan.specs.Putting.{can_put, word_puts, with_word_puts};
+ghost use Rattle.gpu_plan.specs.declared.acting.TheConstants.{MOST_FENCES};
 ghost use Rattle.gpu_plan.specs.declared.plan.Action.TheVariants.{Flush, Finish};
 ghost use Rattle.gpu_plan.specs.Fencing.{fences_in};
 
@@ -113,7 +114,7 @@ impl Plan {
     pub(crate) fn add_flush(&mut self, put: u32, fences: Vec<(u32, u64)>) -> Result<(), AllocError>
         requires unclosed { is_closed self.old.actions ≡ false }
         requires few { length self.old.actions < 1000000 }
-        requires fenced { length fences.items ≤ 16 }
+        requires fenced { length fences.items ≤ MOST_FENCES }
         ensures added { OnOk result
             (self.new
             ≡ record self.old { actions = self.old.actions ++ Flush put fences.items ∷ [] }) }

@@ -3,14 +3,11 @@ ghost use Rattle.gpu_cmd.specs.Spans.{AreTiles};
 ghost use Rattle.script_lines.specs.Outcome.{Gives};
 ghost use Rattle.gpu_plan.specs.Adding.{spans_with};
 
-use gpu_cmd::{Span, span_at, words_in};
+use gpu_cmd::{MOST_WORDS, Span, span_at, words_in};
 use script_lines::{Kind, LineError};
 
 /// The greatest number of a memory.
 const LAST_MEMORY: u32 = 15;
-
-/// The most words that the transfer memories, or the result memories, of a stream have.
-const MOST_WORDS: u64 = 65_536;
 
 /// Memories that count from a first place on, with one more after those before.
 #[tactic(auto, unfolding(crate::specs::Adding::spans_with))]

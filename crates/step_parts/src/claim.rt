@@ -58,6 +58,7 @@ pub fn claim_of(plans: &Plans, command: &Command) -> Claim
             }),
             release: joined(release_low, release_high),
         },
+        // A command that is forgotten here is refused by the proof of `act`.
         _ => Claim::Nothing,
     }
 }

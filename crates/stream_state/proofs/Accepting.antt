@@ -4,7 +4,7 @@ use Rattle.std.specs.Prelude.{◌==◌, ◌&&◌, nat_le, slice_index, if◌then
 use Rattle.std.specs.Option.{option_map_or}
 use Rattle.std.specs.List.{range_with_len, AllByRecursion}
 use Rattle.std.specs.List.Sorted.{IsStrictlyIncreasing}
-use Rattle.std.proofs.lemmas.Bool.{cases_lt}
+use Rattle.std.proofs.lemmas.Bool.{and_parts, cases_lt}
 use Rattle.std.proofs.lemmas.Bool.Decides.{nat_tests}
 use Rattle.std.proofs.lemmas.List.{length-map, map-append}
 use Rattle.std.proofs.lemmas.List.Kept.{AllPairs-from_increasing}
@@ -22,7 +22,7 @@ use Rattle.gpu_cmd.specs.Lawful.{IsLawfulFacts, room}
 use Rattle.gpu_word.specs.Outcome.{◌>>=◌, unless, or_error}
 use Rattle.gpu_cmd.specs.Table.{Row, row_of, fits, ring_words_of, argument, said_by, command_said}
 use Rattle.gpu_cmd.specs.Ranges.{transfer_places}
-use Rattle.gpu_cmd.specs.Checks.{headed, checked, decoded, has_format, has_slot, has_data, has_aligned_results, has_memories, is_within_quota}
+use Rattle.gpu_cmd.specs.Checks.{headed, checked, decoded, has_format, has_slot, has_data, has_aligned_results, has_arguments, has_memories, is_within_quota}
 use Rattle.gpu_cmd.specs.Copied.{copied, fetched_places, judged, places_headed, places_decoded, ring_places, value_in, places_listed, IsCopy}
 use Rattle.gpu_cmd.proofs.Heads.{headed_some, headed_fits}
 use Rattle.gpu_cmd.proofs.Copies.{judged_out, places_in, judged_headed, judged_in}
@@ -97,30 +97,28 @@ pub record Passed (ring_words : ℕ) (command : Command) (facts : StreamFacts) (
 abbrev answer_of : Command → StreamFacts → Decoded
 answer_of command facts = record { command = command; from = (transfer_places facts.areas command).from; count = (transfer_places facts.areas command).count }
 
-record Five (a b c m : Bool) (said found : Decoded) : Type 0 where
+record Three (a m : Bool) (said found : Decoded) : Type 0 where
   first : IsTrue a
-  second : IsTrue b
-  third : IsTrue c
-  fourth : IsTrue m
+  second : IsTrue m
   answer : said ≡ found
 
-five_passed : (a b c m q : Bool) (said found : Decoded) → (unless a InvalidArguments >>= λ _. unless b InvalidArguments >>= λ _. unless c InvalidArguments >>= λ _. unless m OutOfBounds >>= λ _. unless q Quota >>= λ _. Ok said) ≡ Ok found → Five a b c m said found
-five_passed false b c m q said found h = absurd (cc)
-five_passed true false c m q said found h = absurd (cc)
-five_passed true true false m q said found h = absurd (cc)
-five_passed true true true false q said found h = absurd (cc)
-five_passed true true true true false said found h = absurd (cc)
-five_passed true true true true true said found h = record { first = refl; second = refl; third = refl; fourth = refl; answer = cc }
+three_passed : (a m q : Bool) (said found : Decoded) → (unless a InvalidArguments >>= λ _. unless m OutOfBounds >>= λ _. unless q Quota >>= λ _. Ok said) ≡ Ok found → Three a m said found
+three_passed false m q said found h = absurd (cc)
+three_passed true false q said found h = absurd (cc)
+three_passed true true false said found h = absurd (cc)
+three_passed true true true said found h = record { first = refl; second = refl; answer = cc }
 
 checked_passed : (ring_words : ℕ) (command : Command) (facts : StreamFacts) (found : Decoded) → checked ring_words command facts ≡ Ok found → Passed ring_words command facts found
 unfolding checked
 checked_passed ring_words command facts found h =
-    let p = five_passed (has_format command) (has_slot command) (has_data ring_words command && has_aligned_results command) (has_memories facts.areas command) (is_within_quota (facts.fetched + ring_words + (transfer_places facts.areas command).count)) (answer_of command facts) found h in
+    let p = three_passed (has_arguments ring_words command) (has_memories facts.areas command) (is_within_quota (facts.fetched + ring_words + (transfer_places facts.areas command).count)) (answer_of command facts) found h in
+    let arguments = and_parts (has_format command) (has_slot command && (has_data ring_words command && has_aligned_results command)) p.first in
+    let rest = and_parts (has_slot command) (has_data ring_words command && has_aligned_results command) arguments.1 in
     record {
-      format = p.first;
-      slot = p.second;
-      bytes = p.third;
-      memories = p.fourth;
+      format = arguments.0;
+      slot = rest.0;
+      bytes = rest.1;
+      memories = p.second;
       same = ap (λ d. d.command) (sym p.answer);
       count = ap (λ d. d.count) (sym p.answer);
     }

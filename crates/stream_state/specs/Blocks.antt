@@ -1,6 +1,7 @@
 -- Blocks of bytes by their numbers: the buckets or the buffers of a stream.
 use Rattle.std.specs.Prelude.{ℕ, ◌+◌, ◌==◌, nat_le, Bool, false, List, [], ◌++◌, length, take, drop, replicate, slice_get, slice_set, Option, Some, None, unwrap_or, if◌then◌else◌}
 use Rattle.std.specs.Option.{option_map_or}
+use Rattle.gpu_cmd.specs.declared.checks.TheConstants.{SLOTS}
 
 -- each number's bytes, where there is such a block
 abbrev pub Blocks : Type 0
@@ -8,7 +9,7 @@ Blocks = List (Option (List ℕ))
 
 -- sixteen numbers without a block
 abbrev pub no_blocks : Blocks
-no_blocks = replicate 16 None
+no_blocks = replicate SLOTS None
 
 -- the bytes of a number's block, where it is there
 abbrev pub block_of : Blocks → ℕ → Option (List ℕ)

@@ -1,12 +1,10 @@
 ghost use Rattle.std.specs.Prelude.{◌≡◌, ◌+◌, ◌≤◌, length, IfOk};
 ghost use Rattle.stream_state.specs.Blocks.{zeros, overwritten};
 
+use gpu_cmd::MOST_SLOT_BYTES;
 use gpu_word::Memory;
 use std::alloc::Global;
 use std::marker::Model;
-
-/// How many bytes a bucket or a buffer has at most.
-pub(crate) const MOST_BYTES: u32 = 262_144;
 
 /// The bytes of a bucket or of a buffer.
 #[derive(Debug, Drop)]
@@ -16,18 +14,19 @@ pub struct Block {
 
 impl Model for Block {
     ghost use Rattle.std.specs.Prelude.{ℕ, List, ◌≤◌, length};
+    ghost use Rattle.gpu_cmd.specs.declared.checks.TheConstants.{MOST_SLOT_BYTES};
 
     ghost Value = { List ℕ };
 
     ghost view = { λ block. block.bytes.items };
 
-    ghost invariant = { λ block. length block.bytes.items ≤ 262144 };
+    ghost invariant = { λ block. length block.bytes.items ≤ MOST_SLOT_BYTES };
 }
 
 impl Block {
     /// A block of a given number of zero bytes.
     pub fn make(alloc: Global, size: u32) -> Result<Block, Memory>
-        requires { size ≤ MOST_BYTES }
+        requires { size ≤ MOST_SLOT_BYTES }
         ensures { IfOk result (λ block. block ≡ zeros size) }
     {
         let bytes = vec![in alloc; 0; size as usize]?;
@@ -37,7 +36,7 @@ impl Block {
     /// How many bytes there are.
     pub fn size(&self) -> u32
         ensures size { result ≡ length self.now }
-        ensures most { result ≤ MOST_BYTES }
+        ensures most { result ≤ MOST_SLOT_BYTES }
     {
         self.bytes.len() as u32
     }
@@ -45,7 +44,7 @@ impl Block {
     /// The bytes.
     pub fn as_slice(&self) -> &[u8]
         ensures bytes { result.now ≡ self.now }
-        ensures most { length result.now ≤ MOST_BYTES }
+        ensures most { length result.now ≤ MOST_SLOT_BYTES }
     {
         self.bytes.as_slice()
     }

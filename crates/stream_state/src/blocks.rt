@@ -2,18 +2,16 @@ ghost use Rattle.std.specs.Prelude.{◌≡◌, ◌<◌, ◌≤◌, ◌+◌, ◌^
 ghost use Rattle.stream_state.specs.Blocks.{no_blocks, block_of, bytes_in, part, has_range, with_block, without_block, zeros, sized, written_over};
 
 use crate::block::Block;
+use gpu_cmd::{MOST_SLOT_BYTES, SLOTS};
 use gpu_word::Memory;
 use std::alloc::Global;
 use std::marker::Model;
-
-/// How many buckets, or buffers, a stream has at most.
-const MOST_BLOCKS: usize = 16;
 
 /// The buckets or the buffers of a stream by their numbers, from 0 to 15.
 #[derive(Debug, Drop)]
 pub struct Blocks {
     alloc: Global,
-    blocks: [Option<Block>; MOST_BLOCKS],
+    blocks: [Option<Block>; SLOTS],
 }
 
 impl Model for Blocks {
@@ -52,7 +50,7 @@ impl Blocks {
     /// The bytes of a block, where it is there.
     pub fn bytes(&self, number: u32) -> Option<&[u8]>
         ensures bytes { option_map (λ bytes. bytes.now) result ≡ block_of self.now number }
-        ensures most { IfSome result (λ bytes. length bytes.now ≤ 262144) }
+        ensures most { IfSome result (λ bytes. length bytes.now ≤ MOST_SLOT_BYTES) }
     {
         match self.blocks.get(number as usize) {
             Some(Some(block)) => Some(block.as_slice()),
@@ -63,7 +61,7 @@ impl Blocks {
     /// The bytes of a block, and none where it is missing.
     pub fn all(&self, number: u32) -> &[u8]
         ensures bytes { result.now ≡ bytes_in self.now number }
-        ensures most { length result.now ≤ 262144 }
+        ensures most { length result.now ≤ MOST_SLOT_BYTES }
     {
         match self.bytes(number) {
             Some(bytes) => bytes,
@@ -76,7 +74,7 @@ impl Blocks {
         requires { IsTrue (has_range self.now number offset count) }
         ensures bytes { result.now ≡ part (bytes_in self.now number) offset count }
         ensures count { length result.now ≡ count }
-        ensures most { count ≤ 262144 }
+        ensures most { count ≤ MOST_SLOT_BYTES }
     {
         part(self.all(number), offset as usize, count as usize)
     }
@@ -94,8 +92,8 @@ impl Blocks {
 
     /// Makes a block of a given number of zero bytes.
     pub fn create(&mut self, number: u32, size: u32) -> Result<(), Memory>
-        requires number { number < 16 }
-        requires size { size ≤ 262144 }
+        requires number { number < SLOTS }
+        requires size { size ≤ MOST_SLOT_BYTES }
         ensures made { OnOk result (self.new ≡ with_block self.old number (zeros size)) }
         ensures memory { OnErr result (self.new ≡ self.old) }
     {
@@ -106,7 +104,7 @@ impl Blocks {
 
     /// Takes a block away.
     pub fn delete(&mut self, number: u32)
-        requires { number < 16 }
+        requires { number < SLOTS }
         ensures { self.new ≡ without_block self.old number }
     {
         self.blocks[number as usize] = None;
@@ -114,8 +112,8 @@ impl Blocks {
 
     /// Gives a block a size: zero bytes, unless it has this size already.
     pub fn resize(&mut self, number: u32, size: u32) -> Result<(), Memory>
-        requires number { number < 16 }
-        requires size { size ≤ 262144 }
+        requires number { number < SLOTS }
+        requires size { size ≤ MOST_SLOT_BYTES }
         ensures made { OnOk result (self.new ≡ sized self.old number size) }
         ensures memory { OnErr result (self.new ≡ self.old) }
     {

@@ -20,7 +20,17 @@ impl StreamState {
             Command::DeleteBuffer { buffer }
             | Command::BufferData { buffer, .. }
             | Command::UploadBuffer { buffer, .. } => self.buffers.bytes(buffer).is_some(),
-            _ => true,
+            Command::Noop
+            | Command::SetToken { .. }
+            | Command::SetBucketSize { .. }
+            | Command::InsertFence { .. }
+            | Command::WaitToken { .. }
+            | Command::CreateImage { .. }
+            | Command::DeleteImage { .. }
+            | Command::ClearRect { .. }
+            | Command::CopyRect { .. }
+            | Command::UploadRect { .. }
+            | Command::WaitSyncToken { .. } => true,
         }
     }
 

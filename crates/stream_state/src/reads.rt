@@ -1,6 +1,5 @@
 //! What a command reads of a bucket into result memories.
 ghost use Rattle.std.specs.Prelude.{◌≡◌, ◌≤◌, ◌<◌, ◌^◌, length, take, IsTrue, IsErr, IfOk};
-ghost use Rattle.gpu_cmd.specs.Spans.{span_at};
 ghost use Rattle.gpu_cmd.specs.Lawful.{IsLawfulAreas};
 ghost use Rattle.stream_state.specs.Verdict.{has_bytes};
 ghost use Rattle.stream_state.specs.Writes.{words_written, with_write};
@@ -9,19 +8,12 @@ ghost use Rattle.stream_state.specs.Accepted.{takes_memory};
 
 use crate::state::StreamState;
 use crate::writes::Writes;
-use gpu_cmd::{Areas, Command, Span};
+use gpu_cmd::{Areas, Command, MOST_SLOT_BYTES, span_at};
 use gpu_word::Memory;
 use std::alloc::Global;
 
 /// How many bytes a word has.
 const WORD_BYTES: u32 = 4;
-
-// The span of a memory, where it is declared.
-fn span_at(spans: &[Option<Span>; 16], memory: u32) -> Option<Span>
-    ensures { result ≡ span_at spans.now memory }
-{
-    spans.get(memory as usize).copied().flatten()
-}
 
 // The result place at an offset into a result memory.
 #[tactic(auto, using(crate::proofs::Counts::span_low))]
@@ -44,7 +36,7 @@ fn start_writes(
     data_size: u32,
     data_place: u32,
 ) -> Result<Writes, Memory>
-    requires size { length bytes.now ≤ 262144 }
+    requires size { length bytes.now ≤ MOST_SLOT_BYTES }
     requires place { data_place < 2 ^ 31 }
     ensures { IfOk result (λ writes. writes
         ≡ with_write (size_place, length bytes.now)
