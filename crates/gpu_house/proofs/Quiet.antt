@@ -1,16 +1,16 @@
 -- A member at which no batch ends: its step neither waits nor is the last of its flush.
 use Rattle.std.proofs.Common.{◌≡◌, ◌≢◌, ℕ, ◌-◌, suc, Bool, true, false, Option, Some, None, List, [], ◌∷◌, length, take, refl, sym, ap, subst, ◌∙◌, arith}
-use Rattle.std.specs.Prelude.{◌==◌, Result, Ok, Err, option_map, unwrap_or, if◌then◌else◌}
+use Rattle.std.specs.Prelude.{◌==◌, ◌||◌, Result, Ok, Err, is_some, option_map, unwrap_or, if◌then◌else◌}
 use Rattle.std.specs.Option.{option_map_or}
 use Rattle.std.specs.List.{All}
 use Rattle.std.proofs.lemmas.Bool.Decides.{nat_tests}
 use Rattle.std.proofs.lemmas.List.Elements.{All-head, All-tail}
 use Rattle.gpu_cmd.specs.declared.areas.Areas.{Areas}
 use Rattle.gpu_cmd.specs.declared.command.Command.{Command}
-use Rattle.gpu_cmd.specs.declared.command.Command.TheVariants.{Noop, SetToken, SetBucketSize, SetBucketData, SetBucketDataImmediate, GetBucketStart, GetBucketData, InsertFence, WaitToken, CreateImage, DeleteImage, ClearRect, CopyRect, UploadRect, UploadBucket, CreateBuffer, DeleteBuffer, BufferData, UploadBuffer, WaitSyncToken}
 use Rattle.gpu_cmd.specs.declared.error.CmdError.{CmdError}
 use Rattle.gpu_cmd.specs.declared.facts.StreamFacts.{StreamFacts}
 use Rattle.gpu_cmd.specs.Copied.{IsCopy}
+use Rattle.gpu_cmd.specs.Ranges.{named}
 use Rattle.gpu_store.specs.declared.op.Op.{Op}
 use Rattle.gpu_plan.specs.Plans.{PlansData, plan_of}
 use Rattle.gpu_fetch.specs.Fetched.{FetchedData, IsFetched}
@@ -55,26 +55,11 @@ passes member off = by member.verdict refl off
 -- ---- it does not wait
 
 untold : (command : Command) → is_heard command ≡ false → told command ≡ None
-untold (SetToken token) off = absurd (cc)
-untold (InsertFence low high) off = absurd (cc)
-untold (WaitToken stream low high) off = absurd (cc)
-untold (WaitSyncToken namespace id_low id_high low high) off = absurd (cc)
-untold Noop off = refl
-untold (SetBucketSize bucket size) off = refl
-untold (SetBucketData bucket offset size memory memory_offset) off = refl
-untold (SetBucketDataImmediate bucket offset size) off = refl
-untold (GetBucketStart bucket result_memory result_offset data_size data_memory data_offset) off = refl
-untold (GetBucketData bucket offset size memory memory_offset) off = refl
-untold (CreateImage image width height) off = refl
-untold (DeleteImage image) off = refl
-untold (ClearRect image x y w h texel) off = refl
-untold (CopyRect source sx sy target dx dy w h) off = refl
-untold (UploadRect image x y w h format memory memory_offset) off = refl
-untold (UploadBucket image x y w h format bucket) off = refl
-untold (CreateBuffer buffer size) off = refl
-untold (DeleteBuffer buffer) off = refl
-untold (BufferData buffer offset size memory memory_offset) off = refl
-untold (UploadBuffer image x y w h format buffer offset) off = refl
+untold command off = by (told command) (is_some (named command).size_range || is_some (named command).data_range) off
+  where
+    by : (o : Option Effect) (writes : Bool) → (is_some o || writes) ≡ false → o ≡ None
+    by None writes off = refl
+    by (Some asks) writes off = absurd (cc)
 
 no_wait : (p : PlansData) (h : List Event) (s : ℕ) (areas : Areas) (command : Command) (words : List (ℕ × ℕ)) (state : State) → told command ≡ None → keeps p h s (effect_of areas command words state) ≡ false
 unfolding effect_of asked

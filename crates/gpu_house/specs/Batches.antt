@@ -1,14 +1,14 @@
 -- Batches: commands that a run fetches one after the other without the lock, to be committed under one.
-use Rattle.std.specs.Prelude.{◌≡◌, ℕ, ◌+◌, ◌-◌, ◌==◌, ◌<◌, ◌≤◌, ◌⊎◌, Bool, true, false, List, [], ◌∷◌, ◌++◌, length, map, flat_map, take, drop, slice_get, Result, Ok, Err, IfSome, if◌then◌else◌}
+use Rattle.std.specs.Prelude.{◌≡◌, ℕ, ◌+◌, ◌-◌, ◌==◌, ◌<◌, ◌≤◌, ◌⊎◌, ◌||◌, Bool, true, false, is_some, List, [], ◌∷◌, ◌++◌, length, map, flat_map, take, drop, slice_get, Result, Ok, Err, IfSome, if◌then◌else◌}
 use Rattle.std.specs.List.{All}
 use Rattle.gpu_word.specs.Header.{size_of}
 use Rattle.gpu_cmd.specs.declared.command.Command.{Command}
-use Rattle.gpu_cmd.specs.declared.command.Command.TheVariants.{SetToken, GetBucketStart, GetBucketData, InsertFence, WaitToken, WaitSyncToken}
 use Rattle.gpu_cmd.specs.declared.error.CmdError.{CmdError}
 use Rattle.gpu_cmd.specs.declared.facts.StreamFacts.{StreamFacts}
+use Rattle.gpu_cmd.specs.Ranges.{named}
 use Rattle.gpu_fetch.specs.Side.{SideData, Fetches}
 use Rattle.gpu_fetch.specs.Fetched.{FetchedData, IsFetched, FetchesSome}
-use Rattle.stream_state.specs.Steps.{header_in}
+use Rattle.stream_state.specs.Steps.{header_in, told}
 use Rattle.house_core.specs.Answers.{further}
 
 -- ---- one command after the other
@@ -47,15 +47,9 @@ pub record AreNext (facts : StreamFacts) (list words : List (ℕ × ℕ)) : Type
 
 -- ---- where a batch ends
 
--- the step of the command may be told to a client or to another stream, or may wait
+-- the step of the command is told to a client or to another stream, or may wait: it asks that, or it writes results
 abbrev pub is_heard : Command → Bool
-is_heard (SetToken token) = true
-is_heard (InsertFence low high) = true
-is_heard (WaitToken stream low high) = true
-is_heard (WaitSyncToken namespace id_low id_high low high) = true
-is_heard (GetBucketStart bucket result_memory result_offset data_size data_memory data_offset) = true
-is_heard (GetBucketData bucket offset size memory memory_offset) = true
-is_heard _ = false
+is_heard command = is_some (told command) || (is_some (named command).size_range || is_some (named command).data_range)
 
 -- a batch ends at an error, at a command that is heard, and where nothing is left of the flush after the command
 abbrev pub ends_by : Result Command CmdError → StreamFacts → Bool

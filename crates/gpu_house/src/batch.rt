@@ -44,13 +44,26 @@ fn is_heard(command: &Command) -> bool
     ensures { result ≡ is_heard command.now }
 {
     match command {
-        Command::SetToken { .. } => true,
-        Command::InsertFence { .. } => true,
-        Command::WaitToken { .. } => true,
-        Command::WaitSyncToken { .. } => true,
-        Command::GetBucketStart { .. } => true,
-        Command::GetBucketData { .. } => true,
-        _ => false,
+        Command::SetToken { .. }
+        | Command::GetBucketStart { .. }
+        | Command::GetBucketData { .. }
+        | Command::InsertFence { .. }
+        | Command::WaitToken { .. }
+        | Command::WaitSyncToken { .. } => true,
+        Command::Noop
+        | Command::SetBucketSize { .. }
+        | Command::SetBucketData { .. }
+        | Command::SetBucketDataImmediate { .. }
+        | Command::CreateImage { .. }
+        | Command::DeleteImage { .. }
+        | Command::ClearRect { .. }
+        | Command::CopyRect { .. }
+        | Command::UploadRect { .. }
+        | Command::UploadBucket { .. }
+        | Command::CreateBuffer { .. }
+        | Command::DeleteBuffer { .. }
+        | Command::BufferData { .. }
+        | Command::UploadBuffer { .. } => false,
     }
 }
 

@@ -15,11 +15,9 @@ use crate::house::House;
 use crate::marking::{follow, take_room};
 use crate::naming::Naming;
 use gpu_fetch::ServiceSide;
+use gpu_plan::MOST_FENCES;
 use sync_core::OrderFault;
 use wait_hooks::Hook;
-
-/// A flush has at most this number of fences.
-const MOST_FENCES: usize = 16;
 
 impl<N: Naming, P: ServiceSide, H: Hook> House<N, P, H> {
     /// The first flush of a stream that has no order draws the next order number, and its fences are judged. The note is of this
