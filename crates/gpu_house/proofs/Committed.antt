@@ -23,16 +23,18 @@ use Rattle.house_core.specs.Desks.{Out}
 use Rattle.gpu_house.specs.declared.answers.Next.{Next}
 use Rattle.gpu_house.specs.declared.answers.Next.TheVariants.{More, Paused, FlushEnd, Invalid, Lost, Closed}
 use Rattle.gpu_house.specs.House.{OutData}
-use Rattle.gpu_house.specs.Changes.{ResultsBelong, WroteResults, StillBelongs, met_by}
+use Rattle.gpu_house.specs.declared.answers.Progress.{Progress}
+use Rattle.gpu_house.specs.Changes.{ResultsBelong, WroteResults, met_by}
 use Rattle.gpu_house.specs.Steps.{Steps, IsDone, told_side, asked_at}
 use Rattle.gpu_house.specs.Drawing.{drawn_at, drawn_if}
 use Rattle.gpu_house.specs.Batches.{facts_after, member_words, batch_words, AreChained, AreNext, EndsExactly}
+use Rattle.gpu_house.specs.Stepping.{MayStep, MayCommit, KeepsBeside, TookStep}
 use Rattle.gpu_house.specs.Committing.{stepped, drawn_by_steps, IsMovedOver, TellsDrawn, IsOverBy, Stage, AreDone, IsStill, HaveGone, GoneInPart, Commits, is_executed}
 use Rattle.gpu_house.proofs.Members.{member_words_more}
 use Rattle.gpu_house.proofs.Going.{not_lost, not_closed}
 use Rattle.gpu_house.proofs.Parts.{drop-drop}
 use Rattle.gpu_house.proofs.Quiet.{Passes, passes, quiet, GoOn, go_on, go_on_behind}
-use Rattle.gpu_house.proofs.Chains.{stepped_more, valid_more, keeps_more, told_more, drawn_more, facts_is, moved_one, moved_more, tells_none, tells_then}
+use Rattle.gpu_house.proofs.Chains.{stepped_more, valid_more, keeps_more, told_more, drawn_more, facts_is, moved_one, moved_more, tells_none, tells_one, tells_then}
 
 set_twice : {X : Type 0} (xs : List X) (i : ℕ) (x y : X) → slice_set (slice_set xs i x) i y ≡ slice_set xs i y
 set_twice [] i x y = refl
@@ -134,38 +136,40 @@ module _ {Side Note Results : Type 0} (side : Side → SideData) (mark : Note �
 module _ {Side Note Results Words : Type 0} (side : Side → SideData) (mark : Note → ℕ) (belongs : Side → Words → Type 0) (note_belongs : Side → Words → Note → Type 0) (results_belong : Words → Results → Type 0) (p : PlansData) (words : Words) where
   -- ---- what each call keeps
 
+  abbrev Beside : Stage Side Note Results → Stage Side Note Results → Type 0
+  Beside old new = KeepsBeside side belongs note_belongs results_belong words old.house new.house old.out new.out
+
   pub record Kept (old new : Stage Side Note Results) : Type 0 where
-    pub slots : new.house.slots ≡ old.house.slots
-    pub wrote : WroteResults results_belong words old.house.results new.house.results old.out.run.stream
-    pub still : StillBelongs belongs note_belongs words old.out.side new.out.side
-    pub list : (side new.out.side).fetched ≡ (side old.out.side).fetched
+    pub rest : Beside old new
     pub draws : TellsDrawn (replay p old.house.core.past) (replay p new.house.core.past) old.drawn new.drawn
 
   pub kept_none : (x : Stage Side Note Results) → belongs x.out.side words → ResultsBelong results_belong words x.house.results x.out.run.stream → Kept x x
   kept_none x beside results = record {
-    slots = refl;
-    wrote = record { belong = results; others = λ t apart. refl };
-    still = record { beside = beside; notes = λ n its. its };
-    list = refl;
+    rest = record { slots = refl; results = record { belong = results; others = λ t apart. refl }; still = record { beside = beside; notes = λ n its. its }; list = refl };
     draws = tells_none (replay p x.house.core.past) x.drawn;
   }
 
   kept_then : (old mid new : Stage Side Note Results) → mid.out.run.stream ≡ old.out.run.stream → Kept old mid → Kept mid new → Kept old new
   kept_then old mid new stream first second = record {
-    slots = second.slots ∙ first.slots;
-    wrote = (let wrote = subst (WroteResults results_belong words mid.house.results new.house.results) stream second.wrote in record { belong = wrote.belong; others = λ t apart. wrote.others t apart ∙ first.wrote.others t apart });
-    still = record { beside = second.still.beside; notes = λ n its. second.still.notes n (first.still.notes n its) };
-    list = second.list ∙ first.list;
+    rest =
+        let one = first.rest in
+        let two = second.rest in
+        let wrote = subst (WroteResults results_belong words mid.house.results new.house.results) stream two.results in
+        record {
+          slots = two.slots ∙ one.slots;
+          results = record { belong = wrote.belong; others = λ t apart. wrote.others t apart ∙ one.results.others t apart };
+          still = record { beside = two.still.beside; notes = λ n its. two.still.notes n (one.still.notes n its) };
+          list = two.list ∙ one.list;
+        };
     draws = tells_then (replay p old.house.core.past) (replay p mid.house.core.past) (replay p new.house.core.past) old.drawn mid.drawn new.drawn first.draws second.draws;
   }
 
   -- ---- what one member's step did
 
-  pub record Took (old new : Stage Side Note Results) (member : FetchedData) (next : Next) : Type 0 where
-    pub steps : Steps side mark p old.house new.house old.out new.out member.words next
-    pub end : (next ≡ FlushEnd → new.out.run.facts.get ≡ new.out.run.facts.put) × (next ≡ More → new.out.run.facts.get ≢ new.out.run.facts.put)
-    pub drawn : new.drawn ≡ old.drawn ++ option_to_list (drawn_if next (drawn_at p old.house.core.past old.out.run.stream member.words))
-    pub kept : Kept old new
+  pub record Took (old new : Stage Side Note Results) (member : FetchedData) (progress : Progress) : Type 0 where
+    pub step : TookStep side mark p old.house new.house old.out new.out member.words progress
+    pub rest : Beside old new
+    pub listed : new.drawn ≡ old.drawn ++ option_to_list progress.drawn
 
   -- ---- what the loop keeps
 
@@ -184,28 +188,24 @@ module _ {Side Note Results Words : Type 0} (side : Side → SideData) (mark : N
     pub kept : Kept old now
 
   -- at its beginning
-  pub stands_first : (x : Stage Side Note Results) (members : List FetchedData) → is_open (standing_of p x.house.core.past x.out.run.stream) ≡ true → x.out.run.paused ≡ false → AreChained x.out.run.facts members → All IsFetched members → EndsExactly members
-      → drop x.out.run.facts.fetched (side x.out.side).fetched ≡ batch_words members → x.out.run.facts.fetched ≤ length (side x.out.side).fetched → belongs x.out.side words → IfSome x.out.note (note_belongs x.out.side words) → ResultsBelong results_belong words x.house.results x.out.run.stream → Stands x x [] members
-  stands_first x members still_open going chained copies exact next low beside note results = record {
+  pub stands_first : (x : Stage Side Note Results) (members : List FetchedData) → is_open (standing_of p x.house.core.past x.out.run.stream) ≡ true → MayCommit side belongs note_belongs results_belong words x.house x.out members → All IsFetched members → EndsExactly members
+      → x.out.run.facts.fetched ≤ length (side x.out.side).fetched → Stands x x [] members
+  stands_first x members still_open may copies exact low = record {
     gone = refl;
     still_open = still_open;
-    going = going;
-    chained = chained;
+    going = may.going;
+    chained = may.chained;
     copies = copies;
     goes_on = go_on members exact;
-    next = next;
-    long = (let n = length-drop x.out.run.facts.fetched (side x.out.side).fetched in let k = ap length next in omega (arith, n, k, low));
+    next = may.list;
+    long = (let n = length-drop x.out.run.facts.fetched (side x.out.side).fetched in let k = ap length may.list in omega (arith, n, k, low));
     ends = λ none. (let some = exact.some in let is = ap length none in absurd (omega (arith, some, is)));
     stream = refl;
-    note = note;
-    kept = kept_none x beside results;
+    note = may.note;
+    kept = kept_none x may.beside may.results;
   }
 
   module _ {old now : Stage Side Note Results} {done : List FetchedData} {member : FetchedData} {rest : List FetchedData} (st : Stands old now done (member ∷ rest)) where
-    -- what the next step asks for
-    pub its_results : ResultsBelong results_belong words now.house.results now.out.run.stream
-    its_results = subst (ResultsBelong results_belong words now.house.results) (sym st.stream) st.kept.wrote.belong
-
     -- the facts after the member are those of its run
     behind : facts_after member.facts member.words ≡ facts_after now.out.run.facts member.words
     behind = ap (λ (f : StreamFacts). facts_after f member.words) st.chained.0
@@ -214,14 +214,32 @@ module _ {Side Note Results Words : Type 0} (side : Side → SideData) (mark : N
     passed_on : (next : FetchedData) (more : List FetchedData) → rest ≡ next ∷ more → Passes member
     passed_on next more is = passes member (subst (λ (l : List FetchedData). GoOn (member ∷ l)) is st.goes_on).0
 
-    pub are_next : AreNext now.out.run.facts (side now.out.side).fetched member.words
+    are_next : AreNext now.out.run.facts (side now.out.side).fetched member.words
     are_next = record { rest = batch_words rest; next = st.next; ended = λ end. by rest refl end }
       where
         by : (l : List FetchedData) → rest ≡ l → (facts_after now.out.run.facts member.words).get ≡ now.out.run.facts.put → batch_words l ≡ []
         by [] is end = refl
         by (n ∷ more) is end = absurd ((passed_on n more is).more (ap (λ (f : StreamFacts). f.get) behind ∙ end ∙ ap (λ (f : StreamFacts). f.put) (sym st.chained.0)))
 
-    module _ {new : Stage Side Note Results} {next : Next} (took : Took now new member next) where
+    -- what the next step asks for
+    pub may_step : MayStep side belongs note_belongs results_belong words now.house now.out member
+    may_step = record {
+      going = st.going;
+      facts = st.chained.0;
+      list = are_next;
+      beside = st.kept.rest.still.beside;
+      note = st.note;
+      results = subst (ResultsBelong results_belong words now.house.results) (sym st.stream) st.kept.rest.results.belong;
+    }
+
+    module _ {new : Stage Side Note Results} {progress : Progress} (took : Took now new member progress) where
+      -- what it drew is listed
+      drawn_is : new.drawn ≡ now.drawn ++ option_to_list (drawn_if progress.next (drawn_at p now.house.core.past now.out.run.stream member.words))
+      drawn_is = took.listed ∙ ap (λ (drawn : Option Op). now.drawn ++ option_to_list drawn) took.step.drawn
+
+      kept_now : Kept now new
+      kept_now = record { rest = took.rest; draws = tells_one (replay p now.house.core.past) (replay p new.house.core.past) now.drawn new.drawn progress.drawn took.listed took.step.draws }
+
       -- the step was executed
       abbrev Made : Bool → Type 0
       Made paused = IsDone side mark p now.house new.house now.out new.out member.words paused
@@ -232,14 +250,14 @@ module _ {Side Note Results Words : Type 0} (side : Side → SideData) (mark : N
           let long : length (side now.out.side).fetched ≡ now.out.run.facts.fetched + length (member.words ++ batch_words rest) = st.long in
           let split = length-append member.words (batch_words rest) in
           let moved = made.moved.fetched in
-          let same = ap length took.kept.list in
+          let same = ap length took.rest.list in
           omega (arith, long, split, moved, same)
 
       next_after : (paused : Bool) → Made paused → drop new.out.run.facts.fetched (side new.out.side).fetched ≡ batch_words rest
       next_after paused made =
           let from = now.out.run.facts.fetched in
           let list = (side now.out.side).fetched in
-          ap (drop new.out.run.facts.fetched) took.kept.list ∙ ap (λ (n : ℕ). drop n list) made.moved.fetched ∙ sym (drop-drop from (length member.words) list)
+          ap (drop new.out.run.facts.fetched) took.rest.list ∙ ap (λ (n : ℕ). drop n list) made.moved.fetched ∙ sym (drop-drop from (length member.words) list)
           ∙ ap (drop (length member.words)) st.next ∙ drop-append_seam member.words (batch_words rest)
 
       -- the list of members as far as this one
@@ -248,10 +266,10 @@ module _ {Side Note Results Words : Type 0} (side : Side → SideData) (mark : N
 
       -- ---- the run goes on
 
-      pub goes_on : next ≡ More → Stands old new (done ++ member ∷ []) rest
+      pub goes_on : progress.next ≡ More → Stands old new (done ++ member ∷ []) rest
       goes_on is =
-          let made : Made false = subst (λ (n : Next). Steps side mark p now.house new.house now.out new.out member.words n) is took.steps in
-          let lists : new.drawn ≡ now.drawn ++ option_to_list (drawn_at p now.house.core.past now.out.run.stream member.words) = subst (λ (n : Next). new.drawn ≡ now.drawn ++ option_to_list (drawn_if n (drawn_at p now.house.core.past now.out.run.stream member.words))) is took.drawn in
+          let made : Made false = subst (λ (n : Next). Steps side mark p now.house new.house now.out new.out member.words n) is took.step.steps in
+          let lists : new.drawn ≡ now.drawn ++ option_to_list (drawn_at p now.house.core.past now.out.run.stream member.words) = subst (λ (n : Next). new.drawn ≡ now.drawn ++ option_to_list (drawn_if n (drawn_at p now.house.core.past now.out.run.stream member.words))) is drawn_is in
           let all = gone_more side mark p old now new (member_words done) member.words false st.gone made lists in
           let s = now.out.run.stream in
           record {
@@ -263,16 +281,16 @@ module _ {Side Note Results Words : Type 0} (side : Side → SideData) (mark : N
             goes_on = go_on_behind member rest st.goes_on;
             next = next_after false made;
             long = long_after false made;
-            ends = λ none. took.end.1 is;
+            ends = λ none. took.step.end.1 is;
             stream = made.moved.stream ∙ st.stream;
             note = subst (λ (o : Option Note). IfSome o (note_belongs new.out.side words)) (sym made.met) tt;
-            kept = kept_then old now new st.stream st.kept took.kept;
+            kept = kept_then old now new st.stream st.kept kept_now;
           }
 
       -- ---- the run stops
 
       pub kept_at : Kept old new
-      kept_at = kept_then old now new st.stream st.kept took.kept
+      kept_at = kept_then old now new st.stream st.kept kept_now
 
       -- the members after one that stops the batch are none
       none_behind : (paused : Bool) → Made paused → ((member_passes : Passes member) → ⊥) → rest ≡ []
@@ -294,10 +312,10 @@ module _ {Side Note Results Words : Type 0} (side : Side → SideData) (mark : N
           subst (λ (l : List FetchedData). AreDone side mark p old new (member_words (done ++ member ∷ l)) paused) (sym none)
           (subst (λ (ws : List (List (ℕ × ℕ))). AreDone side mark p old new ws paused) these (gone_more side mark p old now new (member_words done) member.words paused st.gone made lists))
 
-      pub commits : next ≢ More → Commits side mark p old new (member_words (done ++ member ∷ rest)) next
-      commits stops = by next refl stops took.steps took.end took.drawn
+      pub commits : progress.next ≢ More → Commits side mark p old new (member_words (done ++ member ∷ rest)) progress.next
+      commits stops = by progress.next refl stops took.step.steps took.step.end drawn_is
         where
-          by : (n : Next) → next ≡ n → n ≢ More → Steps side mark p now.house new.house now.out new.out member.words n
+          by : (n : Next) → progress.next ≡ n → n ≢ More → Steps side mark p now.house new.house now.out new.out member.words n
               → (n ≡ FlushEnd → new.out.run.facts.get ≡ new.out.run.facts.put) × (n ≡ More → new.out.run.facts.get ≢ new.out.run.facts.put)
               → new.drawn ≡ now.drawn ++ option_to_list (drawn_if n (drawn_at p now.house.core.past now.out.run.stream member.words)) → Commits side mark p old new (member_words (done ++ member ∷ rest)) n
           by More is stops steps end drawn = absurd (stops refl)
@@ -316,8 +334,8 @@ module _ {Side Note Results Words : Type 0} (side : Side → SideData) (mark : N
           by Lost is stops steps end drawn = absurd (not_lost (standing_of p now.house.core.past now.out.run.stream) st.still_open steps.is_over)
           by Closed is stops steps end drawn = absurd (not_closed (standing_of p now.house.core.past now.out.run.stream) st.still_open steps.is_over.1)
 
-      pub ready : next ≢ More → is_executed next ≡ true → length (side new.out.side).fetched ≡ new.out.run.facts.fetched
-      ready stops executed = by next stops executed took.steps took.end
+      pub ready : progress.next ≢ More → is_executed progress.next ≡ true → length (side new.out.side).fetched ≡ new.out.run.facts.fetched
+      ready stops executed = by progress.next stops executed took.step.steps took.step.end
         where
           whole : (paused : Bool) → Made paused → rest ≡ [] → length (side new.out.side).fetched ≡ new.out.run.facts.fetched
           whole paused made none = let long = long_after paused made in let no = ap (λ (l : List FetchedData). length (batch_words l)) none in omega (arith, long, no)

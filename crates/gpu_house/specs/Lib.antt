@@ -11,4 +11,5 @@ pub mod Laws
 pub mod Waiting
 pub mod Stuck
 pub mod Batches
+pub mod Stepping
 pub mod Committing

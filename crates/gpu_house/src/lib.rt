@@ -34,7 +34,7 @@
 //!   before the first step.
 //! - What a batch drew is appended to a list of the caller's, also where memory ran out in its midst. Those steps stand in
 //!   the journal, so a view must hear of them.
-//! - A step and a batch share one private step. A struct that holds a `&` is made from `&self.field`.
+//! - A batch takes each member by `step`. A struct that holds a `&` is made from `&self.field`.
 #![tactic(auto)]
 
 mod answers;

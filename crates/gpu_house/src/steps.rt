@@ -1,15 +1,14 @@
 //! Steps of runs that are out, under the lock.
-ghost use Rattle.std.specs.Prelude.{◌≡◌, ◌≢◌, ℕ, false, drop, IsTrue, IfOk, IfSome, OnErr};
+ghost use Rattle.std.specs.Prelude.{◌≡◌, ℕ, IsTrue, IfOk, OnErr};
 ghost use Rattle.std.specs.List.{All};
 ghost use Rattle.atomic_table.specs.Seated.{TableId};
 ghost use Rattle.gpu_word.specs.Results.{writes_of};
 ghost use Rattle.gpu_fetch.specs.Side.{told_more};
 ghost use Rattle.stream_state.specs.Told.{writes_told};
-ghost use Rattle.gpu_journal.specs.World.{replay};
-ghost use Rattle.gpu_house.specs.Changes.{Same, ResultsBelong, WroteResults, StillBelongs};
-ghost use Rattle.gpu_house.specs.Steps.{Steps, next_of, told_side};
-ghost use Rattle.gpu_house.specs.Batches.{AreNext};
-ghost use Rattle.gpu_house.specs.Drawing.{drawn_of, drawn_at, drawn_if, Draws};
+ghost use Rattle.gpu_house.specs.Changes.{Same, StillBelongs};
+ghost use Rattle.gpu_house.specs.Steps.{next_of, told_side};
+ghost use Rattle.gpu_house.specs.Drawing.{drawn_of};
+ghost use Rattle.gpu_house.specs.Stepping.{MayStep, TookStep, KeepsBeside};
 
 use crate::answers::{Next, Progress};
 use crate::house::House;
@@ -48,38 +47,26 @@ fn tell<P: ServiceSide>(side: &mut P, results: &mut P::Results, words: &P::Words
 }
 
 impl<N: Naming, P: ServiceSide, H: Hook> House<N, P, H> {
-    // The step of a run on the first of what was fetched for it.
-    pub(crate) fn step_first(
+    /// The step of a run on the next command that was fetched for it:
+    /// - a valid command is executed, the client hears of its token or its results, and an operation that was drawn is reported
+    /// - else the stream is lost by an error
+    /// - where it is lost or closed already, nothing changes
+    ///
+    /// # Errors
+    ///
+    /// `Memory`: nothing has changed.
+    pub fn step(
         &mut self,
         run: &mut Run<N, P>,
         words: &P::Words,
         fetched: Fetched,
     ) -> Result<Progress, Memory>
-        requires going { run.old.run.paused ≡ false }
-        requires facts { fetched.facts ≡ run.old.run.facts }
-        requires list { AreNext run.old.run.facts (P.side run.old.side).fetched fetched.words }
-        requires belongs { P.belongs run.old.side words.now }
-        requires note { IfSome run.old.note (P.note_belongs run.old.side words.now) }
-        requires results { ResultsBelong P.results_belong words.now self.old.results
-            run.old.run.stream }
+        requires { MayStep P.side P.belongs P.note_belongs P.results_belong words.now self.old
+            run.old fetched }
         ensures steps { IfOk result
-            (λ progress. Steps P.side P.mark N.plans self.old self.new run.old run.new fetched.words
-            progress.next) }
-        ensures end { IfOk result
-            (λ progress. (progress.next ≡ Next.FlushEnd
-            → run.new.run.facts.get ≡ run.new.run.facts.put)
-            × (progress.next ≡ Next.More → run.new.run.facts.get ≢ run.new.run.facts.put)) }
-        ensures drawn { IfOk result (λ progress. progress.drawn
-            ≡ drawn_if progress.next
-            (drawn_at N.plans self.old.core.past run.old.run.stream fetched.words)) }
-        ensures draws { IfOk result
-            (λ progress. Draws (replay N.plans self.old.core.past)
-            (replay N.plans self.new.core.past) progress.drawn) }
-        ensures slots { self.new.slots ≡ self.old.slots }
-        ensures results { WroteResults P.results_belong words.now self.old.results self.new.results
-            run.old.run.stream }
-        ensures still { StillBelongs P.belongs P.note_belongs words.now run.old.side run.new.side }
-        ensures list { (P.side run.new.side).fetched ≡ (P.side run.old.side).fetched }
+            (TookStep P.side P.mark N.plans self.old self.new run.old run.new fetched.words) }
+        ensures keeps { KeepsBeside P.side P.belongs P.note_belongs P.results_belong words.now
+            self.old self.new run.old run.new }
         ensures err { OnErr result (Same self.old self.new) }
         ensures same { OnErr result (run.new ≡ run.old) }
     {
@@ -116,52 +103,6 @@ impl<N: Naming, P: ServiceSide, H: Hook> House<N, P, H> {
             next: next_of(acted.kept, carried.at_end()),
             drawn: drawn_of(acted),
         })
-    }
-
-    /// The step of a run on what was fetched for it:
-    /// - a valid command is executed, the client hears of its token or its results, and an operation that was drawn is reported
-    /// - else the stream is lost by an error
-    /// - where it is lost or closed already, nothing changes
-    ///
-    /// # Errors
-    ///
-    /// `Memory`: nothing has changed.
-    pub fn step(
-        &mut self,
-        run: &mut Run<N, P>,
-        words: &P::Words,
-        fetched: Fetched,
-    ) -> Result<Progress, Memory>
-        requires going { run.old.run.paused ≡ false }
-        requires facts { fetched.facts ≡ run.old.run.facts }
-        requires list { drop run.old.run.facts.fetched (P.side run.old.side).fetched
-            ≡ fetched.words }
-        requires belongs { P.belongs run.old.side words.now }
-        requires note { IfSome run.old.note (P.note_belongs run.old.side words.now) }
-        requires results { ResultsBelong P.results_belong words.now self.old.results
-            run.old.run.stream }
-        ensures steps { IfOk result
-            (λ progress. Steps P.side P.mark N.plans self.old self.new run.old run.new fetched.words
-            progress.next) }
-        ensures end { IfOk result
-            (λ progress. (progress.next ≡ Next.FlushEnd
-            → run.new.run.facts.get ≡ run.new.run.facts.put)
-            × (progress.next ≡ Next.More → run.new.run.facts.get ≢ run.new.run.facts.put)) }
-        ensures drawn { IfOk result (λ progress. progress.drawn
-            ≡ drawn_if progress.next
-            (drawn_at N.plans self.old.core.past run.old.run.stream fetched.words)) }
-        ensures draws { IfOk result
-            (λ progress. Draws (replay N.plans self.old.core.past)
-            (replay N.plans self.new.core.past) progress.drawn) }
-        ensures slots { self.new.slots ≡ self.old.slots }
-        ensures results { WroteResults P.results_belong words.now self.old.results self.new.results
-            run.old.run.stream }
-        ensures still { StillBelongs P.belongs P.note_belongs words.now run.old.side run.new.side }
-        ensures list { (P.side run.new.side).fetched ≡ (P.side run.old.side).fetched }
-        ensures err { OnErr result (Same self.old self.new) }
-        ensures same { OnErr result (run.new ≡ run.old) }
-    {
-        self.step_first(run, words, fetched)
     }
 }
 

@@ -115,9 +115,10 @@ pub stepped_with : (p : PlansData) (house new : PlainHouse) (clients : List Clie
 stepped_with p house new clients out run now words w next more lawful played runs has same met is side mark steps slots still list answer =
     let stream : run.run.stream ≡ out.run.stream = ap (λ (r : RunData). r.stream) same in
     let here : w ≡ (client_at clients run.run.stream).words = is ∙ ap (λ (u : ℕ). (client_at clients u).words) (sym stream) in
+    let mine = (client_at clients run.run.stream).words in
+    let belongs : StillBelongs IsBeside IsNoteBeside mine run.side now.side = subst (λ (v : PlainData). StillBelongs IsBeside IsNoteBeside v run.side now.side) here still in
     let stepped = has_stepped p house new clients run now words has (played_is_legal p house.core.past lawful played) (subst (λ (u : ℕ). is_runnable p house.core.past u ≡ true) (sym stream) runs)
-    slots (stays_met side mark p house new run now words next met steps) (subst (IsBeside now.side) here still.beside) (λ n b. subst (λ (v : PlainData). IsNoteBeside now.side v n) here (still.notes n (subst (λ (v : PlainData). IsNoteBeside run.side v n) (sym here) b))) list
-    side mark next steps in
+    slots (stays_met side mark p house new run now words next met steps) belongs.beside belongs.notes list side mark next steps in
     subst (λ (u : ℕ). HasStepped p house new clients u now more) stream (subst (HasStepped p house new clients run.run.stream now) (sym answer) stepped)
 
 -- ---- the loop over turns

@@ -3,7 +3,8 @@ use Rattle.std.proofs.Common.{◌≡◌, ℕ, true, false, Option, None, List, l
 use Rattle.gpu_plan.specs.Plans.{PlansData}
 use Rattle.gpu_fetch.specs.Side.{SideData}
 use Rattle.gpu_house.specs.Slots.{SlotData, slot_at}
-use Rattle.gpu_house.specs.Changes.{StillBelongs, WroteResults, ResultsBelong}
+use Rattle.gpu_house.specs.Changes.{ResultsBelong}
+use Rattle.gpu_house.specs.Stepping.{KeepsBeside}
 use Rattle.gpu_house.specs.Committing.{Stage, AreDone, Commits, is_executed}
 use Rattle.gpu_house.specs.declared.answers.Next.{Next}
 use Rattle.gpu_house.specs.declared.answers.Next.TheVariants.{More, Paused, FlushEnd, Invalid, Closed}
@@ -17,14 +18,14 @@ never e = absurd (cc)
 
 module _ {Side Note Results Words : Type 0} (belongs : Side → Words → Type 0) (note_belongs : Side → Words → Note → Type 0) (results_belong : Words → Results → Type 0) (seen : Side → SideData) (words : Words) where
   module _ (p : PlansData) (old new : Stage Side Note Results) (members : List (List (ℕ × ℕ))) (one : old.out.run.stream ≡ 1) (were : AllBelong belongs note_belongs words old.out.side None (slot_at old.house.slots 1).notes)
-      (slots : new.house.slots ≡ old.house.slots) (wrote : WroteResults results_belong words old.house.results new.house.results old.out.run.stream) (keeps_on : StillBelongs belongs note_belongs words old.out.side new.out.side) where
+      (keeps : KeepsBeside seen belongs note_belongs results_belong words old.house new.house old.out new.out) where
     results_now : ResultsBelong results_belong words new.house.results 1
-    results_now = subst (λ (t : ℕ). ResultsBelong results_belong words new.house.results t) one wrote.belong
+    results_now = subst (λ (t : ℕ). ResultsBelong results_belong words new.house.results t) one keeps.results.belong
 
     all_now : new.out.note ≡ None → AllBelong belongs note_belongs words new.out.side new.out.note (slot_at new.house.slots 1).notes
     all_now met =
         subst (λ (o : Option Note). AllBelong belongs note_belongs words new.out.side o (slot_at new.house.slots 1).notes) (sym met)
-        (subst (λ (row : List (SlotData Side Note)). AllBelong belongs note_belongs words new.out.side None (slot_at row 1).notes) (sym slots) (still belongs note_belongs results_belong words old.out.side new.out.side None (slot_at old.house.slots 1).notes keeps_on were))
+        (subst (λ (row : List (SlotData Side Note)). AllBelong belongs note_belongs words new.out.side None (slot_at row 1).notes) (sym keeps.slots) (still belongs note_belongs results_belong words old.out.side new.out.side None (slot_at old.house.slots 1).notes keeps.still were))
 
     module _ (mark : Note → ℕ) where
       -- all were executed

@@ -15,7 +15,8 @@ use Rattle.house_core.specs.Desks.{RunData}
 use Rattle.house_core.specs.Answers.{IsMovedBy}
 use Rattle.gpu_house.specs.Slots.{SlotData, slot_at}
 use Rattle.gpu_house.specs.House.{HouseData, OutData}
-use Rattle.gpu_house.specs.Changes.{Same, StillBelongs, WroteResults, ResultsBelong}
+use Rattle.gpu_house.specs.Changes.{Same, ResultsBelong}
+use Rattle.gpu_house.specs.Stepping.{KeepsBeside}
 use Rattle.gpu_house.specs.Steps.{Steps}
 use Rattle.gpu_house.specs.declared.answers.Next.{Next}
 use Rattle.gpu_house.specs.declared.answers.Next.TheVariants.{More, Paused, FlushEnd, Invalid, Closed}
@@ -58,7 +59,7 @@ module _ {Side Note Results Words : Type 0} (belongs : Side → Words → Type 0
     pub list : is_open (standing_of p new.core.past now.run.stream) ≡ true → length (seen now.side).fetched ≡ now.run.facts.fetched
 
   module _ (p : PlansData) (house new : HouseData Side Note Results) (run now : OutData Side Note) (found : List (ℕ × ℕ)) (has : HasFetched house run found)
-      (slots : new.slots ≡ house.slots) (wrote : WroteResults results_belong words house.results new.results run.run.stream) (keeps_on : StillBelongs belongs note_belongs words run.side now.side) (list : (seen now.side).fetched ≡ (seen run.side).fetched) where
+      (keeps : KeepsBeside seen belongs note_belongs results_belong words house new run now) where
     abbrev h : List Event
     h = house.core.past
 
@@ -66,16 +67,16 @@ module _ {Side Note Results Words : Type 0} (belongs : Side → Words → Type 0
     s = run.run.stream
 
     results_now : ResultsBelong results_belong words new.results 1
-    results_now = subst (λ (t : ℕ). ResultsBelong results_belong words new.results t) has.stream wrote.belong
+    results_now = subst (λ (t : ℕ). ResultsBelong results_belong words new.results t) has.stream keeps.results.belong
 
     all_now : now.note ≡ None → AllBelong belongs note_belongs words now.side now.note (slot_at new.slots 1).notes
     all_now met =
         subst (λ (o : Option Note). AllBelong belongs note_belongs words now.side o (slot_at new.slots 1).notes) (sym met)
-        (subst (λ (row : List (SlotData Side Note)). AllBelong belongs note_belongs words now.side None (slot_at row 1).notes) (sym slots) (still belongs note_belongs results_belong words run.side now.side None (slot_at house.slots 1).notes keeps_on has.all))
+        (subst (λ (row : List (SlotData Side Note)). AllBelong belongs note_belongs words now.side None (slot_at row 1).notes) (sym keeps.slots) (still belongs note_belongs results_belong words run.side now.side None (slot_at house.slots 1).notes keeps.still has.all))
 
     stepped_done : (kept : Bool) → IsMovedBy run.run now.run found kept → now.note ≡ None → HasStepped p new now (not kept)
     stepped_done kept moved met =
-        let fetches : length (seen now.side).fetched ≡ now.run.facts.fetched = (let l = ap length list in let old = has.count in let more = moved.fetched in omega (arith, l, old, more)) in
+        let fetches : length (seen now.side).fetched ≡ now.run.facts.fetched = (let l = ap length keeps.list in let old = has.count in let more = moved.fetched in omega (arith, l, old, more)) in
         record {
           on = λ m. record { stream = moved.stream ∙ has.stream; going = moved.paused ∙ not-true kept m; list = fetches; all = all_now met; results = results_now };
           list = λ _. fetches;

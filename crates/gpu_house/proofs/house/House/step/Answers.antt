@@ -4,7 +4,7 @@ use Rattle.std.specs.List.{All}
 use Rattle.gpu_word.specs.Results.{writes_of}
 use Rattle.gpu_cmd.specs.Spans.{words_in}
 use Rattle.gpu_plan.specs.Plans.{PlansData, plan_of}
-use Rattle.gpu_fetch.specs.Side.{told_more}
+use Rattle.gpu_fetch.specs.Side.{SideData, told_more}
 use Rattle.stream_state.specs.declared.effect.Effect.{Effect}
 use Rattle.stream_state.specs.Steps.{writes}
 use Rattle.stream_state.specs.Told.{writes_told}
@@ -26,22 +26,22 @@ use Rattle.gpu_house.proofs.Cases.{of_lost, of_closed, of_invalid, of_done, goes
 use Rattle.gpu_house.proofs.Out.{stays_out}
 use Rattle.gpu_house.proofs.Parts.{first_of_all}
 use Rattle.gpu_house.proofs.Endings.{waits_made, step_makes, grown_follow}
-use Rattle.gpu_house.proofs.Writings.{AllFit, all_still, all_more, at_stream, read_belongs, wrote}
+use Rattle.gpu_house.proofs.Writings.{AllFit, all_still, all_more, at_stream, read_belongs, wrote, wrote_none}
 use Rattle.gpu_house.proofs.Homes.{stepped_homes, is_out, order_positive}
 use Rattle.gpu_house.proofs.Keeping.{kept, kept_still, ended_homes}
 use Rattle.house_core.specs.Desks.{RunData}
 use Rattle.gpu_house.specs.Slots.{RunFits}
 use Rattle.gpu_house.specs.House.{HouseData, OutData, HouseInvariant}
-use Rattle.gpu_house.specs.Changes.{StillBelongs, met_by}
+use Rattle.gpu_house.specs.Changes.{ResultsBelong, StillBelongs, met_by}
 use Rattle.gpu_house.specs.Batches.{AreNext}
-use Rattle.gpu_house.specs.Steps.{told_side, IsDone, Steps}
-use Rattle.gpu_house.specs.declared.answers.Progress.{Progress}
+use Rattle.gpu_house.specs.Steps.{told_side, IsDone, IsRefused, Steps}
+use Rattle.gpu_house.specs.Stepping.{KeepsBeside, TookStep}
 use Rattle.gpu_house.specs.Drawing.{drawn_if, Draws}
 use Rattle.gpu_house.proofs.Drawings.{told_drawn, draws_step, draws_lost, drawn_where}
 use Rattle.gpu_house.proofs.Stepping.{note_marked, met_fits, stepped_fits, told_list, ends}
-use Rattle.gpu_house.proofs.house.House.step_first.Given.{Over}
-use Rattle.gpu_house.proofs.house.House.step_first.Goals as goal
-use Rattle.gpu_house.proofs.house.House.step_first.Goals.{After-drawn_of, After-step, After-stream-stream, In-Done, In-Invalid, In_ok-step}
+use Rattle.gpu_house.proofs.house.House.step.Given.{Over}
+use Rattle.gpu_house.proofs.house.House.step.Goals as goal
+use Rattle.gpu_house.proofs.house.House.step.Goals.{After-drawn_of, After-step, After-stream-stream, In-Done, In-Invalid, In_ok-step}
 
 -- the words of the step are the next that its side fetched, so they may have been put
 pub step-requires-clause-may : goal.step-requires-clause-may
@@ -58,6 +58,14 @@ refused g c = of_invalid _ _ _ _ _ c.in_ok-step.field-0 c.in_ok-step.ensures.ste
 
 made : (g : Over) (c : goal.In-Done g) → answers.IsDone c.self.inside.core c.step.new.self c.run.inside.carried c.step.new.run c.args.fetched.words c.in-Done.acted
 made g c = of_done _ _ _ _ _ c.in_ok-step.field-0 c.in_ok-step.ensures.steps c.in-Done.acted c.in-Done.is
+
+-- what holds of the parts of the house and of the run holds of both as contracts see them
+seen : (g : Over) (c : goal.After-step g) (F : PlansData → HouseData g.row.P.Denot g.row.P-Note.Denot g.row.P-Results.Denot → OutData g.row.P.Denot g.row.P-Note.Denot → Type 0)
+    → F c.self.inside.core.plans record { core = c.self.inside.core; slots = c.self.inside.slots.items; results = c.self.inside.results.items } record { run = c.run.inside.carried; side = c.run.inside.side; note = c.run.inside.note } → F g.N.Naming.plans c.args.self.now c.args.run.now
+seen g c F f =
+    let house : HouseData g.row.P.Denot g.row.P-Note.Denot g.row.P-Results.Denot = record { core = c.self.inside.core; slots = c.self.inside.slots.items; results = c.self.inside.results.items } in
+    let out : OutData g.row.P.Denot g.row.P-Note.Denot = record { run = c.run.inside.carried; side = c.run.inside.side; note = c.run.inside.note } in
+    subst (λ h. F g.N.Naming.plans h c.args.run.now) c.self.view_is (subst (F g.N.Naming.plans house) c.run.view_is (subst (λ (q : PlansData). F q house out) c.self.invariant.plans f))
 
 -- ---- nothing but room
 
@@ -193,12 +201,6 @@ invariant_of-self-2 g c =
     (all_more takes told results_of answers p (Step s words) core.past results t c.tell.new.results c.index_mut.result.now (its g there) (known g there) c.index_mut.ensures.value
     (c.tell.ensures.written ∙ ap (λ list. told_more (told c.index_mut.result.now) (writes_of list)) wrote) c.tell.ensures.takes c.tell.ensures.named was.results))
 
-pub returns-clause-results : goal.returns-clause-results
-returns-clause-results g c =
-    let there = (goal.at.returns-clause-results g c).After-stream-stream in
-    wrote g.P.ServiceSide.results_belong c.args.words.now c.args.self.now.results c.self.inside.results.items c.args.run.now.run.stream c.stream-stream.result c.tell.new.results
-    (ap (λ h. h.results) c.self.view_is) (its g there ∙ ap (λ r. r.run.stream) c.run.view_is) (known g there) c.tell.ensures.belong
-
 -- ---- the run
 
 pub meet-requires-2-clause-flush : goal.meet-requires-2-clause-flush
@@ -240,23 +242,52 @@ invariant_of-run-2 g c =
 
 -- ---- the answer
 
-pub returns-in-Invalid-clause-still : goal.returns-in-Invalid-clause-still
-returns-in-Invalid-clause-still g c = subst (λ (o : OutData g.row.P.Denot g.row.P-Note.Denot). StillBelongs g.P.ServiceSide.belongs g.P.ServiceSide.note_belongs c.args.words.now o.side c.meet.new.side) c.run.view_is c.meet.ensures.still
+-- what is beside the run stays where its side does
+unmoved : {Side Note Results Words : Type 0} (side : Side → SideData) (belongs : Side → Words → Type 0) (note_belongs : Side → Words → Note → Type 0) (results_belong : Words → Results → Type 0) (words : Words) (old new : HouseData Side Note Results) (out left : OutData Side Note) → belongs out.side words
+    → ResultsBelong results_belong words old.results out.run.stream → new.slots ≡ old.slots → new.results ≡ old.results → left.side ≡ out.side → KeepsBeside side belongs note_belongs results_belong words old new out left
+unmoved side belongs note_belongs results_belong words old new out left beside results slots same is = record {
+  slots = slots;
+  results = wrote_none results_belong words old.results new.results out.run.stream same results;
+  still = subst (StillBelongs belongs note_belongs words out.side) (sym is) record { beside = beside; notes = λ n its. its };
+  list = ap (λ x. (side x).fetched) is;
+}
 
-pub returns-clause-still : goal.returns-clause-still
-returns-clause-still g c =
+pub returns-in_err-take_room-clause-keeps : goal.returns-in_err-take_room-clause-keeps
+returns-in_err-take_room-clause-keeps g c = unmoved _ _ _ _ _ _ _ _ _ c.requires.beside c.requires.results (ap (λ h. h.slots) c.self.view_is) (ap (λ h. h.results) c.self.view_is) refl
+
+pub returns-in_err-step-clause-keeps : goal.returns-in_err-step-clause-keeps
+returns-in_err-step-clause-keeps g c = unmoved _ _ _ _ _ _ _ _ _ c.requires.beside c.requires.results (ap (λ h. h.slots) c.self.view_is) (ap (λ h. h.results) c.self.view_is) (ap (λ o. o.side) c.run.view_is)
+
+pub returns-in-Lost-clause-keeps : goal.returns-in-Lost-clause-keeps
+returns-in-Lost-clause-keeps g c = unmoved _ _ _ _ _ _ _ _ _ c.requires.beside c.requires.results (ap (λ h. h.slots) c.self.view_is) (ap (λ h. h.results) c.self.view_is) (ap (λ o. o.side) c.run.view_is)
+
+pub returns-in-Closed-clause-keeps : goal.returns-in-Closed-clause-keeps
+returns-in-Closed-clause-keeps g c = unmoved _ _ _ _ _ _ _ _ _ c.requires.beside c.requires.results (ap (λ h. h.slots) c.self.view_is) (ap (λ h. h.results) c.self.view_is) (ap (λ o. o.side) c.run.view_is)
+
+pub returns-in-Invalid-clause-keeps : goal.returns-in-Invalid-clause-keeps
+returns-in-Invalid-clause-keeps g c =
+    let S = g.P.ServiceSide in
+    record {
+      slots = ap (λ h. h.slots) c.self.view_is;
+      results = wrote_none S.results_belong c.args.words.now c.args.self.now.results c.self.inside.results.items c.args.run.now.run.stream (ap (λ h. h.results) c.self.view_is) c.requires.results;
+      still = subst (λ (o : OutData g.row.P.Denot g.row.P-Note.Denot). StillBelongs S.belongs S.note_belongs c.args.words.now o.side c.meet.new.side) c.run.view_is c.meet.ensures.still;
+      list = c.meet.ensures.list ∙ ap (λ o. (S.side o.side).fetched) c.run.view_is;
+    }
+
+pub returns-clause-keeps : goal.returns-clause-keeps
+returns-clause-keeps g c =
+    let S = g.P.ServiceSide in
+    let there = (goal.at.returns-clause-keeps g c).After-stream-stream in
     let met = c.meet-2.ensures.still in
     let told = c.tell.ensures.still in
-    subst (λ (o : OutData g.row.P.Denot g.row.P-Note.Denot). StillBelongs g.P.ServiceSide.belongs g.P.ServiceSide.note_belongs c.args.words.now o.side c.tell.new.side) c.run.view_is
-    record { beside = told.beside; notes = λ n belongs. told.notes n (met.notes n belongs) }
-
-pub returns-clause-list : goal.returns-clause-list
-returns-clause-list g c =
-    let S = g.P.ServiceSide in
-    ap (λ d. d.fetched) c.tell.ensures.side ∙ told_list c.in-Done.acted.effect (S.side c.meet-2.new.side) ∙ c.meet-2.ensures.list ∙ ap (λ o. (S.side o.side).fetched) c.run.view_is
-
-pub returns-clause-end : goal.returns-clause-end
-returns-clause-end g c = ends c.next_of.result c.in-Done.acted.kept c.at_end.result c.step.new.run.facts.get c.step.new.run.facts.put c.next_of.ensures c.at_end.ensures.value
+    record {
+      slots = ap (λ h. h.slots) c.self.view_is;
+      results = wrote S.results_belong c.args.words.now c.args.self.now.results c.self.inside.results.items c.args.run.now.run.stream c.stream-stream.result c.tell.new.results
+          (ap (λ h. h.results) c.self.view_is) (its g there ∙ ap (λ r. r.run.stream) c.run.view_is) (known g there) c.tell.ensures.belong;
+      still = subst (λ (o : OutData g.row.P.Denot g.row.P-Note.Denot). StillBelongs S.belongs S.note_belongs c.args.words.now o.side c.tell.new.side) c.run.view_is
+          record { beside = told.beside; notes = λ n belongs. told.notes n (met.notes n belongs) };
+      list = ap (λ d. d.fetched) c.tell.ensures.side ∙ told_list c.in-Done.acted.effect (S.side c.meet-2.new.side) ∙ c.meet-2.ensures.list ∙ ap (λ o. (S.side o.side).fetched) c.run.view_is;
+    }
 
 -- the house and the run after a step
 module _ (g : Over) (c : goal.After-drawn_of g) where
@@ -268,19 +299,15 @@ module _ (g : Over) (c : goal.After-drawn_of g) where
 
   done : IsDone g.P.ServiceSide.side g.P.ServiceSide.mark g.N.Naming.plans c.args.self.now house c.args.run.now left c.args.fetched.words c.in-Done.acted.kept
   done =
+      let path = goal.at.After-drawn_of g c in
       let core = c.self.inside.core in
       let run = c.run.inside.carried in
       let side = g.P.ServiceSide.side in
-      let mark = g.P.ServiceSide.mark in
       let note = c.run.inside.note in
-      let words = c.args.fetched.words in
-      let kept = c.in-Done.acted.kept in
-      let is = made g (goal.at.After-drawn_of g c).In-Done in
+      let acted = c.in-Done.acted in
+      let is = made g path.In-Done in
       let own = is.stepped in
-      let told = c.tell.ensures.side ∙ ap (told_side c.in-Done.acted.effect) c.meet-2.ensures.told
-      ∙ ap (λ (e : Effect). told_side e (met_by (option_map mark note) (side c.run.inside.side))) own.acted.effect in
-      let here : IsDone side mark core.plans record { core = core; slots = c.self.inside.slots.items; results = c.self.inside.results.items } house record { run = run; side = c.run.inside.side; note = note } left words kept =
-      record {
+      seen g path.After-step (λ q h o. IsDone side g.P.ServiceSide.mark q h house o left c.args.fetched.words acted.kept) record {
         still_open = is.still_open;
         valid = is.valid;
         kept = own.acted.kept ∙ ap (keeps core.plans core.past run.stream) own.acted.effect;
@@ -288,53 +315,55 @@ module _ (g : Over) (c : goal.After-drawn_of g) where
         moved = own.moved;
         run = subst (λ (q : PlansData). IsRunOf q c.step.new.self.past c.step.new.run) own.event.plans own.run;
         outs = own.outs;
-        told = told;
+        told = c.tell.ensures.side ∙ ap (told_side acted.effect) c.meet-2.ensures.told ∙ ap (λ (e : Effect). told_side e (met_by (option_map g.P.ServiceSide.mark note) (side c.run.inside.side))) own.acted.effect;
         met = c.meet-2.ensures.met;
-      } in
-      subst (λ (h : HouseData g.row.P.Denot g.row.P-Note.Denot g.row.P-Results.Denot). IsDone side mark g.N.Naming.plans h house c.args.run.now left words kept) c.self.view_is
-      (subst (λ (o : OutData g.row.P.Denot g.row.P-Note.Denot). IsDone side mark g.N.Naming.plans record { core = core; slots = c.self.inside.slots.items; results = c.self.inside.results.items } house o left words kept) c.run.view_is
-      (subst (λ (q : PlansData). IsDone side mark q record { core = core; slots = c.self.inside.slots.items; results = c.self.inside.results.items } house record { run = run; side = c.run.inside.side; note = note } left words kept) c.self.invariant.plans here))
+      }
+
+  executed : WasExecuted g.N.Naming.plans c.args.self.now.core.past c.args.run.now.run.stream c.args.fetched.words c.in-Done.acted
+  executed =
+      let path = goal.at.After-drawn_of g c in
+      seen g path.After-step (λ q h o. WasExecuted q h.core.past o.run.stream c.args.fetched.words c.in-Done.acted) (made g path.In-Done).stepped.acted
 
 pub returns-clause-steps : goal.returns-clause-steps
 returns-clause-steps g c =
     let side = g.P.ServiceSide.side in
     let mark = g.P.ServiceSide.mark in
     let p = g.N.Naming.plans in
-    let done_by : (b : Bool) → c.in-Done.acted.kept ≡ b → IsDone side mark p c.args.self.now (house g c) c.args.run.now (left g c) c.args.fetched.words b =
-    λ b e. subst (IsDone side mark p c.args.self.now (house g c) c.args.run.now (left g c) c.args.fetched.words) e (done g c) in
-    goes_on (Steps side mark p c.args.self.now (house g c) c.args.run.now (left g c) c.args.fetched.words) c.next_of.result c.in-Done.acted.kept c.at_end.result c.next_of.ensures (done_by true) (done_by false) (done_by false)
-
--- ---- what is drawn
-
--- the step was executed, as contracts see the house and the run
-executed : (g : Over) (c : goal.After-drawn_of g) → WasExecuted g.N.Naming.plans c.args.self.now.core.past c.args.run.now.run.stream c.args.fetched.words c.in-Done.acted
-executed g c =
-    let words = c.args.fetched.words in
-    let acted = c.in-Done.acted in
-    let was = (of_done _ _ _ _ _ c.in_ok-step.field-0 c.in_ok-step.ensures.steps acted c.in-Done.is).stepped.acted in
-    subst (λ (h : HouseData g.row.P.Denot g.row.P-Note.Denot g.row.P-Results.Denot). WasExecuted g.N.Naming.plans h.core.past c.args.run.now.run.stream words acted) c.self.view_is
-    (subst (λ (o : OutData g.row.P.Denot g.row.P-Note.Denot). WasExecuted g.N.Naming.plans c.self.inside.core.past o.run.stream words acted) c.run.view_is
-    (subst (λ (q : PlansData). WasExecuted q c.self.inside.core.past c.run.inside.carried.stream words acted) c.self.invariant.plans was))
-
-pub returns-clause-drawn : goal.returns-clause-drawn
-returns-clause-drawn g c =
-    let drawn = c.drawn_of.result in
-    let told = c.drawn_of.ensures ∙ told_drawn g.N.Naming.plans c.args.self.now.core.past c.args.run.now.run.stream c.args.fetched.words c.in-Done.acted (executed g c) in
-    drawn_where c.next_of.result c.in-Done.acted.kept c.at_end.result drawn c.next_of.ensures ∙ ap (drawn_if c.next_of.result) told
-
-pub returns-clause-draws : goal.returns-clause-draws
-returns-clause-draws g c =
-    let p = g.N.Naming.plans in
-    let old = c.args.self.now.core.past in
+    let h = c.args.self.now.core.past in
     let s = c.args.run.now.run.stream in
-    let is = (done g c) in
-    subst (λ (h : List Event). Draws (replay p old) (replay p h) c.drawn_of.result) (sym is.event)
-    (subst (Draws (replay p old) (replay p (Step s c.args.fetched.words ∷ old))) (sym c.drawn_of.ensures) (draws_step p old s c.args.fetched.words c.in-Done.acted (executed g c)))
+    let words = c.args.fetched.words in
+    let next = c.next_of.result in
+    let acted = c.in-Done.acted in
+    let drawn = c.drawn_of.result in
+    let done_by : (b : Bool) → acted.kept ≡ b → IsDone side mark p c.args.self.now (house g c) c.args.run.now (left g c) words b =
+    λ b e. subst (IsDone side mark p c.args.self.now (house g c) c.args.run.now (left g c) words) e (done g c) in
+    record {
+      steps = goes_on (Steps side mark p c.args.self.now (house g c) c.args.run.now (left g c) words) next acted.kept c.at_end.result c.next_of.ensures (done_by true) (done_by false) (done_by false);
+      end = ends next acted.kept c.at_end.result c.step.new.run.facts.get c.step.new.run.facts.put c.next_of.ensures c.at_end.ensures.value;
+      drawn = drawn_where next acted.kept c.at_end.result drawn c.next_of.ensures ∙ ap (drawn_if next) (c.drawn_of.ensures ∙ told_drawn p h s words acted (executed g c));
+      draws = subst (λ (new : List Event). Draws (replay p h) (replay p new) drawn) (sym (done g c).event)
+          (subst (Draws (replay p h) (replay p (Step s words ∷ h))) (sym c.drawn_of.ensures) (draws_step p h s words acted (executed g c)));
+    }
 
-pub returns-in-Invalid-clause-draws : goal.returns-in-Invalid-clause-draws
-returns-in-Invalid-clause-draws g c =
+-- ---- the step was refused
+
+pub returns-in-Invalid-clause-steps : goal.returns-in-Invalid-clause-steps
+returns-in-Invalid-clause-steps g c =
+    let side = g.P.ServiceSide.side in
+    let mark = g.P.ServiceSide.mark in
     let p = g.N.Naming.plans in
-    let grows = (refused g (goal.at.returns-in-Invalid-clause-draws g c).In-Invalid).event in
-    subst (Draws (replay p c.args.self.now.core.past) (replay p c.step.new.self.past)) (sym (ap (λ (progress : Progress). progress.drawn) c.without_step-in-Invalid.ensures))
-    (draws_lost p c.args.self.now.core.past c.step.new.self.past c.run.inside.carried.stream (Error c.in-Invalid.error) c.args.fetched.words
-    (grows.past ∙ ap (λ h. Lost c.run.inside.carried.stream (Error c.in-Invalid.error) c.args.fetched.words ∷ h.core.past) c.self.view_is))
+    let s = c.run.inside.carried.stream in
+    let words = c.args.fetched.words in
+    let error = c.in-Invalid.error in
+    let path = goal.at.returns-in-Invalid-clause-steps g c in
+    let is = refused g path.In-Invalid in
+    let house : HouseData g.row.P.Denot g.row.P-Note.Denot g.row.P-Results.Denot = record { core = c.step.new.self; slots = c.self.inside.slots.items; results = c.self.inside.results.items } in
+    let left : OutData g.row.P.Denot g.row.P-Note.Denot = record { run = c.step.new.run; side = c.meet.new.side; note = c.meet.new.note } in
+    let as_seen : IsRefused side mark p c.args.self.now house c.args.run.now left words error = seen g path.After-step (λ q h o. IsRefused side mark q h house o left words error)
+    record { still_open = is.still_open; verdict = is.verdict; event = is.event.past; run = is.run; outs = is.outs; told = c.meet.ensures.told; met = c.meet.ensures.met } in
+    subst (TookStep side mark p c.args.self.now house c.args.run.now left words) (sym c.without_step-in-Invalid.ensures) record {
+      steps = as_seen;
+      end = (λ q. absurd (cc), λ q. absurd (cc));
+      drawn = refl;
+      draws = draws_lost p c.args.self.now.core.past c.step.new.self.past s (Error error) words (is.event.past ∙ ap (λ h. Lost s (Error error) words ∷ h.core.past) c.self.view_is);
+    }
