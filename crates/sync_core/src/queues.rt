@@ -8,8 +8,10 @@ ghost use Rattle.sync_core.specs.declared.wait.Wait.{Wait};
 ghost use Rattle.sync_core.specs.Keys.{wait_cmp};
 ghost use Rattle.sync_core.specs.Pending.{placed};
 ghost use Rattle.sync_core.specs.Lines.{line_at, is_within, Loses};
+ghost use Rattle.sync_core.specs.Changes.{others_by};
 ghost use Rattle.sync_core.specs.Queues.{takes, leaves, is_other, has, GoesLast, Leads, LeadToAll, LeadToOthers, AreLines, entry_count};
 
+use crate::change::Change;
 use crate::line::Line;
 use crate::records::Records;
 use crate::wait::Wait;
@@ -264,5 +266,18 @@ impl Queues {
         ensures len { length self.new ≤ length self.old }
     {
         self.all.drop_all(whose);
+    }
+
+    /// Takes the waits of a stream away where it is lost or closed.
+    pub fn drop_by(&mut self, s: u32, change: Change)
+        ensures others { self.new ≡ others_by s change self.old }
+        ensures len { length self.new ≤ length self.old }
+    {
+        match change {
+            Change::Released(_) => {}
+            Change::Finished => {}
+            Change::Lost => self.drop_all(Whose::Stream(s)),
+            Change::Closed => self.drop_all(Whose::Stream(s)),
+        }
     }
 }
