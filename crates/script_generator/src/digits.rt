@@ -1,4 +1,4 @@
-ghost use Rattle.std.specs.Prelude.{◌≡◌, ◌+◌, ◌<◌, ◌≤◌, ◌++◌, drop, false, vec_len, vec_capacity, OnOk};
+ghost use Rattle.std.specs.Prelude.{◌≡◌, ◌+◌, ◌<◌, ◌≤◌, ◌++◌, length, drop, false, vec_len, vec_capacity, OnOk};
 ghost use Rattle.std.specs.Fmt.{digits, digit_glyph};
 ghost use Rattle.std.specs.List.{flat_map};
 ghost use Rattle.script_generator.specs.Generator.{number_text, value_text};
@@ -8,6 +8,27 @@ use std::alloc::AllocError;
 
 /// The most bytes of a value: a space and eight digits.
 const VALUE: usize = 9;
+
+// Appends bytes in room that is there, one by one: they are few, and a call for all of them costs more.
+#[inline(always)]
+fn put_text(out: &mut Vec<u8>, text: &[u8])
+    requires { vec_len out.old + length text.now ≤ vec_capacity out.old }
+    ensures { out.new.items ≡ out.old.items ++ text.now }
+{
+    for byte in text {
+        out.push_reserved(*byte);
+    }
+}
+
+/// Appends a text of a few bytes.
+#[inline(always)]
+pub(crate) fn push_text(out: &mut Vec<u8>, text: &[u8]) -> Result<(), AllocError>
+    ensures { OnOk result (out.new.items ≡ out.old.items ++ text.now) }
+{
+    out.reserve(text.len())?;
+    put_text(out, text);
+    Ok(())
+}
 
 /// Appends a space and a number in decimal digits.
 pub(crate) fn push_number(out: &mut Vec<u8>, number: u32) -> Result<(), AllocError>
@@ -55,7 +76,7 @@ fn put_long(out: &mut Vec<u8>, value: u32)
 {
     let (text, at) = hex_text(value);
     let (_, written) = text.split_at(at);
-    out.extend_from_slice(written).unwrap();
+    put_text(out, written);
 }
 
 // Appends a value in hexadecimal digits, without leading zeros. Most values of a script have one.

@@ -3,7 +3,7 @@ ghost use Rattle.std.specs.List.{flat_map};
 ghost use Rattle.script_generator.specs.Draws.{after_draws};
 ghost use Rattle.script_generator.specs.Generator.{number_text, value_text, wait_words, clear_words, copy_words, upload_words, fence_words, block, round_text, rounds, start_text, stream_lines, generated};
 
-use crate::digits::{push_number, push_value, push_values};
+use crate::digits::{push_number, push_text, push_value, push_values};
 use crate::draws::{below, drawn};
 use gpu_word::Memory;
 use std::alloc::{AllocError, Global};
@@ -14,10 +14,10 @@ fn push_wait(out: &mut Vec<u8>, other: u32, round: u32) -> Result<(), AllocError
     ensures { OnOk result (out.new.items
         ≡ out.old.items ++ flat_map value_text (wait_words other round)) }
 {
-    out.extend_from_slice(b" 20200004")?;
+    push_text(out, b" 20200004")?;
     push_value(out, other)?;
     push_value(out, round)?;
-    out.extend_from_slice(b" 0")?;
+    push_text(out, b" 0")?;
     Ok(())
 }
 
@@ -27,11 +27,11 @@ fn push_clear(out: &mut Vec<u8>, stream: u32, x: u32, y: u32, texel: u32) -> Res
     ensures { OnOk result (out.new.items
         ≡ out.old.items ++ flat_map value_text (clear_words stream x y texel)) }
 {
-    out.extend_from_slice(b" 20800007")?;
+    push_text(out, b" 20800007")?;
     push_value(out, stream)?;
     push_value(out, x)?;
     push_value(out, y)?;
-    out.extend_from_slice(b" 1 1")?;
+    push_text(out, b" 1 1")?;
     push_value(out, texel)?;
     Ok(())
 }
@@ -42,11 +42,11 @@ fn push_copy(out: &mut Vec<u8>, other: u32, stream: u32) -> Result<(), AllocErro
     ensures { OnOk result (out.new.items
         ≡ out.old.items ++ flat_map value_text (copy_words other stream)) }
 {
-    out.extend_from_slice(b" 20a00009")?;
+    push_text(out, b" 20a00009")?;
     push_value(out, other)?;
-    out.extend_from_slice(b" 0 0")?;
+    push_text(out, b" 0 0")?;
     push_value(out, stream)?;
-    out.extend_from_slice(b" 8 8 4 4")?;
+    push_text(out, b" 8 8 4 4")?;
     Ok(())
 }
 
@@ -56,11 +56,11 @@ fn push_upload(out: &mut Vec<u8>, stream: u32, x: u32, y: u32) -> Result<(), All
     ensures { OnOk result (out.new.items
         ≡ out.old.items ++ flat_map value_text (upload_words stream x y)) }
 {
-    out.extend_from_slice(b" 20c00009")?;
+    push_text(out, b" 20c00009")?;
     push_value(out, stream)?;
     push_value(out, x)?;
     push_value(out, y)?;
-    out.extend_from_slice(b" 1 1 1 0 0")?;
+    push_text(out, b" 1 1 1 0 0")?;
     Ok(())
 }
 
@@ -70,9 +70,9 @@ fn push_fence(out: &mut Vec<u8>, round: u32) -> Result<(), AllocError>
     ensures { OnOk result (out.new.items
         ≡ out.old.items ++ flat_map value_text (fence_words round)) }
 {
-    out.extend_from_slice(b" 20000003")?;
+    push_text(out, b" 20000003")?;
     push_value(out, round)?;
-    out.extend_from_slice(b" 0")?;
+    push_text(out, b" 0")?;
     Ok(())
 }
 
@@ -104,9 +104,9 @@ fn push_half(out: &mut Vec<u8>, half: u32) -> Result<(), AllocError>
     ensures { OnOk result (out.new.items ≡ out.old.items ++ number_text (32 * half)) }
 {
     if half == 0 {
-        out.extend_from_slice(b" 0")?;
+        push_text(out, b" 0")?;
     } else {
-        out.extend_from_slice(b" 32")?;
+        push_text(out, b" 32")?;
     }
     Ok(())
 }
@@ -118,14 +118,14 @@ fn push_round(out: &mut Vec<u8>, stream: u32, round: u32, state: u32) -> Result<
     ensures state { IfOk result (λ next. next ≡ after_draws 7 state) }
 {
     let half = round % 2;
-    out.extend_from_slice(b"put")?;
+    push_text(out, b"put")?;
     push_half(out, half)?;
     let uploaded = drawn(push_block(out, stream, round, state)?);
-    out.extend_from_slice(b"\nfill 0 0")?;
+    push_text(out, b"\nfill 0 0")?;
     push_value(out, uploaded)?;
-    out.extend_from_slice(b"\nflush")?;
+    push_text(out, b"\nflush")?;
     push_half(out, 1 - half)?;
-    out.extend_from_slice(b"\nfinish\n")?;
+    push_text(out, b"\nfinish\n")?;
     Ok(uploaded)
 }
 

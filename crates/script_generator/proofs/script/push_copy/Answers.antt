@@ -7,5 +7,5 @@ use Rattle.script_generator.proofs.script.push_copy.Goals as goal
 pub returns : goal.returns
 unfolding digits
 returns c =
-    rw (c.in_ok-extend_from_slice-3.ensures.items, c.in_ok-push_value-2.ensures, c.in_ok-extend_from_slice-2.ensures.items, c.in_ok-push_value.ensures, c.in_ok-extend_from_slice.ensures.items)
+    rw (c.in_ok-push_text-3.ensures, c.in_ok-push_value-2.ensures, c.in_ok-push_text-2.ensures, c.in_ok-push_value.ensures, c.in_ok-push_text.ensures)
     (five_pieces c.args.out.now.items (codes " 20a00009") (value_text c.args.other) (codes " 0 0") (value_text c.args.stream) (codes " 8 8 4 4"))

@@ -7,5 +7,5 @@ use Rattle.script_generator.proofs.script.push_upload.Goals as goal
 pub returns : goal.returns
 unfolding digits
 returns c =
-    rw (c.in_ok-extend_from_slice-2.ensures.items, c.in_ok-push_value-3.ensures, c.in_ok-push_value-2.ensures, c.in_ok-push_value.ensures, c.in_ok-extend_from_slice.ensures.items)
+    rw (c.in_ok-push_text-2.ensures, c.in_ok-push_value-3.ensures, c.in_ok-push_value-2.ensures, c.in_ok-push_value.ensures, c.in_ok-push_text.ensures)
     (five_pieces c.args.out.now.items (codes " 20c00009") (value_text c.args.stream) (value_text c.args.x) (value_text c.args.y) (codes " 1 1 1 0 0"))

@@ -7,5 +7,5 @@ use Rattle.script_generator.proofs.script.push_wait.Goals as goal
 pub returns : goal.returns
 unfolding digits
 returns c =
-    rw (c.in_ok-extend_from_slice-2.ensures.items, c.in_ok-push_value-2.ensures, c.in_ok-push_value.ensures, c.in_ok-extend_from_slice.ensures.items)
+    rw (c.in_ok-push_text-2.ensures, c.in_ok-push_value-2.ensures, c.in_ok-push_value.ensures, c.in_ok-push_text.ensures)
     (four_pieces c.args.out.now.items (codes " 20200004") (value_text c.args.other) (value_text c.args.round) (codes " 0"))
