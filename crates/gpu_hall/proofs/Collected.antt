@@ -8,28 +8,36 @@ use Rattle.gpu_journal.specs.declared.event.Why.TheVariants.{Memory}
 use Rattle.gpu_journal.specs.Waits.{standing_of}
 use Rattle.gpu_journal.specs.Serial.{order_event}
 use Rattle.serial_laws.proofs.Others.{standing_own}
-use Rattle.gpu_hall.specs.Collecting.{OrderedOrLost, HasCollected, GrewBy}
+use Rattle.gpu_hall.specs.Collecting.{OrderedOrLost, HasCollectedFrom, HasCollected, GrewBy}
 use Rattle.gpu_hall.proofs.Takers.{kept_before}
+
+-- ---- from one stream
+
+pub none_from : (p : PlansData) (s : ℕ) (h : List Event) → HasCollectedFrom p s h h
+none_from p s [] = refl
+none_from p s (e ∷ h) = inl refl
+
+module _ (p : PlansData) (s : ℕ) (old : List Event) where
+  -- by one event more
+  one_more : (h g : List Event) → OrderedOrLost p s h g → HasCollectedFrom p s old h → HasCollectedFrom p s old g
+  one_more h g came had = ⊎_elim (λ is. by (order_event p h s) is (inl refl)) (λ is. by (Lost s Memory []) is (inr refl)) came
+    where
+      by : (e : Event) → g ≡ e ∷ h → OrderedOrLost p s h (e ∷ h) → HasCollectedFrom p s old g
+      by e is this = subst (HasCollectedFrom p s old) (sym is) (inr (this, had))
+
+  pub next_from : (h g : List Event) → (g ≡ h) ⊎ OrderedOrLost p s h g → HasCollectedFrom p s old h → HasCollectedFrom p s old g
+  next_from h g came had = ⊎_elim (λ is. subst (HasCollectedFrom p s old) (sym is) had) (λ one. one_more h g one had) came
+
+-- ---- from all
 
 pub none_collected : (p : PlansData) (h : List Event) → HasCollected p h h
 none_collected p [] = refl
 none_collected p (e ∷ h) = inl refl
 
-module _ (p : PlansData) (old : List Event) where
-  -- by one event more
-  one_more : (s : ℕ) (h g : List Event) → IsKnown (length p.plans) s → OrderedOrLost p s h g → HasCollected p old h → HasCollected p old g
-  one_more s h g known came had = ⊎_elim (λ is. by (order_event p h s) is (inl refl)) (λ is. by (Lost s Memory []) is (inr refl)) came
-    where
-      by : (e : Event) → g ≡ e ∷ h → OrderedOrLost p s h (e ∷ h) → HasCollected p old g
-      by e is this = subst (HasCollected p old) (sym is) (inr ((s, known, this), had))
-
-  pub next_collected : (s : ℕ) (h g : List Event) → IsKnown (length p.plans) s → (g ≡ h) ⊎ OrderedOrLost p s h g → HasCollected p old h → HasCollected p old g
-  next_collected s h g known came had = ⊎_elim (λ is. subst (HasCollected p old) (sym is) had) (λ one. one_more s h g known one had) came
-
-  -- and by what came after
-  pub all_collected : (h g : List Event) → HasCollected p old h → HasCollected p h g → HasCollected p old g
-  all_collected h [] had came = subst (HasCollected p old) came had
-  all_collected h (e ∷ g) had came = ⊎_elim (λ is. subst (HasCollected p old) is had) (λ more. inr (more.0, all_collected h g had more.1)) came
+-- by what came from one stream after
+pub all_collected : (p : PlansData) (s : ℕ) (old h g : List Event) → IsKnown (length p.plans) s → HasCollected p old h → HasCollectedFrom p s h g → HasCollected p old g
+all_collected p s old h [] known had came = subst (HasCollected p old) came had
+all_collected p s old h (e ∷ g) known had came = ⊎_elim (λ is. subst (HasCollected p old) is had) (λ more. inr ((s, known, more.0), all_collected p s old h g known had more.1)) came
 
 -- ---- how many were taken
 

@@ -12,11 +12,16 @@ use Rattle.gpu_journal.specs.Serial.{order_event}
 abbrev pub OrderedOrLost : PlansData → ℕ → List Event → List Event → Type 0
 OrderedOrLost p s old new = (new ≡ order_event p old s ∷ old) ⊎ (new ≡ Lost s Memory [] ∷ old)
 
+-- so it was with stream s, again and again, and nothing else has come to the journal
+abbrev pub HasCollectedFrom : PlansData → ℕ → List Event → List Event → Type 0
+HasCollectedFrom p s old [] = old ≡ []
+HasCollectedFrom p s old (event ∷ new) = (old ≡ event ∷ new) ⊎ (OrderedOrLost p s new (event ∷ new) × HasCollectedFrom p s old new)
+
 -- so it was with some stream
 abbrev pub IsCollected : PlansData → List Event → List Event → Type 0
 IsCollected p old new = (s : ℕ) × IsKnown (length p.plans) s × OrderedOrLost p s old new
 
--- so it was again and again, and nothing else has come to the journal
+-- so it was with streams, again and again, and nothing else has come to the journal
 abbrev pub HasCollected : PlansData → List Event → List Event → Type 0
 HasCollected p old [] = old ≡ []
 HasCollected p old (event ∷ new) = (old ≡ event ∷ new) ⊎ (IsCollected p new (event ∷ new) × HasCollected p old new)

@@ -7,7 +7,7 @@ ghost use Rattle.sync_core.specs.Standing.{IsKnown, is_open};
 ghost use Rattle.gpu_journal.specs.World.{known};
 ghost use Rattle.gpu_journal.specs.Waits.{standing_of};
 ghost use Rattle.gpu_house.specs.Names.{table_at};
-ghost use Rattle.gpu_hall.specs.Collecting.{OrderedOrLost, HasCollected, GrewBy};
+ghost use Rattle.gpu_hall.specs.Collecting.{OrderedOrLost, HasCollectedFrom, HasCollected, GrewBy};
 
 use crate::hall::Hall;
 use crate::side::NamedSide;
@@ -66,11 +66,11 @@ impl<N: Naming, P: NamedSide, H: Hook> Hall<N, P, H> {
 
     /// Takes flushes from the queue of a stream until that is empty, and orders each, as `collect` does for all streams. It says
     /// how many it took, and takes no more than can be said.
-    #[tactic(auto, using(crate::proofs::Collected::none_collected, crate::proofs::Collected::next_collected))]
+    #[tactic(auto, using(crate::proofs::Collected::none_from, crate::proofs::Collected::next_from))]
     pub fn collect_from<R: Wait>(&mut self, rt: &R, stream: u32, queue: &FlushQueue) -> u32
         requires known { IsKnown (length N.plans.plans) stream }
         requires queue { queue.now ≡ table_at N.queues stream }
-        ensures came { HasCollected N.plans self.old.past self.new.past }
+        ensures came { HasCollectedFrom N.plans stream self.old.past self.new.past }
         ensures count { GrewBy N.plans stream result self.old.past self.new.past }
         ensures outs { self.new.outs ≡ self.old.outs }
         ensures view { self.new.view ≡ self.old.view }

@@ -1,6 +1,6 @@
 use Rattle.std.proofs.Common.{◌∙◌}
 use Rattle.gpu_hall.specs.Collecting.{GrewBy}
-use Rattle.gpu_hall.proofs.Collected.{next_collected, more_grew}
+use Rattle.gpu_hall.proofs.Collected.{next_from, more_grew}
 use Rattle.gpu_hall.proofs.hall.Hall.collect_from.Goals as goal
 
 pub loop-count-preserved : goal.loop-count-preserved
@@ -14,7 +14,7 @@ loop-count-preserved g c =
     let next = c.collect_next.ensures in
     let one : GrewBy p s 1 here new = c.if-not-collect_next.ensures.count in
     record {
-      collected = next_collected p old s here new c.requires.known next.came was.collected;
+      collected = next_from p s old here new next.came was.collected;
       count = more_grew p s old here new c.loop-count.count 1 next.came was.count one;
       outs = next.outs ∙ was.outs;
       view = next.view ∙ was.view;
