@@ -1,7 +1,7 @@
 -- The plans of every script are lawful: each line that is taken up leaves them so.
-use Rattle.std.proofs.Common.{◌≡◌, ℕ, ◌+◌, ◌≤◌, ◌<◌, Bool, true, false, cond, not, nat_le, nat_lt, ◌&&◌, ◌||◌, ◌==◌, List, [], ◌∷◌, ◌++◌, length, map, set, option_to_list, Option, Some, None, Result, Ok, Err, IfOk, refl, sym, ap, subst, ◌∙◌, arith, length-append}
+use Rattle.std.proofs.Common.{◌≡◌, inl, inr, ℕ, ◌+◌, ◌≤◌, ◌<◌, Bool, true, false, cond, not, nat_le, nat_lt, ◌&&◌, ◌||◌, ◌==◌, List, [], ◌∷◌, ◌++◌, length, map, set, option_to_list, Option, Some, None, Result, Ok, Err, IfOk, refl, sym, ap, subst, ◌∙◌, arith, length-append}
 use Rattle.std.proofs.lemmas.Bool.{and_parts, leb-true, ltb-true, not-true}
-use Rattle.std.specs.Prelude.{IfSome, sum_by, is_none}
+use Rattle.std.specs.Prelude.{IfSome, codes, bytes_eq, sum_by, is_none}
 use Rattle.std.specs.List.{All, list_all, list_any, count_by}
 use Rattle.std.specs.Option.{option_map_or}
 use Rattle.std.proofs.lemmas.Bool.Decides.{nat_tests}
@@ -25,7 +25,7 @@ use Rattle.script_lines.specs.Naming.{names_of}
 use Rattle.gpu_plan.specs.declared.plan.Action.{Action}
 use Rattle.gpu_plan.specs.declared.plan.Action.TheVariants.{Flush, Finish, Token, Close}
 use Rattle.gpu_plan.specs.Plans.{PlansData, PlanData, IsWithin, HasFewFences, IsLawfulPlan, IsDump, is_closed, is_flush, is_of, actions_in, flushes_in, ring_alone}
-use Rattle.gpu_plan.specs.Named.{names_in, AreLawfulNames}
+use Rattle.gpu_plan.specs.Named.{names_in, IsVersion, AreLawfulNames}
 use Rattle.gpu_plan.specs.Adding.{Draft, no_stream, streams, fresh_plan, acting, fresh, added, puts, spans_with, may_follow, with_stream, with_memory, with_results, with_puts, with_fill, with_flush, with_finish, with_token, with_close, with_dump, with_keyword, with_line}
 use Rattle.gpu_plan.specs.Script.{is_remark, is_skipped, version_of, numbered, plans_of, from_body, from_version, from_head, script_of}
 use Rattle.gpu_plan.proofs.Apart.{lawful_none}
@@ -438,8 +438,8 @@ taken_lawful version names n (name ∷ words) d e h old = by_remark (is_remark n
 none_lawful : IsLawfulDraft no_stream
 none_lawful = record { done = All-nil IsScriptPlan; last = tt; few = omega arith; counted = refl; counted_flushes = refl; within = omega arith; flushed = omega arith }
 
-whole_lawful : (version : ℕ) (d : Draft) → IsLawfulDraft d → AreLawfulNames version (names_in (streams d)) → AreLawfulPlans (plans_of version d)
-whole_lawful version d old named =
+whole_lawful : (version : ℕ) (d : Draft) → IsVersion version → IsLawfulDraft d → AreLawfulNames version (names_in (streams d)) → AreLawfulPlans (plans_of version d)
+whole_lawful version d known old named =
     let all = streams_actions d old in
     let all_flushes = streams_flushes d old in
     let few = old.within in
@@ -448,28 +448,41 @@ whole_lawful version d old named =
       together = record { streams = streams_few d old; actions = omega (arith, all, few); flushes = omega (arith, all_flushes, fewer) };
       each = streams_lawful d old;
       named = named;
+      known = known;
     }
 
 if_right : (r : Result Draft (ℕ × Kind)) (f : Draft → Result PlansData (ℕ × Kind)) → ((d : Draft) → r ≡ Ok d → IfOk (f d) AreLawfulPlans) → IfOk (r >>= f) AreLawfulPlans
 if_right (Ok d) f h = h d refl
 if_right (Err e) f h = tt
 
-body_lawful : (version : ℕ) (names : List Name) (n : ℕ) (d : Draft) (lines : List (List (List ℕ))) → IsLawfulDraft d → AreLawfulNames version (names_in (streams d)) → IfOk (from_body version names n d lines) AreLawfulPlans
+body_lawful : (version : ℕ) (names : List Name) (n : ℕ) (d : Draft) (lines : List (List (List ℕ))) → IsVersion version → IsLawfulDraft d → AreLawfulNames version (names_in (streams d)) → IfOk (from_body version names n d lines) AreLawfulPlans
 unfolding from_body
-body_lawful version names n d [] old named = whole_lawful version d old named
-body_lawful version names n d (line ∷ lines) old named =
+body_lawful version names n d [] known old named = whole_lawful version d known old named
+body_lawful version names n d (line ∷ lines) known old named =
     if_right (numbered version names n line d) (λ next. from_body version names (n + 1) next lines)
-    (λ next taken. body_lawful version names (n + 1) next lines (taken_lawful version names n line d next taken old) (numbered_lawful version names n line d next taken named))
+    (λ next taken. body_lawful version names (n + 1) next lines known (taken_lawful version names n line d next taken old) (numbered_lawful version names n line d next taken named))
 
-version_lawful : (version : Option ℕ) (n : ℕ) (lines : List (List (List ℕ))) → IfOk (from_version version n lines) AreLawfulPlans
+version_lawful : (version : Option ℕ) (n : ℕ) (lines : List (List (List ℕ))) → IfSome version IsVersion → IfOk (from_version version n lines) AreLawfulPlans
 unfolding from_version
-version_lawful None n lines = tt
-version_lawful (Some version) n lines = body_lawful version (names_of version lines) (n + 1) no_stream lines none_lawful (lawful_none version)
+version_lawful None n lines known = tt
+version_lawful (Some version) n lines known = body_lawful version (names_of version lines) (n + 1) no_stream lines known none_lawful (lawful_none version)
+
+by_words : (head one two : Bool) → IfSome (cond head (cond one (Some 1) (cond two (Some 2) None)) None) IsVersion
+by_words true true two = inl refl
+by_words true false true = inr refl
+by_words true false false = tt
+by_words false one two = tt
+
+version_known : (line : List (List ℕ)) → IfSome (version_of line) IsVersion
+version_known [] = tt
+version_known (name ∷ []) = tt
+version_known (name ∷ version ∷ []) = by_words (bytes_eq name (codes "gpu-script")) (bytes_eq version (codes "1")) (bytes_eq version (codes "2"))
+version_known (name ∷ version ∷ other ∷ line) = tt
 
 head_lawful : (n : ℕ) (lines : List (List (List ℕ))) → IfOk (from_head n lines) AreLawfulPlans
 unfolding from_head
 head_lawful n [] = tt
-head_lawful n (line ∷ lines) = either AreLawfulPlans (is_skipped line) (from_head (n + 1) lines) (from_version (version_of line) n lines) (head_lawful (n + 1) lines) (version_lawful (version_of line) n lines)
+head_lawful n (line ∷ lines) = either AreLawfulPlans (is_skipped line) (from_head (n + 1) lines) (from_version (version_of line) n lines) (head_lawful (n + 1) lines) (version_lawful (version_of line) n lines (version_known line))
 
 pub scripts_are_lawful : ScriptsAreLawful
 unfolding script_of

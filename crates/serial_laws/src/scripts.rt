@@ -21,4 +21,5 @@ pub fn plans_are_lawful(plans: &Plans)
         looked += 1;
         plan_is_lawful(plans.plan(looked));
     }
+    plans.version();
 }
