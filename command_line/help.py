@@ -11,7 +11,7 @@ Where the status is not 0, a line on standard error says why:
 
     1   all was written, and a stream was lost     7   the input is too long
     2   the words are no command line              8   a stream was lost as out of memory
-    3   standard input or a named file failed      9   the journal breaks a rule
+    3   standard input or a named file failed      9   the journal breaks a rule, or a line is off
     4   standard output or a file failed          10   the journal is legal and not complete
     5   the input is no script, or no output      11   the journal is missing, or is none
     6   memory ran out

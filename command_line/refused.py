@@ -1,8 +1,10 @@
-"""Why a script or a journal is refused: python3 -m command_line.refused PROGRAM STATUS SAID < INPUT
+"""Why a script or an output is refused.
+
+    python3 -m command_line.refused PROGRAM STATUS SAID WORD .. < INPUT
 
 It passes on what the program said, adds a line with the wrong word and what was expected, and ends
-with the status. Where lines of a journal end with a carriage return, the program judges it once
-more without these.
+with the status. Where lines of an output end with a carriage return, the program judges it once
+more without these, by the same words.
 """
 
 import os
@@ -14,6 +16,7 @@ from . import journals, scripts, texts
 from .marks import told
 
 NO_JOURNAL = 11
+IS_OFF = re.compile(r"no: line \d+: \w+")
 SCRIPT_LINE = re.compile(r"refused: line (\d+): (\w+)")
 JOURNAL_LINE = re.compile(r"refused: journal line (\d+)")
 
@@ -62,11 +65,12 @@ def why(data: bytes, said: str) -> str | None:
 
 def explain() -> int:
     """Says why the input is refused, and answers the status."""
-    program, status, said = sys.argv[1], int(sys.argv[2]), sys.argv[3]
+    program, status, said, *words = sys.argv[1], int(sys.argv[2]), *sys.argv[3:]
     data = read()
-    if data and status == NO_JOURNAL and b"\r\n" in data:
+    is_judged = status == NO_JOURNAL or IS_OFF.fullmatch(said)
+    if data and is_judged and b"\r\n" in data:
         data = data.replace(b"\r\n", b"\n")
-        ran = subprocess.run([program, "verify"], input=data, stderr=subprocess.PIPE, check=False)
+        ran = subprocess.run([program, *words], input=data, stderr=subprocess.PIPE, check=False)
         status, said = ran.returncode, ran.stderr.decode().rstrip("\n")
     for line in (said, None if data is None else why(data, said)):
         if line:

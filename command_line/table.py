@@ -111,7 +111,11 @@ LOG = (
 COMPARE = (Option("--page", FILE, "both and the difference as one HTML file"),)
 OF_RUN = Value("OUTPUT", "an output of run")
 FIRST, SECOND = Value("A", "two outputs of run"), Value("B", "two outputs of run")
-EXPLAIN = (Option("--program", FILE, "the program that verifies; left out: that of ./zorvleid"),)
+VERIFY = (Option("--whole", None, "judges the lines after the journal too"),)
+EXPLAIN = (
+    *VERIFY,
+    Option("--program", FILE, "the program that verifies; left out: that of ./zorvleid"),
+)
 ASSEMBLE = (
     Option("--await", None,
            "puts a finish before what would overwrite entries that the service may still read"),
@@ -128,7 +132,7 @@ ROWS = (
     Command("trial", "runs that script, and sums up what it gives in one line",
             operands=(SIZE, SEED)),
     Command("verify", "judges whether a journal is a legal and complete history of a script",
-            operands=(FILE,), may_lack=1, reads=SCRIPT_AND_JOURNAL),
+            operands=(FILE,), may_lack=1, options=VERIFY, reads=SCRIPT_AND_JOURNAL),
     Command("pictures", "writes each image as a PNG file, and a sheet of them",
             ("view/run", "pictures"), options=PICTURES, reads=OUTPUT),
     Command("timeline", "writes the history for Perfetto, or as a page to look at",

@@ -11,7 +11,7 @@
 
 Each part is a module of tools/checks/, which says at its head what it checks:
 
-- the program: cases, workers, soak, costs, greatest, refuse_memory, refuse_io
+- the program: cases, workers, soak, judging, costs, greatest, refuse_memory, refuse_io
 - the tools that show an output: pictures, traces, mutations, explaining, replays, logs, comparing,
   pages
 - the tools of the command line: command_lines, manual, releases, previews, assembling, packaging,

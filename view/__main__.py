@@ -69,6 +69,7 @@ def words() -> argparse.Namespace:
     )
     tool.add_argument("--program", metavar="FILE", type=Path,
                       help="the program that verifies (left out: that of ./zorvleid)")
+    tool.add_argument("--whole", action="store_true", help="judge the whole output")
     looking.add_tools(tools)
     asked = parser.parse_args()
     if asked.tool == "timeline":
@@ -101,7 +102,7 @@ def main() -> int:
         if asked.tool in looking.TOOLS:
             return looking.TOOLS[asked.tool](asked)
         if asked.tool == "explain":
-            return explain.explain(read(console.STANDARD), asked.program)
+            return explain.explain(read(console.STANDARD), asked.program, asked.whole)
         return show(asked, read_filled(console.STANDARD))
     except (OutputRefused, NoScript, WrongOutput, NotOfOneScript) as refused:
         return complain(refused, REFUSED)

@@ -1,4 +1,4 @@
-"""The cause of an answer of `verify`: a bad event, missing events, or a line of no journal.
+"""The cause of an answer of `verify`: a bad event, missing events, or a bad line.
 
 The answer is the program's. The cause is found anew from the script and the journal, and proves
 nothing.
@@ -15,13 +15,15 @@ from zorvleid import console
 from zorvleid.errors import printable
 from zorvleid.output import HEAD, NO_LINE_FEED, Event, Lines, read_event
 
-from . import commands, due, rules
+from . import commands, due, rules, whole
 from .script import BLANKS, Script
 from .standing import Stand, Standing
 
 WRAPPER = Path(__file__).resolve().parent.parent / "zorvleid"
 NO, NOT_COMPLETE, NO_JOURNAL, NOT_STARTED = 9, 10, 11, 126
-ANSWER = re.compile(r"no: event \d+ rule \d+|not complete|refused: journal line \d+")
+ANSWER = re.compile(
+    r"no: event \d+ rule \d+|no: line \d+: \w+|not complete|refused: journal line \d+"
+)
 EVENT_FORMS = "order S N C, step S I:V .., finish S N, lost S CODE I:V .., lost S memory, close S"
 
 
@@ -126,6 +128,8 @@ def meaning(status: int, said: str, data: bytes) -> Iterable[str]:
     given = Input(data)
     if status == NO and (found := re.fullmatch(r"no: event (\d+) rule (\d+)", said)):
         return on_no(given, int(found[1]), int(found[2]))
+    if status == NO and (found := re.fullmatch(r"no: line (\d+): (\w+)", said)):
+        return whole.on_line(given, int(found[1]), found[2])
     if status == NOT_COMPLETE:
         return on_not_complete(given)
     if status == NO_JOURNAL and (found := re.fullmatch(r"refused: journal line (\d+)", said)):
@@ -133,12 +137,13 @@ def meaning(status: int, said: str, data: bytes) -> Iterable[str]:
     return ()
 
 
-def explain(data: bytes, program: Path | None = None) -> int:
+def explain(data: bytes, program: Path | None = None, is_whole: bool = False) -> int:
     """Runs `verify`, passes on what it writes, adds what it means, and answers its status."""
+    words = ["verify", "--whole"] if is_whole else ["verify"]
     path = (program or WRAPPER).resolve()
     signal.signal(signal.SIGPIPE, signal.SIG_IGN)  # the program may end before it has read all
     try:
-        ran = subprocess.run([path, "verify"], input=data, capture_output=True, check=False)
+        ran = subprocess.run([path, *words], input=data, capture_output=True, check=False)
     except OSError as error:
         why = f"{printable(str(program))}: {error.strerror}"
         print(f"the program does not start: {why}", file=sys.stderr)

@@ -27,6 +27,8 @@ class Plan:
     words: int = 0  # of all transfer memories
     actions: list[tuple[str, int, int]] = field(default_factory=list)  # (kind, argument, argument)
     flushes: list[int] = field(default_factory=list)  # how many actions stand before each flush
+    # of each dump: how many actions stand before it, and its result place
+    dumps: list[tuple[int, int]] = field(default_factory=list)
     # of a flush that has some, by its action
     fences: dict[int, list[tuple[Target, int]]] = field(default_factory=dict)
 
@@ -115,6 +117,9 @@ class Script:
             plan.flushes.append(len(plan.actions))
             plan.actions.append(("flush", int(rest[0]), 0))
         else:
+            if first == "dump":
+                place = plan.results[int(rest[0])][0] + int(rest[1])
+                plan.dumps.append((len(plan.actions), place))
             plan.actions.append(
                 ("finish" if first == "dump" else first, int(rest[0]) if first == "token" else 0, 0)
             )

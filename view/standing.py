@@ -62,6 +62,8 @@ class Stand:
     gone: Event | None = None  # the event by which it was lost or closed
     buckets: dict[int, bytearray] = field(default_factory=dict)
     buffers: dict[int, bytearray] = field(default_factory=dict)
+    # the values of result places that the latest event wrote, where the script is known
+    told: dict[int, int] = field(default_factory=dict)
     rows: int = 0  # how many there are, and those that no open bar has
     free: list[int] = field(default_factory=list)
 

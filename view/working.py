@@ -220,17 +220,30 @@ def keep(command: commands.Command, stand: "Stand", given: list[int], data: byte
             return read_back(command, stand)
 
 
+def tell(stand: "Stand", memory: int, offset: int, data: bytes) -> None:
+    """Writes bytes to result places, where these are known; the last word is filled with zeros."""
+    if stand.plan is None or memory not in stand.plan.results:
+        return
+    first = stand.plan.results[memory][0] + offset // 4
+    for at in range(0, len(data), 4):
+        stand.told[first + at // 4] = int.from_bytes(data[at:at + 4], "little")
+
+
 def read_back(command: commands.Command, stand: "Stand") -> str:
     """GetBucketStart and GetBucketData, which write result memories."""
     told = command.values
+    bucket = bytes(stand.buckets[told["bucket"]])
     if command.name == "GetBucketData":
+        tell(stand, told["memory"], told["memory_offset"], bucket[told["offset"]:][:told["size"]])
         return (
             f"writes {counted(told['size'], 'byte')} of bucket {told['bucket']} to result memory "
             f"{told['memory']}"
         )
-    size = len(stand.buckets[told["bucket"]])
+    size = len(bucket)
+    tell(stand, told["result_memory"], told["result_offset"], size.to_bytes(4, "little"))
     data = ""
     if told["data_size"]:
+        tell(stand, told["data_memory"], told["data_offset"], bucket[:told["data_size"]])
         data = (
             f" and {counted(min(size, told['data_size']), 'byte')} to result memory "
             f"{told['data_memory']}"

@@ -15,8 +15,8 @@ from tools.checks.tally import Tally
 OF_SOURCES = ("crates", "uses", "widths")  # parts that need no program
 FIRST = ("cases", "documents", "tour")
 PARTS = ("workers", "refuse_memory", "refuse_io", "soak", "costs", "memory", "pictures", "traces",
-         "mutations", "explaining", "replays", "logs", "comparing", "command_lines", "manual",
-         "releases", "pages", "building", "previews", "times", "assembling", "packaging",
+         "mutations", "judging", "explaining", "replays", "logs", "comparing", "command_lines",
+         "manual", "releases", "pages", "building", "previews", "times", "assembling", "packaging",
          "recording", "prose", "figures", "agreeing", "typed_python")
 # parts that take long, and come only where they or the large size are asked for
 ASIDE = ("greatest",)
@@ -52,6 +52,9 @@ PLANTED = (
     ("costs", "bench/once", "signal.alarm(int(limit))", "os.kill(process, signal.SIGKILL)"),
     ("mutations", "python/zorvleid/output.py", "return bytes.fromhex(row)",
      "return bytes.fromhex(row)[::-1]"),
+    ("judging", "tests/model_whole.py", "if event > begin else set()",
+     "if event >= begin else set()"),
+    ("judging", "view/whole.py", "enumerate(self.drawn, 1)", "enumerate(self.drawn, 2)"),
     ("traces", "view/trace.py", 'if event.kind != "order":', 'if event.kind == "finish":'),
     ("traces", "view/trace.py", "self.note(bar.end, bar.stream, self.NUMBERS, -1)",
      "self.note(bar.end, bar.stream, self.NUMBERS, 0)"),

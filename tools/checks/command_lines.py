@@ -398,9 +398,13 @@ def check_streams(tree: Tree, folder: Path, tally: Tally) -> None:
         (tree.top / f"examples/names{end}").read_bytes() for end in (".script", ".stdout")
     )
     returned = (script + b"journal\n" + journal).replace(b"\n", b"\r\n")
-    ran = tree.run(["verify"], returned)
-    is_yes = (ran.status, ran.said) == (0, "") and ran.output.startswith(b"yes events ")
-    tally.tell("a journal with carriage returns", None if is_yes else str(ran))
+    for words in (["verify"], ["verify", "--whole"]):
+        ran = tree.run(words, returned)
+        is_yes = (ran.status, ran.said) == (0, "") and ran.output.startswith(b"yes events ")
+        tally.tell(f"{' '.join(words)} with carriage returns", None if is_yes else str(ran))
+    ran = tree.run(["verify", "--whole"], returned.replace(b"mark 2 2 1", b"mark 2 2 2"))
+    tally.tell("a wrong mark with carriage returns",
+               None if (ran.status, ran.said) == (9, "no: line 24: mark\n") else str(ran))
     ran = tree.run(["verify"], returned.replace(b"order 2 2", b"ordr 2 2"))
     tally.tell("a wrong journal with carriage returns",
                None if ran.status == 11 and "\n[ordr] 2 2 6: " in ran.said else str(ran))

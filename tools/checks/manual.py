@@ -11,7 +11,8 @@ COMMANDS = ("run", "check", "generate", "trial", "verify", "pictures", "timeline
             "explain",
             "assemble", "disassemble", "--help", "--version")
 OPTIONS = ("--into", "--scale", "--at", "--trace", "--page", "--script", "--json", "--stream",
-           "--order", "--command", "--failed", "--lost", "--waits", "--program", "--await")
+           "--order", "--command", "--failed", "--lost", "--waits", "--program", "--whole",
+           "--await")
 STATUSES = (*range(1, 12), 126, 127)
 EXAMPLE = re.compile(r"examples/\w+\.(?:script|stdout)")
 SENTENCES = range(3, 7)

@@ -10,4 +10,11 @@ pub mod Ensuing
 pub mod Ending
 pub mod Taking
 pub mod Firsts
+pub mod EventEnds
+pub mod Dumping
+pub mod Replacing
+pub mod Hearing
+pub mod Keeping
+pub mod Asking
+pub mod Small
 mod Applied

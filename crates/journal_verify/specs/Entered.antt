@@ -4,6 +4,7 @@ use Rattle.std.specs.List.{All}
 use Rattle.gpu_store.specs.Images.{Pictures, Applied}
 use Rattle.gpu_plan.specs.Plans.{PlansData, plan_of}
 use Rattle.stream_state.specs.declared.effect.Effect.{Effect}
+use Rattle.stream_state.specs.declared.effect.Effect.TheVariants.{Nothing}
 use Rattle.stream_state.specs.State.{State, noted}
 use Rattle.stream_state.specs.Steps.{stepped, effect}
 use Rattle.sync_core.specs.Events as sync
@@ -72,3 +73,11 @@ HasEntered p (Step s words) old new = HasTurned s (deed_asked p (effect_in p old
 HasEntered p (Finish s n) old new = HasTurned s (Some sync.Finished) (λ k. record k { finished = k.finished + 1 }) old.drawn old.images old.states old new
 HasEntered p (Lost s why words) old new = HasTurned s (Some sync.WasLost) (λ k. record k { stays = false }) old.drawn old.images old.states old new
 HasEntered p (Close s) old new = HasTurned s (Some sync.WasClosed) (λ k. record k { stays = false }) old.drawn old.images old.states old new
+
+-- what an event asks of the rest of the service, where it obeys all rules
+abbrev pub IsEffect : PlansData → JudgeData → Event → Effect → Type 0
+IsEffect p judge (Order s n c) effect = effect ≡ Nothing
+IsEffect p judge (Step s words) effect = effect ≡ effect_in p judge s words
+IsEffect p judge (Finish s n) effect = effect ≡ Nothing
+IsEffect p judge (Lost s why words) effect = effect ≡ Nothing
+IsEffect p judge (Close s) effect = effect ≡ Nothing

@@ -10,6 +10,7 @@ use Rattle.gpu_plan.specs.declared.plan.Action.{Action}
 use Rattle.gpu_plan.specs.Plans.{PlanData, PlansData, is_closed, plan_of}
 use Rattle.journal_verify.specs.Client.{may_have}
 use Rattle.stream_state.specs.State.{State, facts_of}
+use Rattle.stream_state.specs.declared.effect.Effect.{Effect}
 use Rattle.stream_state.specs.Verdict.{checked_state}
 use Rattle.sync_core.specs.Standing.{first_order}
 use Rattle.sync_core.specs.Core.{left_of, blocked}
@@ -52,6 +53,10 @@ order_fault judge s n c =
 -- the place of the first flush of stream s that is not finished
 abbrev pub flush_in : JudgeData → ℕ → ℕ
 flush_in judge s = option_map_or (λ (watch : WatchData). slice_index watch.flushes watch.finished) (watch_of judge s) 0
+
+-- how many flushes of stream s are finished
+abbrev pub finished_in : JudgeData → ℕ → ℕ
+finished_in judge s = option_map_or (λ (watch : WatchData). watch.finished) (watch_of judge s) 0
 
 -- the state of stream s
 abbrev pub kept_state : JudgeData → ℕ → State
@@ -144,3 +149,8 @@ fault_of p judge (Finish s n) = finish_fault p judge s n
 fault_of p judge (Lost s (Error error) words) = lost_fault error (fetch_outcome p judge s words)
 fault_of p judge (Lost s Memory words) = memory_fault judge s words
 fault_of p judge (Close s) = close_fault p judge s
+
+-- the rule that was found to be broken, where no effect was answered
+abbrev pub fault_in : Result Effect ℕ → Option ℕ
+fault_in (Ok effect) = None
+fault_in (Err rule) = Some rule

@@ -8,4 +8,8 @@ pub mod Kept
 pub mod Faults
 pub mod Entered
 pub mod Follows
+pub mod Ends
+pub mod Dumped
+pub mod Followed
+pub mod Ruled
 pub mod Laws

@@ -2,7 +2,7 @@ ghost use Rattle.std.specs.Prelude.{◌≡◌, ◌+◌, ◌<◌, ◌^◌, length
 ghost use Rattle.gpu_cmd.specs.Lawful.{IsLawfulFacts};
 ghost use Rattle.sync_core.specs.Standing.{IsKnown};
 ghost use Rattle.journal_verify.specs.Kept.{JudgeData, watch_of};
-ghost use Rattle.journal_verify.specs.Faults.{is_open_in, order_fault, flush_in, kept_state, kept_facts, are_held, verdict_outcome, fetch_outcome};
+ghost use Rattle.journal_verify.specs.Faults.{is_open_in, order_fault, finished_in, flush_in, kept_state, kept_facts, are_held, verdict_outcome, fetch_outcome};
 ghost use Rattle.journal_verify.specs.Entered.{FitsPlans};
 
 use crate::copy::copy;
@@ -50,6 +50,16 @@ impl Judge {
         self.watches.get(s as usize - 1)
     }
 
+    /// How many flushes of a stream are finished.
+    pub(crate) fn finished(&self, s: u32) -> u32
+        ensures { result ≡ finished_in self.now s }
+    {
+        match self.watch(s) {
+            Some(watch) => watch.finished(),
+            None => 0,
+        }
+    }
+
     // Whether a stream is one of the script, and is neither lost nor closed.
     pub(crate) fn is_open(&self, s: u32) -> bool
         ensures { result ≡ is_open_in self.now s }
@@ -90,8 +100,8 @@ impl Judge {
         }
     }
 
-    // The state of a stream.
-    fn state(&self, s: u32) -> &StreamState
+    /// The state of a stream.
+    pub(crate) fn state(&self, s: u32) -> &StreamState
         requires { IsKnown (length self.now.states) s }
         ensures { result.now ≡ kept_state self.now s }
     {

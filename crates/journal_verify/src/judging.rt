@@ -1,7 +1,7 @@
 //! The rules of each event, and then what it does.
 ghost use Rattle.std.specs.Prelude.{◌≡◌, None, IfOk, OnOk};
-ghost use Rattle.journal_verify.specs.Faults.{order_fault, step_fault, lost_fault, fetch_outcome, finish_fault, memory_fault, close_fault, fault_of};
-ghost use Rattle.journal_verify.specs.Entered.{FitsPlans, HasCounted, HasEntered};
+ghost use Rattle.journal_verify.specs.Faults.{order_fault, step_fault, lost_fault, fetch_outcome, finish_fault, memory_fault, close_fault, fault_of, fault_in};
+ghost use Rattle.journal_verify.specs.Entered.{FitsPlans, HasCounted, HasEntered, IsEffect};
 
 use crate::judge::Judge;
 use crate::outcome::Outcome;
@@ -9,6 +9,7 @@ use gpu_cmd::CmdError;
 use gpu_journal::{Event, Why};
 use gpu_plan::Plans;
 use gpu_word::Memory;
+use stream_state::Effect;
 
 impl Judge {
     // Rules 4, 5 and 10.
@@ -42,19 +43,27 @@ impl Judge {
     }
 
     // An order: rules 1 to 3.
-    fn order(&mut self, plans: &Plans, s: u32, n: u32, c: u32) -> Result<Option<u32>, Memory>
+    fn order(
+        &mut self,
+        plans: &Plans,
+        s: u32,
+        n: u32,
+        c: u32,
+    ) -> Result<Result<Effect, u32>, Memory>
         requires fits { FitsPlans plans.now self.old }
         requires counted { HasCounted 4294967294 self.old }
-        ensures fault { IfOk result (λ fault. fault ≡ order_fault self.old s n c) }
+        ensures fault { IfOk result (λ taken. fault_in taken ≡ order_fault self.old s n c) }
         ensures entered { IfOk result
-            (λ fault. fault ≡ None → HasEntered plans.now (Event.Order s n c) self.old self.new) }
+            (λ taken. fault_in taken ≡ None → HasEntered plans.now (Event.Order s n c) self.old self.new) }
+        ensures effect { IfOk result (λ taken. IfOk taken (λ effect. IsEffect plans.now self.old
+            (Event.Order s n c) effect)) }
         ensures fits { OnOk result (FitsPlans plans.now self.new) }
     {
         if let Some(rule) = self.order_fault(s, n, c) {
-            return Ok(Some(rule));
+            return Ok(Err(rule));
         }
         self.enter_order(plans, s, c)?;
-        Ok(None)
+        Ok(Ok(Effect::Nothing))
     }
 
     // A step: rules 4 to 9.
@@ -64,21 +73,23 @@ impl Judge {
         s: u32,
         words: &[(u32, u32)],
         values: &mut Vec<u32>,
-    ) -> Result<Option<u32>, Memory>
+    ) -> Result<Result<Effect, u32>, Memory>
         requires fits { FitsPlans plans.now self.old }
         ensures fault { IfOk result
-            (λ fault. fault ≡ step_fault (fetch_outcome plans.now self.old s words.now)) }
+            (λ taken. fault_in taken ≡ step_fault (fetch_outcome plans.now self.old s words.now)) }
         ensures entered { IfOk result
-            (λ fault. fault ≡ None → HasEntered plans.now
+            (λ taken. fault_in taken ≡ None → HasEntered plans.now
             (Event.Step s words.now) self.old self.new) }
+        ensures effect { IfOk result (λ taken. IfOk taken (λ effect. IsEffect plans.now self.old
+            (Event.Step s words.now) effect)) }
         ensures fits { OnOk result (FitsPlans plans.now self.new) }
     {
         match self.fetch_outcome(plans, s, words, values)? {
-            Outcome::Broken(rule) => Ok(Some(rule)),
-            Outcome::Refused(_) => Ok(Some(9)),
+            Outcome::Broken(rule) => Ok(Err(rule)),
+            Outcome::Refused(_) => Ok(Err(9)),
             Outcome::Valid(command) => {
-                self.enter_step(plans, s, &command, words)?;
-                Ok(None)
+                let effect = self.enter_step(plans, s, &command, words)?;
+                Ok(Ok(effect))
             }
         }
     }
@@ -91,71 +102,117 @@ impl Judge {
         error: CmdError,
         words: &[(u32, u32)],
         values: &mut Vec<u32>,
-    ) -> Result<Option<u32>, Memory>
+    ) -> Result<Result<Effect, u32>, Memory>
         requires fits { FitsPlans plans.now self.old }
         ensures fault { IfOk result
-            (λ fault. fault ≡ lost_fault error (fetch_outcome plans.now self.old s words.now)) }
+            (λ taken. fault_in taken ≡ lost_fault error (fetch_outcome plans.now self.old s words.now)) }
         ensures entered { IfOk result
-            (λ fault. fault ≡ None
+            (λ taken. fault_in taken ≡ None
             → HasEntered plans.now (Event.Lost s (Why.Error error) words.now) self.old self.new) }
+        ensures effect { IfOk result (λ taken. IfOk taken (λ effect. IsEffect plans.now self.old
+            (Event.Lost s (Why.Error error) words.now) effect)) }
         ensures fits { OnOk result (FitsPlans plans.now self.new) }
     {
         match self.fetch_outcome(plans, s, words, values)? {
-            Outcome::Broken(rule) => Ok(Some(rule)),
-            Outcome::Valid(_) => Ok(Some(9)),
+            Outcome::Broken(rule) => Ok(Err(rule)),
+            Outcome::Valid(_) => Ok(Err(9)),
             Outcome::Refused(other) => {
                 if other.code() != error.code() {
-                    return Ok(Some(9));
+                    return Ok(Err(9));
                 }
                 self.enter_loss(plans, s);
-                Ok(None)
+                Ok(Ok(Effect::Nothing))
             }
         }
     }
 
     // A finish: rules 4, 5 and 10.
-    fn finish(&mut self, plans: &Plans, s: u32, n: u32) -> Result<Option<u32>, Memory>
+    fn finish(&mut self, plans: &Plans, s: u32, n: u32) -> Result<Result<Effect, u32>, Memory>
         requires fits { FitsPlans plans.now self.old }
         requires counted { HasCounted 4294967294 self.old }
-        ensures fault { IfOk result (λ fault. fault ≡ finish_fault plans.now self.old s n) }
+        ensures fault { IfOk result (λ taken. fault_in taken ≡ finish_fault plans.now self.old s n) }
         ensures entered { IfOk result
-            (λ fault. fault ≡ None → HasEntered plans.now (Event.Finish s n) self.old self.new) }
+            (λ taken. fault_in taken ≡ None → HasEntered plans.now (Event.Finish s n) self.old self.new) }
+        ensures effect { IfOk result (λ taken. IfOk taken (λ effect. IsEffect plans.now self.old
+            (Event.Finish s n) effect)) }
         ensures fits { OnOk result (FitsPlans plans.now self.new) }
     {
         if let Some(rule) = self.finish_fault(plans, s, n) {
-            return Ok(Some(rule));
+            return Ok(Err(rule));
         }
         self.enter_finish(plans, s)?;
-        Ok(None)
+        Ok(Ok(Effect::Nothing))
     }
 
     // A loss as out of memory: rule 11.
-    fn lose_for_memory(&mut self, plans: &Plans, s: u32, words: &[(u32, u32)]) -> Option<u32>
+    fn lose_for_memory(
+        &mut self,
+        plans: &Plans,
+        s: u32,
+        words: &[(u32, u32)],
+    ) -> Result<Effect, u32>
         requires fits { FitsPlans plans.now self.old }
-        ensures fault { result ≡ memory_fault self.old s words.now }
-        ensures entered { result ≡ None
+        ensures fault { fault_in result ≡ memory_fault self.old s words.now }
+        ensures entered { fault_in result ≡ None
             → HasEntered plans.now (Event.Lost s Why.Memory words.now) self.old self.new }
+        ensures effect { IfOk result (λ effect. IsEffect plans.now self.old
+            (Event.Lost s Why.Memory words.now) effect) }
         ensures fits { FitsPlans plans.now self.new }
     {
         if !self.is_open(s) || !words.is_empty() {
-            return Some(11);
+            return Err(11);
         }
         self.enter_loss(plans, s);
-        None
+        Ok(Effect::Nothing)
     }
 
     // A close: rule 12.
-    fn close(&mut self, plans: &Plans, s: u32) -> Option<u32>
+    fn close(&mut self, plans: &Plans, s: u32) -> Result<Effect, u32>
         requires fits { FitsPlans plans.now self.old }
-        ensures fault { result ≡ close_fault plans.now self.old s }
-        ensures entered { result ≡ None → HasEntered plans.now (Event.Close s) self.old self.new }
+        ensures fault { fault_in result ≡ close_fault plans.now self.old s }
+        ensures entered { fault_in result ≡ None → HasEntered plans.now (Event.Close s) self.old self.new }
+        ensures effect { IfOk result (λ effect. IsEffect plans.now self.old
+            (Event.Close s) effect) }
         ensures fits { FitsPlans plans.now self.new }
     {
         if let Some(rule) = self.close_fault(plans, s) {
-            return Some(rule);
+            return Err(rule);
         }
         self.enter_close(plans, s);
-        None
+        Ok(Effect::Nothing)
+    }
+
+    /// The first rule that an event breaks; or where it breaks none, it is taken up, and this is what it asks of the rest of
+    /// the service. `values` is memory to work in.
+    pub(crate) fn enter(
+        &mut self,
+        plans: &Plans,
+        event: &Event,
+        values: &mut Vec<u32>,
+    ) -> Result<Result<Effect, u32>, Memory>
+        requires fits { FitsPlans plans.now self.old }
+        requires counted { HasCounted 4294967294 self.old }
+        ensures fault { IfOk result (λ taken. fault_in taken ≡ fault_of plans.now self.old event.now) }
+        ensures entered { IfOk result
+            (λ taken. fault_in taken ≡ None → HasEntered plans.now event.now self.old self.new) }
+        ensures effect { IfOk result
+            (λ taken. IfOk taken (λ effect. IsEffect plans.now self.old event.now effect)) }
+        ensures fits { OnOk result (FitsPlans plans.now self.new) }
+    {
+        match event {
+            Event::Order {
+                stream,
+                order,
+                place,
+            } => self.order(plans, *stream, *order, *place),
+            Event::Step { stream, words } => self.step(plans, *stream, words.as_slice(), values),
+            Event::Finish { stream, order } => self.finish(plans, *stream, *order),
+            Event::Lost { stream, why, words } => match why {
+                Why::Error(error) => self.lose(plans, *stream, *error, words.as_slice(), values),
+                Why::Memory => Ok(self.lose_for_memory(plans, *stream, words.as_slice())),
+            },
+            Event::Close { stream } => Ok(self.close(plans, *stream)),
+        }
     }
 
     /// The first rule that an event breaks. Where it breaks none, it is taken up. `values` is memory to work in.
@@ -172,19 +229,9 @@ impl Judge {
             (λ fault. fault ≡ None → HasEntered plans.now event.now self.old self.new) }
         ensures fits { OnOk result (FitsPlans plans.now self.new) }
     {
-        match event {
-            Event::Order {
-                stream,
-                order,
-                place,
-            } => self.order(plans, *stream, *order, *place),
-            Event::Step { stream, words } => self.step(plans, *stream, words.as_slice(), values),
-            Event::Finish { stream, order } => self.finish(plans, *stream, *order),
-            Event::Lost { stream, why, words } => match why {
-                Why::Error(error) => self.lose(plans, *stream, *error, words.as_slice(), values),
-                Why::Memory => Ok(self.lose_for_memory(plans, *stream, words.as_slice())),
-            },
-            Event::Close { stream } => Ok(self.close(plans, *stream)),
+        match self.enter(plans, event, values)? {
+            Ok(_) => Ok(None),
+            Err(rule) => Ok(Some(rule)),
         }
     }
 }

@@ -26,7 +26,10 @@
 
 mod client;
 mod copy;
+mod dumped;
+mod ends;
 mod entering;
+mod followed;
 mod held;
 mod judge;
 mod judging;
@@ -34,12 +37,16 @@ mod laws;
 mod making;
 mod outcome;
 mod reach;
+mod rulings;
 mod stepping;
 mod verdict;
 mod verifying;
 mod watch;
 
 pub use client::Client;
-pub use laws::verdicts_exclude_one_another;
+pub use ends::ends_of;
+pub use followed::Followed;
+pub use laws::{dumps_tell_what_was_held, verdicts_exclude_one_another};
+pub use rulings::{Ruling, follow};
 pub use verdict::Verdict;
 pub use verifying::verify;

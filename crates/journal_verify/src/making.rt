@@ -62,6 +62,13 @@ impl Judge {
     }
 
     /// The images.
+    pub(crate) fn images(&self) -> &Images
+        ensures { result.now ≡ self.now.images }
+    {
+        &self.scene.images
+    }
+
+    /// The images alone.
     pub(crate) fn into_images(self) -> Images
         ensures { result ≡ self.images }
     {

@@ -38,8 +38,8 @@ impl Model for Reach {
     } };
 }
 
-// The number that stands at a place, which is 0 where there is no such place.
-fn number_at(numbers: &[u32], place: u32) -> u32
+/// The number that stands at a place, which is 0 where there is no such place.
+pub(crate) fn number_at(numbers: &[u32], place: u32) -> u32
     ensures { result ≡ slice_index numbers.now place }
 {
     match numbers.get(place as usize) {

@@ -1,5 +1,5 @@
 //! What a step does to the record.
-ghost use Rattle.std.specs.Prelude.{◌≡◌, ◌<◌, length, OnOk};
+ghost use Rattle.std.specs.Prelude.{◌≡◌, ◌<◌, length, IfOk, OnOk};
 ghost use Rattle.gpu_plan.specs.Plans.{plan_of};
 ghost use Rattle.stream_state.specs.Steps.{command_in};
 ghost use Rattle.stream_state.specs.Laws.{IsTaken};
@@ -7,7 +7,7 @@ ghost use Rattle.sync_core.specs.Core.{left_of};
 ghost use Rattle.journal_verify.specs.Kept.{IsWatch};
 ghost use Rattle.journal_verify.specs.Faults.{kept_state};
 ghost use Rattle.gpu_journal.specs.World.{greatest_after};
-ghost use Rattle.journal_verify.specs.Entered.{FitsPlans, HasEntered, counts_of};
+ghost use Rattle.journal_verify.specs.Entered.{FitsPlans, IsEffect, HasEntered, counts_of};
 
 use crate::judge::Judge;
 use crate::watch::Watch;
@@ -44,11 +44,13 @@ impl Judge {
         s: u32,
         command: &Command,
         words: &[(u32, u32)],
-    ) -> Result<(), Memory>
+    ) -> Result<Effect, Memory>
         requires fits { FitsPlans plans.now self.old }
         requires front { 0 < length (left_of self.old.core s) }
         requires taken { IsTaken (plan_of plans.now s).areas words.now (kept_state self.old s) }
         requires said { command.now ≡ command_in words.now }
+        ensures effect { IfOk result
+            (λ effect. IsEffect plans.now self.old (Event.Step s words.now) effect) }
         ensures entered { OnOk result
             (HasEntered plans.now (Event.Step s words.now) self.old self.new) }
         ensures fits { OnOk result (FitsPlans plans.now self.new) }
@@ -62,6 +64,6 @@ impl Judge {
         };
         let acted = act(&mut self.scene, &mut self.states[index], &taken)?;
         tell(&mut self.watches[index], plans.plan(s), &acted.effect)?;
-        Ok(())
+        Ok(acted.effect)
     }
 }

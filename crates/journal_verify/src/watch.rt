@@ -105,6 +105,13 @@ impl Watch {
         self.stays
     }
 
+    /// How many flushes are finished.
+    pub(crate) fn finished(&self) -> u32
+        ensures { result ≡ self.now.finished }
+    {
+        self.finished
+    }
+
     /// The place of the first flush without an order.
     pub(crate) fn next_flush(&self) -> Option<u32>
         ensures { result ≡ next_flush self.now }

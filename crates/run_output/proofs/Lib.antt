@@ -1,6 +1,5 @@
 pub mod Appending
 pub mod Pieces
-pub mod Ending
 pub mod Rooms
 pub mod Texts
 mod Closing

@@ -59,7 +59,7 @@ fetched_room words facts lawful listed =
         omega (arith, here, get_or-map (λ (word : ℕ × ℕ). word.0) ws k d 0 lt)
 
 -- the event of a legal history has room
-obeying_room : (p : PlansData) (h : List Event) (e : Event) → AreLawfulPlans p → IsLegal p h → Obeys p h e → HasRoom e
+pub obeying_room : (p : PlansData) (h : List Event) (e : Event) → AreLawfulPlans p → IsLegal p h → Obeys p h e → HasRoom e
 obeying_room p h (Order s n c) lawful legal o = record { few = omega arith; near = λ k d lt. absurd (omega arith) }
 obeying_room p h (Finish s n) lawful legal o = record { few = omega arith; near = λ k d lt. absurd (omega arith) }
 obeying_room p h (Close s) lawful legal o = record { few = omega arith; near = λ k d lt. absurd (omega arith) }

@@ -1,5 +1,4 @@
 pub mod Page
 pub mod Pieces
 pub mod Parts
-pub mod Ends
 pub mod Runs

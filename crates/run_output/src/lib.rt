@@ -13,7 +13,6 @@
 #![tactic(auto)]
 
 mod dump_lines;
-mod ends;
 mod event_lines;
 mod image_lines;
 mod lines;

@@ -3,11 +3,11 @@ ghost use Rattle.std.specs.List.{All};
 ghost use Rattle.gpu_journal.specs.Output.{streams_of, end_of};
 ghost use Rattle.run_output.specs.Parts.{HasRoom};
 
-use crate::ends::ends_of;
 use gpu_house::Report;
 use gpu_journal::End;
 use gpu_run::Dumps;
 use gpu_word::Memory;
+use journal_verify::ends_of;
 use live_view::Look;
 use serial_laws::plans_are_lawful;
 use std::alloc::Global;

@@ -45,7 +45,7 @@ put_small : (p : PlansData) (h : List Event) (s : ℕ) (words : List (ℕ × ℕ
 put_small p h s words lawful known put =
     All-weaker (MayHaveBeenPut p h s) Small (λ word may. may_hold_fits (plan_of p s).actions (places_of (plan_of p s).areas) (flush_of p h s) (reach p h s) word.0 word.1 (lawful_of p s lawful known).within may) words put
 
-event_small : (p : PlansData) (e : Event) (h : List Event) → AreLawfulPlans p → IsLegal p h → Obeys p h e → HasWords e
+pub event_small : (p : PlansData) (e : Event) (h : List Event) → AreLawfulPlans p → IsLegal p h → Obeys p h e → HasWords e
 event_small p (Order s n c) h lawful legal o = All-nil Small
 event_small p (Step s words) h lawful legal o = put_small p h s words lawful (obeys_known p (Step s words) h legal o) o.rule_8
 event_small p (Finish s n) h lawful legal o = All-nil Small
@@ -102,7 +102,7 @@ unfolding picture_text image_text head_text
 pictures_follow [] behind can = can
 pictures_follow (entry ∷ images) behind can = (refl, refl)
 
-abbrev behind_journal : PlansData → (Ending → ℕ) → List Event → List ℕ → List ℕ
+abbrev pub behind_journal : PlansData → (Ending → ℕ) → List Event → List ℕ → List ℕ
 behind_journal p mark h x = picture_text (replay p h) ++ (stream_lines p h ++ (mark_lines p mark h ++ x))
 
 journal_follows : (p : PlansData) (mark : Ending → ℕ) (h : List Event) (x : List ℕ) → CanFollow x → CanFollow (behind_journal p mark h x)
@@ -119,7 +119,7 @@ events_apart (Finish s n ∷ events) behind apart = refl
 events_apart (Lost s why words ∷ events) behind apart = refl
 events_apart (Close s ∷ events) behind apart = refl
 
-abbrev behind_head : PlansData → (Ending → ℕ) → List Event → List ℕ → List ℕ
+abbrev pub behind_head : PlansData → (Ending → ℕ) → List Event → List ℕ → List ℕ
 behind_head p mark h x = journal_text (reverse h) ++ behind_journal p mark h x
 
 head_apart : (p : PlansData) (mark : Ending → ℕ) (h : List Event) (x : List ℕ) → CanFollow x → is_apart (behind_head p mark h x) ≡ true
@@ -167,7 +167,7 @@ heads_cut p q true true x y ax ay e =
 
 -- ---- the whole output
 
-output_flat : (p : PlansData) (mark : Ending → ℕ) (h : List Event) (x : List ℕ) → output p mark h ++ x ≡ head_lines p ++ behind_head p mark h x
+pub output_flat : (p : PlansData) (mark : Ending → ℕ) (h : List Event) (x : List ℕ) → output p mark h ++ x ≡ head_lines p ++ behind_head p mark h x
 unfolding output
 output_flat p mark h x = five_pieces (head_lines p) (journal_text (reverse h)) (picture_text (replay p h)) (stream_lines p h) (mark_lines p mark h) x
 

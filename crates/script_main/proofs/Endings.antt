@@ -36,6 +36,7 @@ said_speaks command base input status.NoMemory text said = absurd said
 said_speaks command base input status.TooLong text said = absurd said
 said_speaks command base input status.MemoryLost text said = refl
 said_speaks command base input (status.No event rule) text said = refl
+said_speaks command base input (status.Differs line what) text said = refl
 said_speaks command base input status.NotComplete text said = refl
 said_speaks command base input (status.NoJournal line) text said = refl
 

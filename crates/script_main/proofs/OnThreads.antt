@@ -1,7 +1,10 @@
 -- What the clients of a run on threads have read, as the lines of its dumps.
-use Rattle.std.proofs.Common.{◌≡◌, ℕ, zero, suc, List, [], ◌∷◌, ◌++◌, ◌+◌, length, reverse, refl, ap, ◌∙◌}
-use Rattle.std.specs.Prelude.{Result, Ok, Err, IfOk}
+use Rattle.std.proofs.Common.{◌≡◌, ℕ, zero, suc, List, [], ◌∷◌, ◌++◌, ◌+◌, length, map, reverse, refl, ap, ◌∙◌}
+use Rattle.std.specs.Prelude.{Result, Ok, Err, IfOk, Vec}
+use Rattle.std.specs.declared.alloc.Global.{Global}
 use Rattle.std.specs.List.{concat, flat_map, range_with_len}
+use Rattle.std.proofs.lemmas.List.{length-map}
+use Rattle.std.proofs.lemmas.List.Elements.{All-map}
 use Rattle.std.proofs.lemmas.List.FromFn.{length-range_with_len}
 use Rattle.gpu_plan.specs.Plans.{PlansData}
 use Rattle.wait_hooks.specs.Marks.{mark}
@@ -11,13 +14,14 @@ use Rattle.gpu_journal.specs.Legal.{IsLegal}
 use Rattle.gpu_journal.specs.Complete.{IsComplete}
 use Rattle.gpu_journal.specs.Output.{streams_of, output}
 use Rattle.gpu_journal.specs.Dumps.{AreDumps, AreDumpsOf, dumps_of}
-use Rattle.run_output.specs.Parts.{dump_read_text, dump_texts, view_texts}
+use Rattle.run_output.specs.Parts.{dump_read_text, dump_texts, look_text, view_texts}
 use Rattle.run_output.specs.Runs.{OutputData, behind_text, run_text}
 use Rattle.gpu_threads.specs.declared.threaded_run.ThreadedRun.{ThreadedRun}
 use Rattle.gpu_threads.specs.Dumps.{AreRead, AreAllRead}
 use Rattle.gpu_threads.specs.Runs.{IsThreadedRun}
-use Rattle.gpu_threads.specs.Views.{AreAllLooks}
-use Rattle.script_main.specs.Runs.{IsViewedRun, IsOutput, run_ending}
+use Rattle.gpu_threads.specs.Views.{AreViewerLooks, AreAllLooks}
+use Rattle.live_view.specs.declared.look.Look.{Look}
+use Rattle.script_main.specs.Runs.{view_lines, AreViewLines, IsViewedRun, IsOutput, run_ending}
 use Rattle.script_main.proofs.Endings.{none_lost}
 
 -- the text of what was read of some dumps of a stream is one that may be told of them
@@ -48,6 +52,22 @@ length_all p h (s ∷ streams) (reads ∷ more) are = ap suc (length_all p h str
 pub length_all_read : (p : PlansData) (h : List Event) (all : List (List (ℕ × ℕ × ℕ))) → AreAllRead p h (streams_of p) all → length all ≡ length p.plans
 length_all_read p h all are = length_all p h (streams_of p) all are ∙ length-range_with_len 1 (length p.plans)
 
+-- the looks of each viewer, as plain lists
+abbrev items_of : List (Vec Look Global) → List (List Look)
+items_of looks = map (λ (own : Vec Look Global). own.items) looks
+
+view_text_is : (v : ℕ) (looks : List (Vec Look Global)) → concat (view_texts v looks) ≡ view_lines v (items_of looks)
+view_text_is v [] = refl
+view_text_is v (looks ∷ more) = ap (λ (l : List ℕ). flat_map (look_text v) looks.items ++ l) (view_text_is (v + 1) more)
+
+all_seen : (p : PlansData) (h : List Event) (viewers : ℕ) (looks : List (Vec Look Global)) → AreAllLooks p h viewers looks → AreViewLines p h viewers (concat (view_texts 1 looks))
+all_seen p h viewers looks seen = record {
+  looks = items_of looks;
+  many = length-map looks (λ (own : Vec Look Global). own.items) ∙ seen.many;
+  each = All-map (AreViewerLooks p h) (λ (own : Vec Look Global). own.items) looks seen.each;
+  are = view_text_is 1 looks;
+}
+
 -- the text of a run whose history is legal and complete, with what its clients have read and its viewers have seen after
 -- it, is its output by the rule of threads
 pub threads_output : (p : PlansData) (base viewers : ℕ) (run : OutputData) → run.report.plans ≡ p → run.report.base ≡ base → IsLegal p run.report.past → IsComplete p run.report.past → AreAllRead p run.report.past (streams_of p) run.dumps
@@ -64,7 +84,7 @@ threads_output p base viewers run plans based legal complete are looks =
         dumps = dumps;
         views = views;
         run = record { legal = legal; complete = complete; dumped = all_are_told p run.report.past 1 (length p.plans) run.dumps are; kept = none_lost run.report.past };
-        seen = record { looks = run.looks; seen = looks; are = refl };
+        seen = all_seen p run.report.past viewers run.looks looks;
         are = refl;
       };
       ends = refl;

@@ -1,10 +1,14 @@
 -- Answers that are ready to be written.
-use Rattle.std.specs.Prelude.{ℕ, List, [], reverse}
+use Rattle.std.specs.Prelude.{◌≡◌, ℕ, List, [], ◌++◌, reverse}
+use Rattle.gpu_journal.specs.Picture.{picture_text}
 use Rattle.run_output.specs.Runs.{run_text}
 use Rattle.script_main.specs.declared.answer.Answer.{Answer}
 use Rattle.script_main.specs.declared.answer.Answer.TheVariants.{Found, Text, Ran, Right}
 use Rattle.script_main.specs.declared.status.Status.{Status}
 use Rattle.script_main.specs.declared.status.Status.TheVariants as status
+use Rattle.verify_input.specs.declared.finding.Finding.{Finding}
+use Rattle.verify_input.specs.declared.finding.Finding.TheVariants as finding
+use Rattle.script_main.specs.Says.{yes_line}
 use Rattle.script_main.specs.Runs.{run_ending}
 
 -- how an answer ends
@@ -20,3 +24,12 @@ answer_text (Found ending) = []
 answer_text (Text text) = text.items
 answer_text (Ran run) = run_text run
 answer_text (Right text) = text
+
+-- how the program ends by a finding, and what it writes then
+abbrev pub TellsFinding : Finding → Status → List ℕ → Type 0
+TellsFinding (finding.Refused line kind) ending text = (ending ≡ status.Refused line kind) × (text ≡ [])
+TellsFinding (finding.NoJournal line) ending text = (ending ≡ status.NoJournal line) × (text ≡ [])
+TellsFinding (finding.No event rule) ending text = (ending ≡ status.No event rule) × (text ≡ [])
+TellsFinding (finding.Differs line what) ending text = (ending ≡ status.Differs line what) × (text ≡ [])
+TellsFinding finding.NotComplete ending text = (ending ≡ status.NotComplete) × (text ≡ [])
+TellsFinding (finding.Yes images events) ending text = (ending ≡ status.Ok) × (text ≡ yes_line events ++ picture_text images)

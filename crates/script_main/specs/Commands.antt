@@ -2,7 +2,7 @@
 use Rattle.std.specs.Prelude.{ℕ, ◌-◌, ◌≤◌, ◌==◌, Bool, true, false, ◌&&◌, nat_le, List, [], ◌∷◌, take, drop, Option, Some, None, option_map, option_and_then, codes, bytes_eq, if◌then◌else◌}
 use Rattle.script_lines.specs.Numbers.{decimal_of}
 use Rattle.script_main.specs.declared.command.Command.{Command}
-use Rattle.script_main.specs.declared.command.Command.TheVariants.{Run, RunOnThreads, Check, Generate, Trial, Verify}
+use Rattle.script_main.specs.declared.command.Command.TheVariants.{Run, RunOnThreads, Check, Generate, Trial, Verify, VerifyWhole}
 
 -- a size is a number from 1 to 2000
 abbrev pub sized : Option ℕ → Option ℕ
@@ -47,10 +47,15 @@ of_one name =
     else (if bytes_eq name (codes "check") then Some Check
     else (if bytes_eq name (codes "verify") then Some Verify else None))
 
--- two words: `run --workers=N`
+-- a word after `verify`: `--whole`
+abbrev pub of_verify : List ℕ → Option Command
+of_verify word = if bytes_eq word (codes "--whole") then Some VerifyWhole else None
+
+-- two words: `run --workers=N`, or `verify --whole`
 abbrev pub of_two : List ℕ → List ℕ → Option Command
 of_two name word =
-    if bytes_eq name (codes "run") then option_map run_with (option_and_then workers_in (behind_equals word)) else None
+    if bytes_eq name (codes "verify") then of_verify word
+    else (if bytes_eq name (codes "run") then option_map run_with (option_and_then workers_in (behind_equals word)) else None)
 
 -- two words after `run`: `--workers N`
 abbrev pub of_workers : List ℕ → List ℕ → Option Command
@@ -95,5 +100,6 @@ IsSized Run = Unit {0}
 IsSized (RunOnThreads workers views) = (1 ≤ workers) × (workers ≤ 8) × (views ≤ 4)
 IsSized Check = Unit {0}
 IsSized Verify = Unit {0}
+IsSized VerifyWhole = Unit {0}
 IsSized (Generate size seed) = (1 ≤ size) × (size ≤ 2000)
 IsSized (Trial size seed) = (1 ≤ size) × (size ≤ 2000)

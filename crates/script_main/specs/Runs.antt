@@ -1,7 +1,6 @@
 -- Runs of scripts: their histories, what is written of them, and how they end.
-use Rattle.std.specs.Prelude.{◌≡◌, ℕ, Bool, true, false, List, ◌++◌, reverse, if◌then◌else◌, Ok, Vec}
-use Rattle.std.specs.List.{All, concat, list_any}
-use Rattle.std.specs.declared.alloc.Global.{Global}
+use Rattle.std.specs.Prelude.{◌≡◌, ℕ, ◌+◌, Bool, true, false, List, [], ◌∷◌, ◌++◌, length, reverse, if◌then◌else◌, Ok}
+use Rattle.std.specs.List.{All, flat_map, list_any}
 use Rattle.script_generator.specs.Generator.{generated}
 use Rattle.gpu_plan.specs.Plans.{PlansData}
 use Rattle.gpu_plan.specs.Script.{script_of}
@@ -17,8 +16,8 @@ use Rattle.gpu_journal.specs.Serial.{serial}
 use Rattle.serial_laws.specs.Going.{wants_memory}
 use Rattle.script_laws.specs.Trials.{trial_text}
 use Rattle.live_view.specs.declared.look.Look.{Look}
-use Rattle.gpu_threads.specs.Views.{AreAllLooks}
-use Rattle.run_output.specs.Parts.{view_texts}
+use Rattle.gpu_threads.specs.Views.{AreViewerLooks}
+use Rattle.run_output.specs.Parts.{look_text}
 use Rattle.script_main.specs.declared.status.Status.{Status}
 use Rattle.script_main.specs.declared.status.Status.TheVariants as status
 
@@ -47,11 +46,17 @@ pub record IsRun (p : PlansData) (history : List Event) (dumps : List ℕ) : Typ
   pub dumped : AreDumpLines p history dumps
   pub kept : (run_ending (reverse history) ≡ status.MemoryLost → ⊥) → All (λ event. wants_memory event ≡ false) history
 
+-- the lines of the looks of each viewer, counted from viewer v on
+abbrev pub view_lines : ℕ → List (List Look) → List ℕ
+view_lines v [] = []
+view_lines v (looks ∷ more) = flat_map (look_text v) looks ++ view_lines (v + 1) more
+
 -- these are lines of looks: 17 for each viewer, in order
 pub record AreViewLines (p : PlansData) (history : List Event) (viewers : ℕ) (lines : List ℕ) : Type 0 where
-  pub looks : List (Vec Look Global)
-  pub seen : AreAllLooks p history viewers looks
-  pub are : lines ≡ concat (view_texts 1 looks)
+  pub looks : List (List Look)
+  pub many : length looks ≡ viewers
+  pub each : All (AreViewerLooks p history) looks
+  pub are : lines ≡ view_lines 1 looks
 
 -- the rule of threads with viewers: it is such a run, and after the lines of its dumps come those of looks
 pub record IsViewedRun (viewers : ℕ) (p : PlansData) (history : List Event) (behind : List ℕ) : Type 0 where

@@ -17,6 +17,7 @@ code_of status.NoMemory = 6
 code_of status.TooLong = 7
 code_of status.MemoryLost = 8
 code_of (status.No event rule) = 9
+code_of (status.Differs line what) = 9
 code_of status.NotComplete = 10
 code_of (status.NoJournal line) = 11
 
@@ -32,6 +33,7 @@ fault_of status.NoMemory = Some fault.Memory
 fault_of status.TooLong = Some fault.TooLong
 fault_of status.MemoryLost = Some fault.MemoryLost
 fault_of (status.No event rule) = Some (fault.No event rule)
+fault_of (status.Differs line what) = Some (fault.Differs line what)
 fault_of status.NotComplete = Some fault.NotComplete
 fault_of (status.NoJournal line) = Some (fault.NoJournal line)
 
@@ -46,6 +48,7 @@ writes _ = false
 abbrev pub speaks : Status → Bool
 speaks (status.Refused line kind) = true
 speaks (status.No event rule) = true
+speaks (status.Differs line what) = true
 speaks status.NotComplete = true
 speaks (status.NoJournal line) = true
 speaks ending = writes ending

@@ -1,11 +1,11 @@
 ghost use Rattle.std.specs.Prelude.{◌≡◌, ◌≤◌, ℕ, Some, true, length, reverse, IfOk};
 ghost use Rattle.run_output.specs.Runs.{run_text};
 ghost use Rattle.gpu_io.specs.Whole.{most_bytes};
-ghost use Rattle.script_main.specs.declared.command.Command.TheVariants.{Run, Check, Verify};
+ghost use Rattle.script_main.specs.declared.command.Command.TheVariants.{Run, Check, Verify, VerifyWhole};
 ghost use Rattle.script_main.specs.Commands.{is_plain, IsSized};
 ghost use Rattle.script_main.specs.Runs.{IsSerialRun, IsOutput, IsTrial, run_ending};
 ghost use Rattle.script_main.specs.Says.{yes_line, Says};
-ghost use Rattle.script_main.specs.Answers.{answer_ending, answer_text};
+ghost use Rattle.script_main.specs.Answers.{answer_ending, answer_text, TellsFinding};
 
 use crate::answer::Answer;
 use crate::command::Command;
@@ -21,7 +21,7 @@ use script_laws::{dumps_may_be_told, generated_plans, trial_text};
 use serial_laws::{plans_are_lawful, serial_history_is_legal_and_complete};
 use std::alloc::Global;
 use std::mem;
-use verify_input::{Finding, examine};
+use verify_input::{Finding, examine, examine_whole};
 use wait_hooks::Hook;
 
 // Runs a script, and takes all memory that writing its output takes.
@@ -112,16 +112,33 @@ fn verify_answer(alloc: Global, input: &[u8]) -> Result<Answer, Memory>
     ensures { IfOk result (λ answer.
         (base : ℕ) → Says Verify base input.now (answer_ending answer) (answer_text answer)) }
 {
-    match examine(alloc, input)? {
+    answer_of(alloc, examine(alloc, input)?)
+}
+
+// What a finding says.
+fn answer_of(alloc: Global, finding: Finding) -> Result<Answer, Memory>
+    ensures { IfOk result (λ answer. TellsFinding finding (answer_ending answer) (answer_text answer)) }
+{
+    match finding {
         Finding::Refused { line, kind } => Ok(Answer::Found(Status::Refused { line, kind })),
         Finding::NoJournal { line } => Ok(Answer::Found(Status::NoJournal { line })),
         Finding::No { event, rule } => Ok(Answer::Found(Status::No { event, rule })),
+        Finding::Differs { line, what } => Ok(Answer::Found(Status::Differs { line, what })),
         Finding::NotComplete => Ok(Answer::Found(Status::NotComplete)),
         Finding::Yes { images, events } => {
             let line = yes_line(alloc, events)?;
             Ok(Answer::Right(PictureOutput::make(alloc, line, images)?))
         }
     }
+}
+
+// What `verify --whole` says of an input.
+fn whole_answer<H: Hook>(alloc: Global, input: &[u8], hook: H) -> Result<Answer, Memory>
+    requires { length input.now ≤ most_bytes }
+    ensures { IfOk result (λ answer.
+        Says VerifyWhole (H.base hook) input.now (answer_ending answer) (answer_text answer)) }
+{
+    answer_of(alloc, examine_whole(alloc, input, hook.base())?)
 }
 
 /// What a command of plain words says of an input. It neither reads nor writes.
@@ -144,5 +161,6 @@ pub(crate) fn answer_to<H: Hook>(
         Command::Generate { size, seed } => Ok(Answer::Text(generate(alloc, size, seed)?)),
         Command::Trial { size, seed } => Ok(Answer::Text(trial_line(alloc, size, seed, hook)?)),
         Command::Verify => verify_answer(alloc, input),
+        Command::VerifyWhole => whole_answer(alloc, input, hook),
     }
 }

@@ -1,7 +1,7 @@
 ghost use Rattle.std.specs.Prelude.{◌≡◌, ◌≤◌, ◌+◌, Some, map, string_bytes, option_map, IfSome};
 ghost use Rattle.script_lines.specs.Numbers.{decimal_of};
 ghost use Rattle.script_main.specs.declared.command.Command.TheVariants.{Generate, Trial};
-ghost use Rattle.script_main.specs.Commands.{sized, with_both, digit_in, workers_in, behind_equals, run_with, views_in, viewed_with, of_one, of_two, of_workers, of_three, of_views, of_five, command_of, is_plain, IsSized};
+ghost use Rattle.script_main.specs.Commands.{sized, with_both, digit_in, workers_in, behind_equals, run_with, views_in, viewed_with, of_one, of_verify, of_two, of_workers, of_three, of_views, of_five, command_of, is_plain, IsSized};
 ghost use Rattle.script_main.specs.Says.{reads};
 
 use script_lines::decimal_u32;
@@ -30,6 +30,8 @@ pub enum Command {
     Trial { size: u32, seed: u32 },
     /// Reads a script and a journal, and judges the journal.
     Verify,
+    /// Reads a script and a whole output, and judges all of it.
+    VerifyWhole,
 }
 
 impl Command {
@@ -39,7 +41,11 @@ impl Command {
     {
         matches!(
             self,
-            Command::Run | Command::RunOnThreads { .. } | Command::Check | Command::Verify
+            Command::Run
+                | Command::RunOnThreads { .. }
+                | Command::Check
+                | Command::Verify
+                | Command::VerifyWhole
         )
     }
 }
@@ -121,10 +127,24 @@ fn run_with(word: &[u8]) -> Option<Command>
     Some(Command::RunOnThreads { workers, views: 0 })
 }
 
+// The command that a word after `verify` makes.
+fn of_verify(word: &str) -> Option<Command>
+    ensures command { result ≡ of_verify word.now }
+    ensures sized { IfSome result IsSized }
+{
+    match word {
+        "--whole" => Some(Command::VerifyWhole),
+        _ => None,
+    }
+}
+
 fn of_two(name: &str, word: &str) -> Option<Command>
     ensures command { result ≡ of_two name.now word.now }
     ensures sized { IfSome result IsSized }
 {
+    if name == "verify" {
+        return of_verify(word);
+    }
     if name != "run" {
         return None;
     }

@@ -4,6 +4,7 @@ ghost use Rattle.script_main.specs.Statuses.{fault_of};
 use crate::status::Status;
 use gpu_plan::Kind;
 use thiserror::Error;
+use verify_input::What;
 
 /// The table of texts: what standard error shows of a status other than `Ok`.
 #[derive(Clone, Copy, Debug, Error)]
@@ -26,6 +27,8 @@ pub(crate) enum Fault {
     MemoryLost,
     #[error("no: event {event} rule {rule}")]
     No { event: u32, rule: u32 },
+    #[error("no: line {line}: {what}")]
+    Differs { line: u32, what: What },
     #[error("not complete")]
     NotComplete,
     #[error("refused: journal line {line}")]
@@ -47,6 +50,7 @@ pub(crate) fn fault_of(status: Status) -> Option<Fault>
         Status::TooLong => Some(Fault::TooLong),
         Status::MemoryLost => Some(Fault::MemoryLost),
         Status::No { event, rule } => Some(Fault::No { event, rule }),
+        Status::Differs { line, what } => Some(Fault::Differs { line, what }),
         Status::NotComplete => Some(Fault::NotComplete),
         Status::NoJournal { line } => Some(Fault::NoJournal { line }),
     }

@@ -12,20 +12,23 @@
 //! - `check` adds the line of the counts, `generate` the generated script, and `trial` the line of its serial history.
 //! - `verify`: on Ok the input is a script and a legal and complete journal of it, and the number of its events and its
 //!   images were added. No, NotComplete and NoJournal come only where that is the verdict on it.
+//! - `verify --whole`: on Ok the input is a script and the output of a run of it on threads. A Differs comes only where a line
+//!   is off, and names the first.
 //! - After WriteFault a prefix of that text stands. Each other status but NoMemory comes only with its cause, Refused with
 //!   the first bad line and its first kind. All of these leave the sink alone.
 //! - Where the source tells its bytes, field `complete` says which answer they have.
 //! - `is_plain` says exactly which words are for `plain_top`, which takes no handle, so it always returns.
 //! - A run that does not end with MemoryLost lost no stream as out of memory: field `kept` of `IsRun`.
 //! - `run_on`, the program over any source and sink, conducts itself so too, with marks over the base 1000.
-//! - Law: runs on threads that print the same have the same history, whatever was read and seen during them.
+//! - Laws: runs on threads that print the same have the same history, whatever was read and seen during them. What `run` writes
+//!   is right for `verify --whole`.
 //!
 //! Notes:
 //! - Words that are not UTF-8 are a bad command line. Where memory runs out while the command line is read, that is the
 //!   answer.
 //! - Standard error gets one line, and nothing where all went well. The name of a kind in a refusal is that of the variant
 //!   of `Kind`.
-//! - With `verify` the lines before the line `journal` are the script, and else all of them.
+//! - With `verify`, also of a whole output, the lines before the line `journal` are the script, and else all of them.
 #![tactic(auto)]
 
 ghost use Rattle.std.specs.Prelude.{map, string_bytes};

@@ -2,6 +2,7 @@ ghost use Rattle.std.specs.Prelude.{◌≡◌};
 ghost use Rattle.script_main.specs.Statuses.{code_of};
 
 use gpu_plan::Kind;
+use verify_input::What;
 
 /// How the program ended.
 #[derive(Clone, Copy, Debug, PartialEq, Eq)]
@@ -26,6 +27,8 @@ pub enum Status {
     MemoryLost,
     /// The journal is not legal: the first event that breaks a rule, counted from 1, and the least rule that it breaks.
     No { event: u32, rule: u32 },
+    /// A line of a whole output is off: the first, counted from 1, and what is off there.
+    Differs { line: u32, what: What },
     /// The journal is legal, and not complete.
     NotComplete,
     /// No journal stands after the script: the first line that is none, counted from 1.
@@ -47,7 +50,7 @@ impl Status {
             Status::NoMemory => 6,
             Status::TooLong => 7,
             Status::MemoryLost => 8,
-            Status::No { .. } => 9,
+            Status::No { .. } | Status::Differs { .. } => 9,
             Status::NotComplete => 10,
             Status::NoJournal { .. } => 11,
         }

@@ -1,6 +1,6 @@
 -- A text that is gone through line by line, up to a border.
-use Rattle.std.proofs.Common.{◌≡◌, ℕ, ◌+◌, ◌-◌, ◌<◌, ◌≤◌, true, false, List, [], ◌∷◌, ◌++◌, length, length-append, take, Some, None, refl, sym, ap, ◌∙◌, append_assoc, arith}
-use Rattle.std.proofs.lemmas.List.{append-nil}
+use Rattle.std.proofs.Common.{◌≡◌, ℕ, ◌+◌, ◌-◌, ◌<◌, ◌≤◌, true, false, List, [], ◌∷◌, ◌++◌, length, length-append, take, drop, Some, None, refl, sym, ap, ◌∙◌, append_assoc, arith}
+use Rattle.std.proofs.lemmas.List.{append-nil, drop_at}
 use Rattle.script_lines.specs.Text.{words_of}
 use Rattle.verify_input.specs.Reading.{whole_lines}
 use Rattle.verify_input.specs.declared.border.Border.{Border}
@@ -119,3 +119,26 @@ border_behind border text rest line more count on cut ends =
     let less = some_left rest line more first in
     let few = on.few in
     (on.further ∙ ap (behind border) first.lines ∙ behind_end border first.whole (whole_lines more) (words_of line) first.words ends, omega arith)
+
+-- ---- the lines that are left behind a part
+
+pub border_after : (border : Border) (text rest line more part : List ℕ) (count : ℕ) → IsOn border text rest count → IsFirstLine rest line more → is_end border (words_of line) ≡ true → part ≡ take (length text - length rest) text
+    → whole_lines (drop (length part) text) ≡ drop (length (before border (whole_lines text))) (whole_lines text)
+border_after border text rest line more part count on cut ends cutted =
+    let first = starts rest line more cut in
+    let less = some_left rest line more first in
+    let front : part ≡ on.front = cutted ∙ ap (λ (text : List ℕ). take (length text - length rest) text) on.is ∙ take_front on.front rest in
+    let none : before border (whole_lines rest) ≡ [] = ap (before border) first.lines ∙ before_end border first.whole (whole_lines more) (words_of line) first.words ends in
+    let done : before border (whole_lines text) ≡ on.done = on.first ∙ ap (λ (lines : List (List ℕ)). on.done ++ lines) none ∙ append-nil on.done in
+    let lines : whole_lines text ≡ on.done ++ whole_lines rest = ap whole_lines on.is ∙ on.closed (omega arith) rest in
+    let left : drop (length part) text ≡ rest = (λ i. drop (length (front i)) (on.is i)) ∙ drop_at on.front rest (length on.front) refl in
+    let right : drop (length (before border (whole_lines text))) (whole_lines text) ≡ whole_lines rest = (λ i. drop (length (done i)) (lines i)) ∙ drop_at on.done (whole_lines rest) (length on.done) refl in
+    ap whole_lines left ∙ sym right
+
+drop_whole : {A : Type 0} (xs : List A) → drop (length xs) xs ≡ []
+drop_whole xs = ap (drop (length xs)) (sym (append-nil xs)) ∙ drop_at xs [] (length xs) refl
+
+pub none_after : (border : Border) (text rest : List ℕ) (count : ℕ) → IsOn border text rest count → rest ≡ [] → whole_lines (drop (length text) text) ≡ drop (length (before border (whole_lines text))) (whole_lines text)
+none_after border text rest count on nil =
+    let all = all_before border text rest count on nil in
+    ap whole_lines (drop_whole text) ∙ sym (drop_whole (whole_lines text)) ∙ ap (λ (lines : List (List ℕ)). drop (length lines) (whole_lines text)) all

@@ -23,7 +23,7 @@ use Rattle.verify_input.proofs.Wholes.{concat_whole, few_whole, line_first}
 abbrev IsOther : ℕ → Type 0
 IsOther byte = ends_line byte ≡ false
 
-no_feed_letters : (text : List ℕ) → list_all (λ byte. not (ends_line byte)) text ≡ true → HasNoFeed text
+pub no_feed_letters : (text : List ℕ) → list_all (λ byte. not (ends_line byte)) text ≡ true → HasNoFeed text
 no_feed_letters [] e = All-nil IsOther
 no_feed_letters (byte ∷ text) e =
     let both = and_parts (not (ends_line byte)) (list_all (λ byte. not (ends_line byte)) text) e in
@@ -41,7 +41,7 @@ no_feed_digits : (count number : ℕ) → HasNoFeed (digits_within count number)
 no_feed_digits zero number = All-nil IsOther
 no_feed_digits (suc count) number = no_feed_next (ltb number 10) (digits_within count (number / 10)) number (number % 10) (no_feed_digits count (number / 10))
 
-no_feed_number : (number : ℕ) → HasNoFeed (number_text number)
+pub no_feed_number : (number : ℕ) → HasNoFeed (number_text number)
 unfolding numeral
 no_feed_number number = All-cons IsOther 32 (digits_within (suc number) number) refl (no_feed_digits (suc number) number)
 
@@ -121,7 +121,7 @@ pub record IsHeaded (p : PlansData) (text rest : List ℕ) (index : ℕ) : Type 
   pub counted : length done ≡ index + 1
   pub few : index + 1 + length rest ≤ length text
 
-second : (p : PlansData) → p.version ≡ 2 → head_of p ≡ journal_head ∷ map (line_of p) (streams_of p)
+pub second : (p : PlansData) → p.version ≡ 2 → head_of p ≡ journal_head ∷ map (line_of p) (streams_of p)
 second p two = rw two refl
 
 pub headed_none : (p : PlansData) (text rest : List ℕ) → p.version ≡ 2 → whole_lines text ≡ journal_head ∷ whole_lines rest → 1 + length rest ≤ length text → IsHeaded p text rest 0

@@ -7,7 +7,7 @@ use Rattle.gpu_plan.specs.Script.{script_of}
 use Rattle.verify_input.specs.Reading.{whole_lines}
 use Rattle.verify_input.specs.declared.border.Border.TheVariants.{Script, Journal}
 use Rattle.verify_input.specs.declared.finding.Finding.{Finding}
-use Rattle.verify_input.specs.declared.finding.Finding.TheVariants.{Refused, NoJournal, No, NotComplete, Yes}
+use Rattle.verify_input.specs.declared.finding.Finding.TheVariants.{Refused, NoJournal, No, Differs, NotComplete, Yes}
 use Rattle.verify_input.specs.Parts.{before, behind, script_part, journal_from}
 use Rattle.verify_input.specs.Found.{script_in, LacksText, HasNoJournal, Finds}
 use Rattle.verify_input.specs.Steps.{FindsIn}
@@ -31,6 +31,7 @@ text_missing input (Some other) is found = absurd (cc)
 found_behind : (input text : List ℕ) (p : PlansData) (count : ℕ) (finding : Finding) → script_in input ≡ Ok p → count ≡ length (script_part input) → behind Script (whole_lines input) ≡ Some (whole_lines text)
     → FindsIn p count (before Journal (whole_lines text)) finding → Finds input finding
 found_behind input text p count (Refused line kind) script lines there found = absurd found
+found_behind input text p count (Differs line what) script lines there found = absurd found
 found_behind input text p count (NoJournal line) script lines there found = (p, script, subst (λ (text : Option (List (List ℕ))). LacksText p (length (script_part input)) text line) (sym (ap journal_from there)) (subst (λ n. LacksText p n (Some (before Journal (whole_lines text))) line) lines found))
 found_behind input text p count (No event rule) script lines there found = (p, found.0, record { script = script; text = before Journal (whole_lines text); there = ap journal_from there; told = found.1 }, found.2)
 found_behind input text p count NotComplete script lines there found = (p, found.0, record { script = script; text = before Journal (whole_lines text); there = ap journal_from there; told = found.1 }, found.2)

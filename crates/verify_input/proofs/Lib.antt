@@ -13,4 +13,19 @@ pub mod Heads
 pub mod Counts
 pub mod Joining
 pub mod Onlys
+pub mod Feeds
+pub mod Looking
+pub mod Dues
+pub mod Lefts
+pub mod Rows
+pub mod Histories
+pub mod Losing
+pub mod Rising
+pub mod Telling
+pub mod Viewers
+pub mod Ending
+pub mod Outputs
+pub mod Labels
+pub mod Offered
+pub mod Wholly
 mod Applied

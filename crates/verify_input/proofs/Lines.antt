@@ -37,7 +37,7 @@ why_spelled : (why : Why) → why_text why ≡ 32 ∷ why_piece why
 why_spelled (Error error) = refl
 why_spelled Memory = refl
 
-regroup : (a b c d : List ℕ) → ((a ++ (32 ∷ b)) ++ (32 ∷ c)) ++ d ≡ a ++ (32 ∷ (b ++ (32 ∷ (c ++ d))))
+pub regroup : (a b c d : List ℕ) → ((a ++ (32 ∷ b)) ++ (32 ∷ c)) ++ d ≡ a ++ (32 ∷ (b ++ (32 ∷ (c ++ d))))
 regroup a b c d = simp append_assoc
 
 -- a piece has neither a space nor a line feed
@@ -54,14 +54,14 @@ ink_digits radix (c ∷ cs) low are =
 pub ink_number : (n : ℕ) → n < 2 ^ 32 → All IsInk (numeral n)
 ink_number n small = rw (numeral_decimal n (omega arith)) (ink_digits 10 _ (omega arith) (decimal_is_IsNumeral n (omega arith)).0.1)
 
-ink_value : (v : ℕ) → All IsInk (hex8 v)
+pub ink_value : (v : ℕ) → All IsInk (hex8 v)
 ink_value v = ink_digits 16 (hex8 v) (omega arith) (value_digits v)
 
 pub ink_word : (word : ℕ × ℕ) → IsWord word → All IsInk (word_piece word)
 ink_word word is = All-append IsInk (numeral word.0) (58 ∷ hex8 word.1) (ink_number word.0 is.0) (All-cons IsInk 58 (hex8 word.1) (omega arith) (ink_value word.1))
 
 -- all bytes of all pieces
-abbrev AreInk : List (List ℕ) → Type 0
+abbrev pub AreInk : List (List ℕ) → Type 0
 AreInk [] = Unit {0}
 AreInk (x ∷ xs) = All IsInk x × AreInk xs
 
@@ -69,7 +69,7 @@ ink_words : (words : List (ℕ × ℕ)) → All IsWord words → AreInk (map wor
 ink_words [] are = tt
 ink_words (word ∷ words) are = (ink_word word (All-head IsWord word words are), ink_words words (All-tail IsWord word words are))
 
-ink_letters : (text : List ℕ) → list_all (λ byte. ltb 32 byte) text ≡ true → All IsInk text
+pub ink_letters : (text : List ℕ) → list_all (λ byte. ltb 32 byte) text ≡ true → All IsInk text
 ink_letters [] e = All-nil IsInk
 ink_letters (c ∷ cs) e = let both = and_parts (ltb 32 c) (list_all (λ byte. ltb 32 byte) cs) e in All-cons IsInk c cs (ltb-true _ _ both.0) (ink_letters cs both.1)
 
@@ -93,7 +93,7 @@ ink_event (Close stream) is = (ink_letters (codes "close") refl, (ink_number str
 pub no_space : (x : List ℕ) → All IsInk x → All (λ byte. is_space byte ≡ false) x
 no_space x ink = All-weaker IsInk (λ byte. is_space byte ≡ false) (λ byte high. grind (arith, nat_tests)) x ink
 
-split_joined : (x : List ℕ) (xs : List (List ℕ)) → AreInk (x ∷ xs) → slice_split is_space (join_with_byte 32 (x ∷ xs)) ≡ x ∷ xs
+pub split_joined : (x : List ℕ) (xs : List (List ℕ)) → AreInk (x ∷ xs) → slice_split is_space (join_with_byte 32 (x ∷ xs)) ≡ x ∷ xs
 split_joined x [] ink = slice_split_none is_space x (no_space x ink.0)
 split_joined x (y ∷ ys) ink =
     slice_split_at is_space x 32 (join_with_byte 32 (y ∷ ys)) (no_space x ink.0) refl
@@ -114,7 +114,7 @@ joined_words x (word ∷ words) =
     ap (λ (rest : List ℕ). x ++ 32 ∷ rest) more ∙ ap (λ (first : List ℕ). x ++ (first ++ flat_map word_text words)) (sym spelled)
 
 -- the line of an event is its pieces, joined by spaces, with a line feed
-event_joined : (event : Event) → event_text event ≡ join_with_byte 32 (event_pieces event) ++ 10 ∷ []
+pub event_joined : (event : Event) → event_text event ≡ join_with_byte 32 (event_pieces event) ++ 10 ∷ []
 unfolding event_text
 event_joined (Order stream order place) = ap (λ (rest : List ℕ). rest ++ 10 ∷ []) (regroup (codes "order") (numeral stream) (numeral order) (number_text place))
 event_joined (Step stream words) = ap (λ (rest : List ℕ). rest ++ 10 ∷ []) (append_assoc (codes "step") (number_text stream) (flat_map word_text words) ∙ ap (λ (rest : List ℕ). codes "step" ++ 32 ∷ rest) (sym (joined_words (numeral stream) words)))
@@ -142,7 +142,7 @@ line_there line event is =
 
 -- ---- lines of a text
 
-feed_none : (b : ℕ) → IsInk b → ends_line b ≡ false
+pub feed_none : (b : ℕ) → IsInk b → ends_line b ≡ false
 feed_none b high = grind (arith, nat_tests)
 
 joined_no_feed : (pieces : List (List ℕ)) → AreInk pieces → HasNoFeed (join_with_byte 32 pieces)
@@ -152,7 +152,7 @@ joined_no_feed (x ∷ y ∷ ys) ink =
     All-append (λ byte. ends_line byte ≡ false) x (32 ∷ join_with_byte 32 (y ∷ ys)) (All-weaker IsInk (λ byte. ends_line byte ≡ false) feed_none x ink.0)
     (All-cons (λ byte. ends_line byte ≡ false) 32 (join_with_byte 32 (y ∷ ys)) refl (joined_no_feed (y ∷ ys) ink.1))
 
-event_no_feed : (event : Event) → IsWritten event → HasNoFeed (join_with_byte 32 (event_pieces event))
+pub event_no_feed : (event : Event) → IsWritten event → HasNoFeed (join_with_byte 32 (event_pieces event))
 event_no_feed event is = joined_no_feed (event_pieces event) (ink_event event is)
 
 -- the first line of a text

@@ -17,7 +17,7 @@ use Rattle.journal_verify.specs.Rules.{BreaksFirst}
 use Rattle.journal_verify.specs.Answers.{IsFirstWrong, IsWhole, IsUnfinished}
 use Rattle.journal_verify.proofs.Firsts.{wrong_is_illegal, rule_is_one}
 use Rattle.verify_input.specs.declared.finding.Finding.{Finding}
-use Rattle.verify_input.specs.declared.finding.Finding.TheVariants.{Refused, NoJournal, No, NotComplete, Yes}
+use Rattle.verify_input.specs.declared.finding.Finding.TheVariants.{Refused, NoJournal, No, Differs, NotComplete, Yes}
 use Rattle.verify_input.specs.Parts.{script_part, journal_part}
 use Rattle.verify_input.specs.Found.{script_in, head_of, TellsBehind, Records, IsFirstOther, LacksText, HasNoJournal, BreaksRule, IsCutShort, IsRight, Finds}
 use Rattle.verify_input.specs.Laws.{FindingIsOne}
@@ -145,6 +145,7 @@ no_script input line kind p bad good = absurd (cc)
 -- the plans of a lawful script
 lawful : (input : List ℕ) (line : ℕ) (kind : Kind) (finding : Finding) → script_in input ≡ Err (line, kind) → Finds input finding → (l : ℕ) × (k : Kind) × (finding ≡ Refused l k) × (script_in input ≡ Err (l, k))
 lawful input line kind (Refused l k) bad found = (l, k, refl, found)
+lawful input line kind (Differs l what) bad found = absurd found
 lawful input line kind (NoJournal l) bad found = absurd (no_script input line kind found.0 bad found.1)
 lawful input line kind (No event rule) bad found = absurd (no_script input line kind found.0 bad found.2.script)
 lawful input line kind NotComplete bad found = absurd (no_script input line kind found.0 bad found.2.script)
@@ -178,6 +179,8 @@ finding_is_one input (Refused line kind) other one two =
 finding_is_one input one (Refused line kind) a two =
     let same = lawful input line kind one two a in
     same.2 ∙ same_fault same.0 line same.1 kind (script_in input) same.3 two
+finding_is_one input (Differs line what) other one two = absurd one
+finding_is_one input one (Differs line what) a two = absurd two
 finding_is_one input (NoJournal line) (NoJournal other) one two = ap NoJournal (lacks_one input line other one two)
 finding_is_one input (NoJournal line) (No event rule) one two = absurd (lacks_none input line two.0 two.1 one two.2)
 finding_is_one input (NoJournal line) NotComplete one two = absurd (lacks_none input line two.0 two.1 one two.2)

@@ -39,7 +39,7 @@ few_whole (byte ∷ text) =
 
 -- ---- the first line of a text
 
-last_whole : (text : List ℕ) → 0 < length text → HasNoFeed text → whole_lines text ≡ text ∷ []
+pub last_whole : (text : List ℕ) → 0 < length text → HasNoFeed text → whole_lines text ≡ text ∷ []
 last_whole [] some none = absurd (omega arith)
 last_whole (b ∷ []) some none = rw (All-head (λ byte. ends_line byte ≡ false) b [] none) refl
 last_whole (b ∷ c ∷ text) some none = rw (All-head (λ byte. ends_line byte ≡ false) b (c ∷ text) none, last_whole (c ∷ text) (omega arith) (All-tail (λ byte. ends_line byte ≡ false) b (c ∷ text) none)) refl
@@ -49,7 +49,7 @@ kept_all : (line : List ℕ) → HasNoFeed line → filter (λ byte. not (ends_l
 kept_all [] none = refl
 kept_all (b ∷ line) none = rw (All-head (λ byte. ends_line byte ≡ false) b line none, kept_all line (All-tail (λ byte. ends_line byte ≡ false) b line none)) refl
 
-kept_front : (line : List ℕ) → HasNoFeed line → filter (λ byte. not (ends_line byte)) (line ++ 10 ∷ []) ≡ line
+pub kept_front : (line : List ℕ) → HasNoFeed line → filter (λ byte. not (ends_line byte)) (line ++ 10 ∷ []) ≡ line
 kept_front [] none = refl
 kept_front (b ∷ line) none = rw (All-head (λ byte. ends_line byte ≡ false) b line none, kept_front line (All-tail (λ byte. ends_line byte ≡ false) b line none)) refl
 

@@ -16,7 +16,7 @@ use Rattle.verify_input.specs.declared.fault.JournalFault.TheVariants as faults
 use Rattle.journal_verify.specs.Answers.{IsFirstWrong, IsWhole, IsUnfinished}
 use Rattle.verify_input.specs.Parts.{script_part, journal_part}
 use Rattle.verify_input.specs.declared.finding.Finding.{Finding}
-use Rattle.verify_input.specs.declared.finding.Finding.TheVariants.{Refused, NoJournal, No, NotComplete, Yes}
+use Rattle.verify_input.specs.declared.finding.Finding.TheVariants.{Refused, NoJournal, No, Differs, NotComplete, Yes}
 
 -- what the script says: its plans, or its first bad line with its first kind
 abbrev pub script_in : List ℕ → Result PlansData (ℕ × Kind)
@@ -83,5 +83,6 @@ abbrev pub Finds : List ℕ → Finding → Type 0
 Finds input (Refused line kind) = IsNoScript input line kind
 Finds input (NoJournal line) = HasNoJournal input line
 Finds input (No event rule) = BreaksRule input event rule
+Finds input (Differs line what) = ⊥
 Finds input NotComplete = IsCutShort input
 Finds input (Yes images events) = IsRight input images events

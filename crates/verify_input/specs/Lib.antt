@@ -5,4 +5,8 @@ pub mod Parts
 pub mod Cuts
 pub mod Found
 pub mod Steps
+pub mod Looks
+pub mod Due
+pub mod Taking
+pub mod Whole
 pub mod Laws

@@ -6,13 +6,14 @@ use Rattle.gpu_journal.specs.World.{replay}
 use Rattle.journal_verify.specs.Answers.{IsFirstWrong, IsWhole, IsUnfinished}
 use Rattle.verify_input.specs.Found.{head_of, TellsBehind, LacksText}
 use Rattle.verify_input.specs.declared.finding.Finding.{Finding}
-use Rattle.verify_input.specs.declared.finding.Finding.TheVariants.{Refused, NoJournal, No, NotComplete, Yes}
+use Rattle.verify_input.specs.declared.finding.Finding.TheVariants.{Refused, NoJournal, No, Differs, NotComplete, Yes}
 
 -- the verdict on events of a script with these plans
 abbrev pub FindsOf : PlansData → List Event → Finding → Type 0
 FindsOf p events (Refused line kind) = ⊥
 FindsOf p events (NoJournal line) = ⊥
 FindsOf p events (No event rule) = IsFirstWrong p events event rule
+FindsOf p events (Differs line what) = ⊥
 FindsOf p events NotComplete = IsUnfinished p (reverse events)
 FindsOf p events (Yes images count) = IsWhole p (reverse events) × (images ≡ replay p (reverse events)) × (count ≡ length events)
 
@@ -20,4 +21,5 @@ FindsOf p events (Yes images count) = IsWhole p (reverse events) × (images ≡ 
 abbrev pub FindsIn : PlansData → ℕ → List (List ℕ) → Finding → Type 0
 FindsIn p count text (Refused line kind) = ⊥
 FindsIn p count text (NoJournal line) = LacksText p count (Some text) line
+FindsIn p count text (Differs line what) = ⊥
 FindsIn p count text finding = (events : List Event) × TellsBehind (head_of p) text events × FindsOf p events finding

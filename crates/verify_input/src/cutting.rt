@@ -1,4 +1,4 @@
-ghost use Rattle.std.specs.Prelude.{◌≡◌, ◌+◌, ◌<◌, ◌≤◌, ◌^◌, [], None, Some, length, MatchOption};
+ghost use Rattle.std.specs.Prelude.{◌≡◌, ◌+◌, ◌<◌, ◌≤◌, ◌^◌, [], None, Some, length, drop, MatchOption};
 ghost use Rattle.verify_input.specs.Reading.{whole_lines};
 ghost use Rattle.verify_input.specs.Cuts.{IsFirstLine};
 ghost use Rattle.verify_input.specs.Parts.{before, behind};
@@ -18,7 +18,7 @@ pub(crate) struct Cut<'a> {
 }
 
 // The first line, without its line feed, and what stands after it.
-fn first_line(text: &[u8]) -> Option<(&[u8], &[u8])>
+pub(crate) fn first_line(text: &[u8]) -> Option<(&[u8], &[u8])>
     ensures { MatchOption result (text.now ≡ []) (λ cut. IsFirstLine text.now cut.0.now cut.1.now) }
 {
     if text.is_empty() {
@@ -37,6 +37,8 @@ pub(crate) fn cut_at_border(text: &[u8], border: Border) -> Cut<'_>
     ensures lines { result.lines ≡ length (before border (whole_lines text.now)) }
     ensures behind { MatchOption result.rest (behind border (whole_lines text.now) ≡ None)
         (λ rest. behind border (whole_lines text.now) ≡ Some (whole_lines rest.now)) }
+    ensures after { whole_lines (drop (length result.part.now) text.now)
+        ≡ drop (length (before border (whole_lines text.now))) (whole_lines text.now) }
     ensures shorter { length result.part.now ≤ length text.now }
     ensures few { MatchOption result.rest (result.lines ≤ length text.now)
         (λ rest. result.lines + 1 + length rest.now ≤ length text.now) }

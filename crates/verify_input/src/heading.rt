@@ -10,7 +10,7 @@ use gpu_plan::Plans;
 use std::alloc::Global;
 
 // What stands after a line, if that is the first of a text.
-fn behind_line<'a>(text: &'a [u8], line: &[u8]) -> Option<&'a [u8]>
+pub(crate) fn behind_line<'a>(text: &'a [u8], line: &[u8]) -> Option<&'a [u8]>
     requires { IsLine line.now }
     ensures lines { MatchOption result (IsFirstOther (line.now ∷ []) (whole_lines text.now) 0)
         (λ rest. whole_lines text.now ≡ line.now ∷ whole_lines rest.now) }

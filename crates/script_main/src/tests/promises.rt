@@ -26,6 +26,7 @@ fn may_have_written<S: Source, K: Sink, R: Threads + Wait + Sync>(
         | Status::NoMemory
         | Status::TooLong
         | Status::No { .. }
+        | Status::Differs { .. }
         | Status::NotComplete
         | Status::NoJournal { .. } => false,
     }

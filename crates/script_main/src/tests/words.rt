@@ -65,9 +65,10 @@ fn a_run_without_workers_is_plain(rt: HostRuntime) -> Result<(), Fail> {
 
 #[test]
 fn all_other_words_are_plain(rt: HostRuntime) -> Result<(), Fail> {
-    let lists: [&[&str]; 6] = [
+    let lists: [&[&str]; 7] = [
         &["check"],
         &["verify"],
+        &["verify", "--whole"],
         &["generate", "1", "0"],
         &["trial", "1", "0"],
         &["run", "--workers", "9"],

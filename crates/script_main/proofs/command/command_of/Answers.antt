@@ -1,4 +1,4 @@
-use Rattle.std.proofs.Common.{◌≡◌, ℕ, List, [], ◌∷◌, length, map, None, refl, arith}
+use Rattle.std.proofs.Common.{◌≡◌, ◌≤◌, ℕ, List, [], ◌∷◌, length, map, None, refl, arith}
 use Rattle.std.specs.Prelude.{string_bytes}
 use Rattle.std.specs.declared.alloc.Global.{Global}
 use Rattle.std.proofs.lemmas.List.{length-map}
@@ -14,6 +14,16 @@ four_words (a ∷ b ∷ c ∷ []) four = absurd (omega (arith, four))
 four_words (a ∷ b ∷ c ∷ d ∷ []) four = refl
 four_words (a ∷ b ∷ c ∷ d ∷ e ∷ more) four = absurd (omega (arith, four))
 
+-- nor are more than five
+six_words : (words : List (List ℕ)) → 6 ≤ length words → None ≡ command_of words
+six_words [] six = absurd (omega (arith, six))
+six_words (a ∷ []) six = absurd (omega (arith, six))
+six_words (a ∷ b ∷ []) six = absurd (omega (arith, six))
+six_words (a ∷ b ∷ c ∷ []) six = absurd (omega (arith, six))
+six_words (a ∷ b ∷ c ∷ d ∷ []) six = absurd (omega (arith, six))
+six_words (a ∷ b ∷ c ∷ d ∷ e ∷ []) six = absurd (omega (arith, six))
+six_words (a ∷ b ∷ c ∷ d ∷ e ∷ f ∷ more) six = refl
+
 pub returns-in_default-2-clause-command : goal.returns-in_default-2-clause-command
 returns-in_default-2-clause-command c =
     let words = c.args.words.now in
@@ -21,3 +31,10 @@ returns-in_default-2-clause-command c =
     let least = c.in_default.len_at_least in
     let below = c.in_default.len_below in
     four_words (map (string_bytes {Z = Global}) words) (omega (arith, same, least, below))
+
+pub returns-in_default-3-clause-command : goal.returns-in_default-3-clause-command
+returns-in_default-3-clause-command c =
+    let words = c.args.words.now in
+    let same = length-map words (string_bytes {Z = Global}) in
+    let least = c.in_default.len_at_least in
+    six_words (map (string_bytes {Z = Global}) words) (omega (arith, same, least))

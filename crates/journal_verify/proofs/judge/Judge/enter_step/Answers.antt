@@ -55,6 +55,18 @@ tell-requires c =
     let plan = plan_here p c.args.s c.plan.result.now (omega (arith, known.0)) c.plan.ensures in
     subst (λ (plan : PlanData). IsWatch plan c.index_mut-2.result.now) plan (is_watch_here p old c.args.s c.index_mut-2.result.now fits known c.index_mut-2.ensures.value)
 
+pub returns-clause-effect : goal.returns-clause-effect
+returns-clause-effect c =
+    let p = c.args.plans.now in
+    let s = c.args.s in
+    let words = c.args.words.now in
+    let old = kept_by c.self.inside in
+    let fits : FitsPlans p old = subst (FitsPlans p) (sym c.self.view_is) c.requires.fits in
+    let known = front_known p c.args.self.now s c.requires.fits c.requires.front in
+    let state : c.index_mut.result.now ≡ kept_state old s = state_here old.states s c.index_mut.result.now (omega (arith, known.0)) (omega (arith, known.1, fits.states)) c.index_mut.ensures.value in
+    let told : c.in_ok-acted.acted.effect ≡ effect_in p old s words = c.in_ok-acted.ensures.executes.told.effect ∙ ap (effect (plan_of p s).areas words) state in
+    subst (λ (j : JudgeData). c.in_ok-acted.acted.effect ≡ effect_in p j s words) c.self.view_is told
+
 pub returns-clause-entered : goal.returns-clause-entered
 returns-clause-entered c =
     let p = c.args.plans.now in

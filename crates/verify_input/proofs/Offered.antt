@@ -1,0 +1,220 @@
+-- Lines that are as they are due are taken off as such.
+use Rattle.std.proofs.Common.{◌≡◌, ℕ, zero, suc, ◌+◌, ◌*◌, ◌≤◌, Bool, true, false, cond, List, [], ◌∷◌, ◌++◌, map, drop, length, length-append, refl, sym, ap, subst, ◌∙◌, append_assoc, arith}
+use Rattle.std.specs.Prelude.{◌==◌}
+use Rattle.std.specs.List.{All, concat, flat_map, join_with_byte, range_with_len}
+use Rattle.std.proofs.lemmas.List.{append-nil, drop_at}
+use Rattle.std.proofs.lemmas.List.Elements.{All-nil, All-cons, All-head, All-tail, All-append}
+use Rattle.std.proofs.lemmas.List.Folds.{concat-append}
+use Rattle.gpu_store.specs.Picture.{row_of}
+use Rattle.gpu_store.specs.Images.{Pictures}
+use Rattle.gpu_plan.specs.Plans.{PlansData, plan_of}
+use Rattle.wait_hooks.specs.Marks.{mark}
+use Rattle.gpu_journal.specs.declared.event.Event.{Event}
+use Rattle.gpu_journal.specs.Text.{event_text, journal_text, tally_of, stream_text}
+use Rattle.gpu_journal.specs.Picture.{head_text, row_text}
+use Rattle.gpu_journal.specs.Lines.{journal_head, name_text, mark_text, dump_text}
+use Rattle.gpu_journal.specs.World.{state_of, replay}
+use Rattle.gpu_journal.specs.Waits.{endings_in}
+use Rattle.gpu_journal.specs.Output.{streams_of, end_of}
+use Rattle.gpu_journal.specs.Dumps.{AreDumps, AreDumpsOf, dumps_of}
+use Rattle.verify_input.specs.Reading.{IsWritten, whole_lines}
+use Rattle.verify_input.specs.Cuts.{IsLine}
+use Rattle.verify_input.specs.Parts.{before}
+use Rattle.verify_input.specs.Found.{head_of}
+use Rattle.verify_input.specs.Due.{Due, Dump, same_lines, image_lines, picture_lines, end_lines, ending_lines, dumps_due, looks_due, dues, AreTakenOff, AreDue, viewers_in}
+use Rattle.verify_input.specs.Whole.{TellsAll}
+use Rattle.verify_input.specs.declared.what.What.{What}
+use Rattle.verify_input.specs.declared.what.What.TheVariants as what
+use Rattle.verify_input.specs.declared.border.Border.TheVariants.{Journal}
+use Rattle.verify_input.proofs.Events.{event_pieces}
+use Rattle.verify_input.proofs.Lines.{event_joined, event_no_feed}
+use Rattle.verify_input.proofs.Wholes.{line_first}
+use Rattle.verify_input.proofs.Heads.{head_line, name_line}
+use Rattle.verify_input.proofs.Feeds.{image_line, row_line, stream_line, mark_line, dump_line}
+use Rattle.verify_input.proofs.Labels.{Ends, Goes, IsView, image_ends, stream_ends, mark_ends, dump_ends, event_goes, stream_other, mark_other, dump_other, images_other, others_seen, looks_seen, all_lines}
+use Rattle.verify_input.proofs.Viewers.{views_in}
+use Rattle.verify_input.proofs.Dues.{taken_both}
+use Rattle.verify_input.proofs.Ending.{dues_are}
+
+-- the lines of a text that is lines
+pub whole_concat : (lines : List (List ℕ)) → All IsLine lines → whole_lines (concat lines) ≡ lines
+whole_concat [] are = refl
+whole_concat (line ∷ lines) are = line_first line (concat lines) (All-head IsLine line lines are) ∙ ap (λ (ls : List (List ℕ)). line ∷ ls) (whole_concat lines (All-tail IsLine line lines are))
+
+pub heads_are : (p : PlansData) → All IsLine (head_of p)
+heads_are p = by (p.version == 2)
+  where
+    by : (b : Bool) → All IsLine (cond b (journal_head ∷ map (λ s. name_text s (plan_of p s).name) (streams_of p)) [])
+    by true = All-cons IsLine journal_head _ head_line (all_lines IsLine (λ s. name_text s (plan_of p s).name) (λ s. name_line s (plan_of p s).name) (streams_of p))
+    by false = All-nil IsLine
+
+images_are : (images : Pictures) → All IsLine (flat_map image_lines images)
+images_are [] = All-nil IsLine
+images_are (entry ∷ images) =
+    All-append IsLine (image_lines entry) (flat_map image_lines images)
+    (All-cons IsLine (head_text entry.0 entry.1.width entry.1.height) _ (image_line entry.0 entry.1.width entry.1.height) (all_lines IsLine (λ y. row_text (row_of entry.1 y)) (λ y. row_line (row_of entry.1 y)) _))
+    (images_are images)
+
+-- ---- the journal ends before the lines of the other parts
+
+abbrev pub Stops : List (List ℕ) → Type 0
+Stops [] = Unit {0}
+Stops (line ∷ lines) = Ends line
+
+before_front : (front others : List (List ℕ)) → All Goes front → Stops others → before Journal (front ++ others) ≡ front
+before_front [] [] goes stops = refl
+before_front [] (line ∷ others) goes stops = rw stops refl
+before_front (line ∷ front) others goes stops = rw (All-head Goes line front goes) (ap (λ (ls : List (List ℕ)). line ∷ ls) (before_front front others (All-tail Goes line front goes) stops))
+
+-- ---- the lines of a journal
+
+pub event_lines : (events : List Event) → All IsWritten events → All IsLine (map event_text events)
+event_lines [] are = All-nil IsLine
+event_lines (event ∷ events) are =
+    All-cons IsLine (event_text event) (map event_text events)
+    (record { line = join_with_byte 32 (event_pieces event); none = event_no_feed event (All-head IsWritten event events are); is = event_joined event })
+    (event_lines events (All-tail IsWritten event events are))
+
+pub events_text : (events : List Event) → concat (map event_text events) ≡ journal_text events
+unfolding journal_text
+events_text events = by events
+  where
+    by : (events : List Event) → concat (map event_text events) ≡ flat_map event_text events
+    by [] = refl
+    by (event ∷ events) = ap (λ (text : List ℕ). event_text event ++ text) (by events)
+
+-- the lines of the head, of a journal, and others that end it tell its events
+pub tells_of : (p : PlansData) (events : List Event) (others : List (List ℕ)) → All IsWritten events → Stops others → TellsAll p (head_of p ++ (map event_text events ++ others)) events others
+tells_of p events others are stops =
+    let front = map event_text events in
+    let front_is : before Journal (front ++ others) ≡ front = before_front front others (all_lines Goes event_text event_goes events) stops in
+    let journal : whole_lines (journal_text events) ≡ front = ap whole_lines (sym (events_text events)) ∙ whole_concat front (event_lines events are) in
+    record {
+      rest = front ++ others;
+      headed = refl;
+      told = front_is ∙ sym journal;
+      written = are;
+      left = sym (ap (λ (ls : List (List ℕ)). drop (length ls) (front ++ others)) front_is ∙ drop_at front others (length front) refl);
+    }
+
+-- ---- lines of the other parts end it
+
+stops_all : (lines behind : List (List ℕ)) → All Ends lines → Stops behind → Stops (lines ++ behind)
+stops_all [] behind ends stops = stops
+stops_all (line ∷ lines) behind ends stops = All-head Ends line lines ends
+
+images_stop : (images : Pictures) (behind : List (List ℕ)) → Stops behind → Stops (flat_map image_lines images ++ behind)
+images_stop [] behind stops = stops
+images_stop (entry ∷ images) behind stops = image_ends entry.0 entry.1.width entry.1.height
+
+-- ---- a text of lines that are due, one after the other
+
+-- its lines are lines of looks, or none is
+pub record Offered (p : PlansData) (h : List Event) (dues : List Due) (text : List ℕ) (view : Bool) : Type 0 where
+  pub own : List (List ℕ)
+  pub are : text ≡ concat own
+  pub lines : All IsLine own
+  pub ends : All Ends own
+  pub seen : All (IsView view) own
+  pub count : length own ≡ length dues
+  pub taken : (rest : List (List ℕ)) → AreTakenOff p h dues 0 (own ++ rest) 0 rest
+
+module _ (p : PlansData) (h : List Event) where
+  pub offered_none : (view : Bool) → Offered p h [] [] view
+  offered_none view = record { own = []; are = refl; lines = All-nil IsLine; ends = All-nil Ends; seen = All-nil (IsView view); count = refl; taken = λ rest. (refl, refl) }
+
+  pub offered_both : (xs ys : List Due) (text other : List ℕ) (view : Bool) → Offered p h xs text view → Offered p h ys other view → Offered p h (xs ++ ys) (text ++ other) view
+  offered_both xs ys text other view a b = record {
+    own = a.own ++ b.own;
+    are = (λ i. a.are i ++ b.are i) ∙ sym (concat-append a.own b.own);
+    lines = All-append IsLine a.own b.own a.lines b.lines;
+    ends = All-append Ends a.own b.own a.ends b.ends;
+    seen = All-append (IsView view) a.own b.own a.seen b.seen;
+    count = (let one = a.count in let two = b.count in omega (arith, one, two, length-append a.own b.own, length-append xs ys));
+    taken = λ rest. subst (λ (ls : List (List ℕ)). AreTakenOff p h (xs ++ ys) 0 ls 0 rest) (sym (append_assoc a.own b.own rest))
+        (taken_both p h xs ys 0 (a.own ++ (b.own ++ rest)) 0 (b.own ++ rest) 0 rest (a.taken (b.own ++ rest)) (b.taken rest));
+  }
+
+  same_offered : (part : What) (ls rest : List (List ℕ)) → AreTakenOff p h (same_lines part ls) 0 (ls ++ rest) 0 rest
+  same_offered part [] rest = (refl, refl)
+  same_offered part (line ∷ ls) rest = (0, (refl, refl), same_offered part ls rest)
+
+  dumps_offered : (s : ℕ) (dumps : List (ℕ × ℕ)) (text : List ℕ) → AreDumps p h s dumps text → Offered p h (map (λ dump. Dump s dump) dumps) text false
+  dumps_offered s [] text are = subst (λ (t : List ℕ). Offered p h [] t false) (sym are) (offered_none false)
+  dumps_offered s (dump ∷ dumps) text are =
+      let value = are.0 in
+      let line = dump_text s dump.0 dump.1 value in
+      let more = dumps_offered s dumps are.1 are.4 in
+      record {
+        own = line ∷ more.own;
+        are = are.3 ∙ ap (λ (t : List ℕ). line ++ t) more.are;
+        lines = All-cons IsLine line more.own (dump_line s dump.0 dump.1 value) more.lines;
+        ends = All-cons Ends line more.own (dump_ends s dump.0 dump.1 value) more.ends;
+        seen = All-cons (IsView false) line more.own (dump_other s dump.0 dump.1 value) more.seen;
+        count = ap suc more.count;
+        taken = λ rest. (0, (value, are.2, refl, refl), more.taken rest);
+      }
+
+  pub all_dumps_offered : (streams : List ℕ) (text : List ℕ) → AreDumpsOf p h streams text → Offered p h (flat_map (dumps_due p h) streams) text false
+  all_dumps_offered [] text are = subst (λ (t : List ℕ). Offered p h [] t false) (sym are) (offered_none false)
+  all_dumps_offered (s ∷ streams) text are =
+      subst (λ (t : List ℕ). Offered p h (flat_map (dumps_due p h) (s ∷ streams)) t false) (sym are.3)
+      (offered_both (dumps_due p h s) (flat_map (dumps_due p h) streams) are.0 are.1 false (dumps_offered s (dumps_of p h s) are.0 are.2) (all_dumps_offered streams are.1 are.4))
+
+-- ---- all lines after a journal
+
+length_looks : (v n : ℕ) → length (flat_map looks_due (range_with_len v n)) ≡ 17 * n
+length_looks v zero = omega arith
+length_looks v (suc n) =
+    let own : length (looks_due v) ≡ 17 = refl in
+    omega (arith, own, length-append (looks_due v) (flat_map looks_due (range_with_len (v + 1) n)), length_looks (v + 1) n)
+
+module _ (p : PlansData) (base : ℕ) (h : List Event) (viewers : ℕ) (dumps views : List ℕ) (d : Offered p h (flat_map (dumps_due p h) (streams_of p)) dumps false) (v : Offered p h (flat_map looks_due (range_with_len 1 viewers)) views true) where
+  pub all_due : AreDue p h (dues p base h viewers) (picture_lines p h ++ (end_lines p h ++ (ending_lines p base h ++ (d.own ++ v.own))))
+  all_due =
+      let a = same_lines what.Image (picture_lines p h) in
+      let b = same_lines what.Stream (end_lines p h) in
+      let m = same_lines what.Mark (ending_lines p base h) in
+      let ds = flat_map (dumps_due p h) (streams_of p) in
+      let vs = flat_map looks_due (range_with_len 1 viewers) in
+      let three = d.own ++ v.own in
+      let two = ending_lines p base h ++ three in
+      let one = end_lines p h ++ two in
+      let all = picture_lines p h ++ one in
+      let looks : AreTakenOff p h vs 0 v.own 0 [] = subst (λ (ls : List (List ℕ)). AreTakenOff p h vs 0 ls 0 []) (append-nil v.own) (v.taken []) in
+      let ab = taken_both p h a b 0 all 0 one 0 two (same_offered p h what.Image (picture_lines p h) one) (same_offered p h what.Stream (end_lines p h) two) in
+      let abm = taken_both p h (a ++ b) m 0 all 0 two 0 three ab (same_offered p h what.Mark (ending_lines p base h) three) in
+      let abmd = taken_both p h (a ++ b ++ m) ds 0 all 0 three 0 v.own abm (d.taken v.own) in
+      let taken = taken_both p h (a ++ b ++ m ++ ds) vs 0 all 0 v.own 0 [] abmd looks in
+      (0, subst (λ (own : List Due). AreTakenOff p h own 0 all 0 []) (sym (dues_are p base h viewers)) taken)
+
+  pub all_are : All IsLine (picture_lines p h ++ (end_lines p h ++ (ending_lines p base h ++ (d.own ++ v.own))))
+  all_are =
+      let ends = all_lines IsLine (λ s. stream_text s (tally_of (state_of p h s)) (end_of h s)) (λ s. stream_line s (tally_of (state_of p h s)) (end_of h s)) (streams_of p) in
+      let marks = all_lines IsLine (λ ending. mark_text ending (mark base ending)) (λ ending. mark_line ending (mark base ending)) (endings_in p h) in
+      All-append IsLine (picture_lines p h) (end_lines p h ++ (ending_lines p base h ++ (d.own ++ v.own))) (images_are (replay p h))
+      (All-append IsLine (end_lines p h) (ending_lines p base h ++ (d.own ++ v.own)) ends
+      (All-append IsLine (ending_lines p base h) (d.own ++ v.own) marks (All-append IsLine d.own v.own d.lines v.lines)))
+
+  pub all_stop : Stops (picture_lines p h ++ (end_lines p h ++ (ending_lines p base h ++ (d.own ++ v.own))))
+  all_stop =
+      images_stop (replay p h) (end_lines p h ++ (ending_lines p base h ++ (d.own ++ v.own)))
+      (stops_all (end_lines p h) (ending_lines p base h ++ (d.own ++ v.own)) (all_lines Ends (λ s. stream_text s (tally_of (state_of p h s)) (end_of h s)) (λ s. stream_ends s (tally_of (state_of p h s)) (end_of h s)) (streams_of p))
+      (stops_all (ending_lines p base h) (d.own ++ v.own) (all_lines Ends (λ ending. mark_text ending (mark base ending)) (λ ending. mark_ends ending (mark base ending)) (endings_in p h))
+      (stops_all d.own v.own d.ends (last v.own v.ends))))
+    where
+      last : (lines : List (List ℕ)) → All Ends lines → Stops lines
+      last [] ends = tt
+      last (line ∷ lines) ends = All-head Ends line lines ends
+
+  pub all_viewers : viewers ≤ 4 → viewers_in (picture_lines p h ++ (end_lines p h ++ (ending_lines p base h ++ (d.own ++ v.own)))) ≡ viewers
+  all_viewers few =
+      let others = picture_lines p h ++ (end_lines p h ++ (ending_lines p base h ++ (d.own ++ v.own))) in
+      let views : views_in others ≡ length v.own =
+      others_seen (picture_lines p h) (end_lines p h ++ (ending_lines p base h ++ (d.own ++ v.own))) (images_other (replay p h))
+      ∙ others_seen (end_lines p h) (ending_lines p base h ++ (d.own ++ v.own)) (all_lines (IsView false) (λ s. stream_text s (tally_of (state_of p h s)) (end_of h s)) (λ s. stream_other s (tally_of (state_of p h s)) (end_of h s)) (streams_of p))
+      ∙ others_seen (ending_lines p base h) (d.own ++ v.own) (all_lines (IsView false) (λ ending. mark_text ending (mark base ending)) (λ ending. mark_other ending (mark base ending)) (endings_in p h))
+      ∙ others_seen d.own v.own d.seen
+      ∙ looks_seen v.own v.seen in
+      let count = v.count in
+      omega (arith, few, views, count, length_looks 1 viewers)

@@ -1,0 +1,128 @@
+-- The lines of dumps and of looks: what is read at its place decides whether a line may stand there.
+use Rattle.std.proofs.Common.{◌≡◌, ℕ, ◌+◌, ◌-◌, ◌^◌, ◌<◌, ◌≤◌, Result, Ok, Err, List, [], ◌∷◌, ◌++◌, length, length-append, take, drop, reverse, refl, sym, ap, subst, ◌∙◌, append_assoc, arith}
+use Rattle.std.specs.List.{concat}
+use Rattle.std.proofs.lemmas.List.{take-append-drop, drop_at, reverse-append, length-reverse, length-drop}
+use Rattle.gpu_store.specs.Sums.{texel_sum}
+use Rattle.gpu_plan.specs.Plans.{PlansData}
+use Rattle.gpu_journal.specs.declared.event.Event.{Event}
+use Rattle.gpu_journal.specs.Digits.{hex8}
+use Rattle.gpu_journal.specs.Lines.{dump_text, view_text}
+use Rattle.gpu_journal.specs.World.{replay}
+use Rattle.gpu_journal.specs.Dumps.{MayDump}
+use Rattle.gpu_journal.proofs.Lengths.{length-hex8}
+use Rattle.journal_verify.specs.Followed.{sum_after}
+use Rattle.verify_input.specs.Reading.{whole_lines}
+use Rattle.verify_input.specs.Due.{Same, Dump, Look, LastLook, same_lines}
+use Rattle.verify_input.specs.Taking.{off_of, HasTaken, IsBad, Judges, IsLook}
+use Rattle.verify_input.specs.Looks.{EndsWith, BeginsWithLook}
+use Rattle.verify_input.specs.declared.what.What.TheVariants as what
+use Rattle.verify_input.specs.declared.rest.Rest.{Rest}
+use Rattle.verify_input.specs.declared.rest.Bad.{Bad}
+use Rattle.verify_input.proofs.Wholes.{concat_whole}
+use Rattle.verify_input.proofs.Feeds.{dump_front}
+use Rattle.verify_input.proofs.Dues.{taken_as, bad_as, due_bad}
+
+-- ---- dumps
+
+dump_length : (s place index : ℕ) → length (dump_front s place index) + 9 ≡ length (dump_text s place index 0)
+unfolding dump_text
+dump_length s place index =
+    let one = length-append (dump_front s place index ++ hex8 0) (10 ∷ []) in
+    let two = length-append (dump_front s place index) (hex8 0) in
+    let eight = length-hex8 0 in
+    omega (arith, one, two, eight)
+
+dump_parts : (s place index value : ℕ) (more : List ℕ) → dump_text s place index value ++ more ≡ dump_front s place index ++ hex8 value ++ 10 ∷ more
+unfolding dump_text
+dump_parts s place index value more = append_assoc (dump_front s place index ++ hex8 value) (10 ∷ []) more
+
+module _ (p : PlansData) (h : List Event) (s : ℕ) (dump : ℕ × ℕ) (old : Rest) where
+  ends_with : (line : List ℕ) (lines : List (List ℕ)) (value : ℕ) → whole_lines old.text.now ≡ line ∷ lines → line ≡ dump_text s dump.0 dump.1 value → value < 2 ^ 32
+      → EndsWith old.text.now (length (dump_text s dump.0 dump.1 0)) value
+  ends_with line lines value first is small = record {
+    front = dump_front s dump.0 dump.1;
+    rest = concat lines;
+    is = sym (concat_whole old.text.now) ∙ ap concat first ∙ ap (λ (own : List ℕ). own ++ concat lines) is ∙ dump_parts s dump.0 dump.1 value (concat lines);
+    counted = dump_length s dump.0 dump.1;
+    small = small;
+  }
+
+  module _ (value : ℕ) (reads : (other : ℕ) → EndsWith old.text.now (length (dump_text s dump.0 dump.1 0)) other → value ≡ other) (few : (other : ℕ) → MayDump p h s dump other → other < 2 ^ 32) where
+    -- what is read is no value that may be told
+    pub dump_bad : (MayDump p h s dump value → ⊥) → IsBad p h (Dump s dump ∷ []) 0 old (off_of old what.Dump)
+    dump_bad not = due_bad p h (Dump s dump) what.Dump 0 old refl (λ line lines then first may.
+        let same : value ≡ may.0 = reads may.0 (ends_with line lines may.0 first may.2 (few may.0 may.1)) in
+        not (subst (MayDump p h s dump) (sym same) may.1))
+
+    -- it is one, and then its line is the only one
+    pub dump_judged : {T : Type 0} (new : Rest) (r : Result T Bad) → MayDump p h s dump value → Judges p h (same_lines what.Dump (dump_text s dump.0 dump.1 value ∷ [])) old new r → Judges p h (Dump s dump ∷ []) old new r
+    dump_judged new (Ok done) may judged = record {
+      ok = taken_as p h (Same what.Dump (dump_text s dump.0 dump.1 value)) (Dump s dump) 0 0 0 0 old new (λ line stands. (value, may, stands.0, stands.1)) judged.ok;
+      err = tt;
+    }
+    dump_judged new (Err bad) may judged = record {
+      ok = tt;
+      err = bad_as p h (Same what.Dump (dump_text s dump.0 dump.1 value)) (Dump s dump) 0 0 old bad refl (λ line lines then first stands.
+          let same : value ≡ stands.0 = reads stands.0 (ends_with line lines stands.0 first stands.2 (few stands.0 stands.1)) in
+          (0, (stands.2 ∙ ap (dump_text s dump.0 dump.1) (sym same), refl))) judged.err;
+    }
+
+-- ---- looks
+
+sum_small : (p : PlansData) (h : List Event) (count : ℕ) → sum_after p h count < 2 ^ 32
+unfolding texel_sum
+sum_small p h count = omega arith
+
+module _ (p : PlansData) (h : List Event) (viewer least : ℕ) (old : Rest) (known : viewer < 2 ^ 32) (few : length h < 2 ^ 32) where
+  begins_with : (line : List ℕ) (lines : List (List ℕ)) (count : ℕ) → whole_lines old.text.now ≡ line ∷ lines → count ≤ length h → line ≡ view_text viewer count (sum_after p h count) → BeginsWithLook old.text.now (count, sum_after p h count)
+  begins_with line lines count first within is = record {
+    viewer = viewer;
+    rest = lines;
+    is = first ∙ ap (λ (own : List ℕ). own ∷ lines) is;
+    known = known;
+    few = omega (arith, within, few);
+    small = sum_small p h count;
+  }
+
+  module _ (look : ℕ × ℕ) (reads : (other : ℕ × ℕ) → BeginsWithLook old.text.now other → look ≡ other) where
+    -- what is read is no look that may stand there
+    pub look_bad : (IsLook p h least look → ⊥) → IsBad p h (Look viewer ∷ []) least old (off_of old what.View)
+    look_bad not = due_bad p h (Look viewer) what.View least old refl (λ line lines then first may.
+        let same : look ≡ (then, sum_after p h then) = reads (then, sum_after p h then) (begins_with line lines then first may.1 may.2) in
+        not (subst (IsLook p h least) (sym same) (record { from = may.0; few = may.1; sum = refl })))
+
+    pub look_taken : (new : Rest) → IsLook p h least look → HasTaken p h (same_lines what.View (view_text viewer look.0 look.1 ∷ [])) 0 old new 0 → HasTaken p h (Look viewer ∷ []) least old new look.0
+    look_taken new is taken =
+        taken_as p h (Same what.View (view_text viewer look.0 look.1)) (Look viewer) 0 least 0 look.0 old new
+        (λ line stands. (is.from, is.few, stands.0 ∙ ap (view_text viewer look.0) is.sum)) taken
+
+    pub look_off : (bad : Bad) → IsBad p h (same_lines what.View (view_text viewer look.0 look.1 ∷ [])) 0 old bad → IsBad p h (Look viewer ∷ []) least old bad
+    look_off bad off =
+        bad_as p h (Same what.View (view_text viewer look.0 look.1)) (Look viewer) 0 least old bad refl (λ line lines then first may.
+        let same : look ≡ (then, sum_after p h then) = reads (then, sum_after p h then) (begins_with line lines then first may.1 may.2) in
+        (0, (may.2 ∙ ap (λ (l : ℕ × ℕ). view_text viewer l.0 l.1) (sym same), refl))) off
+
+-- the last look is one of all events
+module _ (p : PlansData) (h : List Event) (viewer m : ℕ) (old : Rest) where
+  pub last_taken : (then : ℕ) (new : Rest) → HasTaken p h (Look viewer ∷ []) (length h) old new then → HasTaken p h (LastLook viewer ∷ []) m old new 0
+  last_taken then new taken =
+      taken_as p h (Look viewer) (LastLook viewer) (length h) m then 0 old new (λ line may.
+      let all : then ≡ length h = omega (arith, may.0, may.1) in
+      (may.2 ∙ ap (λ n. view_text viewer n (sum_after p h n)) all, refl)) taken
+
+  pub last_bad : (bad : Bad) → IsBad p h (Look viewer ∷ []) (length h) old bad → IsBad p h (LastLook viewer ∷ []) m old bad
+  last_bad bad off =
+      bad_as p h (Look viewer) (LastLook viewer) (length h) m old bad refl (λ line lines then first may. (length h, (omega arith, omega arith, may.0))) off
+
+-- the sum after some first events, by the images that these leave
+pub sum_before : (p : PlansData) (events : List Event) (count : ℕ) → count ≤ length events → texel_sum (replay p (reverse (take count events))) ≡ sum_after p (reverse events) count
+sum_before p events count few =
+    let parts : reverse events ≡ reverse (drop count events) ++ reverse (take count events) =
+    ap reverse (sym (take-append-drop count events)) ∙ reverse-append (take count events) (drop count events) in
+    let one = length-reverse (drop count events) in
+    let two = length-drop count events in
+    let three = length-reverse events in
+    let left : length (reverse (drop count events)) ≡ length (reverse events) - count = omega (arith, one, two, three) in
+    let past : drop (length (reverse events) - count) (reverse events) ≡ reverse (take count events) =
+    ap (drop (length (reverse events) - count)) parts ∙ drop_at (reverse (drop count events)) (reverse (take count events)) (length (reverse events) - count) left in
+    ap (λ (h : List Event). texel_sum (replay p h)) (sym past)

@@ -1,0 +1,189 @@
+-- The verdict on an input with an output, by the verdict on its parts.
+use Rattle.std.proofs.Common.{◌≡◌, ℕ, suc, ◌+◌, ◌-◌, ◌≤◌, Bool, true, false, cond, inl, inr, List, [], ◌∷◌, ◌++◌, length, length-append, drop, refl, Option, Some, None, Result, Ok, Err, sym, ap, subst, ◌∙◌, arith}
+use Rattle.std.specs.Prelude.{IfOk, option_map}
+use Rattle.std.specs.List.{concat}
+use Rattle.std.proofs.lemmas.List.{length-drop}
+use Rattle.std.proofs.lemmas.List.Folds.{concat-append}
+use Rattle.gpu_plan.specs.Plans.{PlansData}
+use Rattle.gpu_journal.specs.declared.event.Event.{Event}
+use Rattle.gpu_journal.specs.Text.{journal_text}
+use Rattle.script_lines.specs.Text.{ends_line}
+use Rattle.verify_input.specs.Reading.{joined, whole_lines, IsJournal}
+use Rattle.verify_input.specs.Parts.{words_on, is_end, before, behind, script_part}
+use Rattle.verify_input.specs.Found.{script_in, head_of}
+use Rattle.verify_input.specs.Due.{same_lines, heads_due}
+use Rattle.verify_input.specs.Taking.{HasTaken}
+use Rattle.verify_input.specs.declared.rest.Rest.{Rest}
+use Rattle.verify_input.specs.declared.what.What.TheVariants as what
+use Rattle.verify_input.proofs.Outputs.{same_taken}
+use Rattle.verify_input.proofs.Wholes.{concat_whole}
+use Rattle.verify_input.specs.Whole.{output_part, HasOutput, TellsAll, LacksEvent, FindsAll, FindsBehind, FindsWhole}
+use Rattle.verify_input.specs.declared.border.Border.{Border}
+use Rattle.verify_input.specs.declared.border.Border.TheVariants.{Script, Journal}
+use Rattle.verify_input.specs.declared.finding.Finding.{Finding}
+use Rattle.verify_input.specs.declared.finding.Finding.TheVariants.{Refused, NoJournal, No, Differs, NotComplete, Yes}
+
+-- the line that ends a part stands between what is before it and what is behind it
+parted_by : (b : Bool) (line : List ℕ) (lines rest before_them : List (List ℕ)) (found : Option (List (List ℕ))) → (found ≡ Some rest → length lines ≡ length before_them + 1 + length rest)
+    → cond b (Some lines) found ≡ Some rest → suc (length lines) ≡ length (cond b [] (line ∷ before_them)) + 1 + length rest
+parted_by true line lines rest front found more e = let same : lines ≡ rest = cc in omega (arith, ap length same)
+parted_by false line lines rest front found more e = let all = more e in omega (arith, all)
+
+pub parted : (border : Border) (lines rest : List (List ℕ)) → behind border lines ≡ Some rest → length lines ≡ length (before border lines) + 1 + length rest
+parted border [] rest e = absurd (cc)
+parted border (line ∷ lines) rest e = parted_by (is_end border (words_on line)) line lines rest (before border lines) (behind border lines) (parted border lines rest) e
+
+-- the other lines are some of the output's
+others_few : (p : PlansData) (lines : List (List ℕ)) (events : List Event) (others : List (List ℕ)) → TellsAll p lines events others → length others ≤ length lines
+others_few p lines events others told =
+    let one = ap length told.headed in
+    let two = length-append (head_of p) told.rest in
+    let three = ap length told.left in
+    let four = length-drop (length (before Journal told.rest)) told.rest in
+    omega (arith, one, two, three, four)
+
+module _ (input : List ℕ) (base count : ℕ) (p : PlansData) (lines : List (List ℕ)) (script : script_in input ≡ Ok p) (counted : count ≡ length (script_part input)) (there : output_part input ≡ Some lines) where
+  output : HasOutput input p lines
+  output = record { script = script; there = there }
+
+  -- all lines of the input are those of the script, the line `journal`, and those of the output
+  all_lines : length (whole_lines input) ≡ count + 1 + length lines
+  all_lines = let parts = parted Script (whole_lines input) lines there in omega (arith, parts, counted)
+
+  pub whole_behind : (finding : Finding) → FindsBehind p base count lines finding → FindsWhole base input finding
+  whole_behind (Refused line kind) found = absurd found
+  whole_behind (NoJournal line) found =
+      (p, script, subst (λ (o : Option (List (List ℕ))). LacksEvent p (length (script_part input)) o line) (sym there) (subst (λ n. LacksEvent p n (Some lines) line) counted found))
+  whole_behind (Differs line what) (inl found) = inl (p, lines, output, found.0, found.1 ∙ ap (λ n. n + 1 + (found.0 + 1)) counted, found.2)
+  whole_behind (Differs line what) (inr found) =
+      let few = others_few p lines found.0 found.1 found.2 in
+      let at = found.3.2 in
+      inr (p, found.0, found.1, record { lines = lines; there = output; told = found.2; whole = found.3.0 }, found.3.1, omega (arith, few, at, all_lines), found.3.3)
+  whole_behind (No event rule) found = (p, lines, output, found.0, found.1, found.2, found.3)
+  whole_behind NotComplete found = (p, lines, output, found.0, found.1, found.2, found.3)
+  whole_behind (Yes images events) found =
+      (p, found.0, found.1, record { lines = lines; there = output; told = found.2; whole = found.3.0 }, found.3.1, found.3.2, found.3.3)
+
+  pub whole_all : {E : Type 0} (finding : Result Finding E) → IfOk finding (λ finding. FindsBehind p base count lines finding) → IfOk finding (λ finding. FindsWhole base input finding)
+  whole_all (Ok finding) found = whole_behind finding found
+  whole_all (Err error) found = found
+
+-- where there is no line `journal`
+pub whole_missing : (input : List ℕ) (base count : ℕ) (p : PlansData) → script_in input ≡ Ok p → count ≡ length (script_part input) → output_part input ≡ None → FindsWhole base input (NoJournal (count + 1))
+whole_missing input base count p script counted none =
+    (p, script, subst (λ (o : Option (List (List ℕ))). LacksEvent p (length (script_part input)) o (count + 1)) (sym none) (ap (λ n. n + 1) counted))
+
+-- ---- the verdict on the lines of an output, by the verdict on its parts
+
+heads_count : (p : PlansData) → length (heads_due p) ≡ length (head_of p)
+heads_count p = by (head_of p)
+  where
+    by : (lines : List (List ℕ)) → length (same_lines what.Name lines) ≡ length lines
+    by [] = refl
+    by (line ∷ lines) = ap suc (by lines)
+
+module _ (p : PlansData) (old new : Rest) (taken : HasTaken p [] (heads_due p) 0 old new 0) where
+  -- the lines of the head are taken off
+  pub headed : whole_lines old.text.now ≡ head_of p ++ whole_lines new.text.now
+  headed = (same_taken p [] what.Name (head_of p) 0 (whole_lines old.text.now) 0 (whole_lines new.text.now) refl taken.taken).0
+
+  pub head_counted : new.line ≡ old.line + length (head_of p)
+  head_counted = let number = taken.number in omega (arith, number, heads_count p)
+
+  pub told_all : (part after : List ℕ) (events : List Event) → whole_lines part ≡ before Journal (whole_lines new.text.now) → IsJournal part events
+      → whole_lines after ≡ drop (length (before Journal (whole_lines new.text.now))) (whole_lines new.text.now) → TellsAll p (whole_lines old.text.now) events (whole_lines after)
+  told_all part after events cut is others = record {
+    rest = whole_lines new.text.now;
+    headed = headed;
+    told = sym cut ∙ ap whole_lines is.is;
+    written = is.written;
+    left = others;
+  }
+
+  -- the number of the line with which the other lines begin
+  pub begins_at : (after : List ℕ) (count n : ℕ) → old.line ≡ count + 2 → n ≡ length (before Journal (whole_lines new.text.now)) → n ≤ length (whole_lines new.text.now)
+      → whole_lines after ≡ drop (length (before Journal (whole_lines new.text.now))) (whole_lines new.text.now)
+      → new.line + n ≡ count + 2 + (length (whole_lines old.text.now) - length (whole_lines after))
+  begins_at after count n first is few others =
+      let one = ap length headed in
+      let two = length-append (head_of p) (whole_lines new.text.now) in
+      let three = ap length others in
+      let four = length-drop (length (before Journal (whole_lines new.text.now))) (whole_lines new.text.now) in
+      omega (arith, one, two, three, four, head_counted, first, is, few)
+
+-- the lines before the end of a part are no more than all
+few_by : (b : Bool) (line : List ℕ) (lines front : List (List ℕ)) → length front ≤ length lines → length (cond b [] (line ∷ front)) ≤ suc (length lines)
+few_by true line lines front few = omega arith
+few_by false line lines front few = omega (arith, few)
+
+pub before_few : (border : Border) (lines : List (List ℕ)) → length (before border lines) ≤ length lines
+before_few border [] = omega arith
+before_few border (line ∷ lines) = few_by (is_end border (words_on line)) line lines (before border lines) (before_few border lines)
+
+-- the lines behind a line of a text are those of a text, and so are those behind a part
+joined_tail : (byte : ℕ) (lines : List (List ℕ)) → drop 1 (joined byte lines) ≡ drop 1 lines
+joined_tail byte [] = refl
+joined_tail byte (line ∷ lines) = refl
+
+tail_whole : (text : List ℕ) → whole_lines (concat (drop 1 (whole_lines text))) ≡ drop 1 (whole_lines text)
+tail_whole [] = refl
+tail_whole (byte ∷ text) =
+    let rest = tail_whole text in
+    let same = joined_tail byte (whole_lines text) in
+    elim (ends_line byte) as (λ b. whole_lines (concat (drop 1 (cond b ((byte ∷ []) ∷ whole_lines text) (joined byte (whole_lines text))))) ≡ drop 1 (cond b ((byte ∷ []) ∷ whole_lines text) (joined byte (whole_lines text)))) [
+      | true ↦ ap whole_lines (concat_whole text)
+      | false ↦ ap (λ (ls : List (List ℕ)). whole_lines (concat ls)) same ∙ rest ∙ sym same
+    ]
+
+behind_by : (b : Bool) (lines rest : List (List ℕ)) (found : Option (List (List ℕ))) → lines ≡ whole_lines (concat lines) → (found ≡ Some rest → rest ≡ whole_lines (concat rest)) → cond b (Some lines) found ≡ Some rest → rest ≡ whole_lines (concat rest)
+behind_by true lines rest found own more e = let same : lines ≡ rest = cc in subst (λ (ls : List (List ℕ)). ls ≡ whole_lines (concat ls)) same own
+behind_by false lines rest found own more e = more e
+
+behind_whole : (border : Border) (lines : List (List ℕ)) → lines ≡ whole_lines (concat lines) → (rest : List (List ℕ)) → behind border lines ≡ Some rest → rest ≡ whole_lines (concat rest)
+behind_whole border [] whole rest e = absurd (cc)
+behind_whole border (line ∷ lines) whole rest e =
+    let own : lines ≡ whole_lines (concat lines) = sym (subst (λ (ls : List (List ℕ)). whole_lines (concat (drop 1 ls)) ≡ drop 1 ls) (sym whole) (tail_whole (concat (line ∷ lines)))) in
+    behind_by (is_end border (words_on line)) lines rest (behind border lines) own (behind_whole border lines own rest) e
+
+-- they stand before the others
+front_by : (b : Bool) (line : List ℕ) (lines front : List (List ℕ)) → front ++ drop (length front) lines ≡ lines → cond b [] (line ∷ front) ++ drop (length (cond b [] (line ∷ front))) (line ∷ lines) ≡ line ∷ lines
+front_by true line lines front e = refl
+front_by false line lines front e = ap (λ (ls : List (List ℕ)). line ∷ ls) e
+
+before_all : (border : Border) (lines : List (List ℕ)) → before border lines ++ drop (length (before border lines)) lines ≡ lines
+before_all border [] = refl
+before_all border (line ∷ lines) = front_by (is_end border (words_on line)) line lines (before border lines) (before_all border lines)
+
+-- the lines of an output are those of its text
+pub output_lines : (input written : List ℕ) → option_map concat (output_part input) ≡ Some written → output_part input ≡ Some (whole_lines written)
+output_lines input written e = by (output_part input) refl e
+  where
+    by : (found : Option (List (List ℕ))) → output_part input ≡ found → option_map concat found ≡ Some written → output_part input ≡ Some (whole_lines written)
+    by None at is = absurd (cc)
+    by (Some lines) at is =
+        let same : concat lines ≡ written = cc in
+        at ∙ ap (λ (ls : List (List ℕ)). Some ls) (behind_whole Script (whole_lines input) (ap whole_lines (sym (concat_whole input))) lines at ∙ ap whole_lines same)
+
+-- the text of all lines of an output
+pub told_text : (p : PlansData) (lines : List (List ℕ)) (events : List Event) (others : List (List ℕ)) → TellsAll p lines events others → concat lines ≡ concat (head_of p) ++ (journal_text events ++ concat others)
+told_text p lines events others told =
+    let front = before Journal told.rest in
+    let rest : concat told.rest ≡ journal_text events ++ concat others =
+    ap concat (sym (before_all Journal told.rest) ∙ ap (λ (ls : List (List ℕ)). front ++ ls) (sym told.left))
+    ∙ concat-append front others
+    ∙ ap (λ (l : List ℕ). l ++ concat others) (ap concat told.told ∙ concat_whole (journal_text events)) in
+    ap concat told.headed ∙ concat-append (head_of p) told.rest ∙ ap (λ (l : List ℕ). concat (head_of p) ++ l) rest
+
+found_in : (p : PlansData) (base count start : ℕ) (lines others : List (List ℕ)) (events : List Event) (finding : Finding) → start ≡ count + 2 + (length lines - length others) → TellsAll p lines events others
+    → FindsAll p base events others start finding → FindsBehind p base count lines finding
+found_in p base count start lines others events (Refused line kind) at told found = absurd found
+found_in p base count start lines others events (NoJournal line) at told found = absurd found
+found_in p base count start lines others events (Differs line what) at told found = inr (events, others, told, subst (λ n. FindsAll p base events others n (Differs line what)) at found)
+found_in p base count start lines others events (No event rule) at told found = (events, others, told, found)
+found_in p base count start lines others events NotComplete at told found = (events, others, told, found)
+found_in p base count start lines others events (Yes images n) at told found = (events, others, told, found)
+
+pub found_rest : {E : Type 0} (p : PlansData) (base count start : ℕ) (lines others : List (List ℕ)) (events : List Event) (finding : Result Finding E) → start ≡ count + 2 + (length lines - length others) → TellsAll p lines events others
+    → IfOk finding (λ finding. FindsAll p base events others start finding) → IfOk finding (λ finding. FindsBehind p base count lines finding)
+found_rest p base count start lines others events (Ok finding) at told found = found_in p base count start lines others events finding at told found
+found_rest p base count start lines others events (Err error) at told found = found

@@ -1,0 +1,9 @@
+use Rattle.std.proofs.Common.{◌≡◌, ◌≤◌, take}
+use Rattle.gpu_plan.specs.Passes.{flushes}
+use Rattle.verify_input.proofs.sections.flushes_in.Given as goal
+
+abbrev pub invariant-loop-action : goal.invariant-loop-action
+invariant-loop-action l = record {
+  value : l.count ≡ flushes (take l.action-index l.actions);
+  few : l.count ≤ l.action-index;
+}

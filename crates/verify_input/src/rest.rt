@@ -1,0 +1,81 @@
+ghost use Rattle.std.specs.Prelude.{◌≡◌, List, ◌∷◌, [], OnOk, OnErr, IfErr};
+ghost use Rattle.gpu_plan.specs.Plans.{PlansData};
+ghost use Rattle.gpu_journal.specs.declared.event.Event.{Event};
+ghost use Rattle.verify_input.specs.Cuts.{IsLine};
+ghost use Rattle.verify_input.specs.Due.{same_lines};
+ghost use Rattle.verify_input.specs.Taking.{IsShort, Judges, off_of};
+
+use crate::heading::behind_line;
+use crate::what::What;
+use gpu_word::Memory;
+
+/// Why an output is not judged to be right.
+#[derive(Clone, Copy, Debug, PartialEq, Eq)]
+pub(crate) enum Bad {
+    /// This line is the first that is off.
+    Off { line: u32, what: What },
+    /// Memory is wanting.
+    Memory,
+}
+
+impl From<Memory> for Bad {
+    ghost use Rattle.verify_input.specs.declared.rest.Bad.TheVariants as bads;
+
+    ghost from_gives = { λ _ e. e ≡ bads.Memory };
+
+    fn from(_error: Memory) -> Bad {
+        Bad::Memory
+    }
+}
+
+/// What is left of an output, and the number of the line with which it begins.
+#[derive(Clone, Copy, Debug)]
+pub(crate) struct Rest<'a> {
+    pub(crate) text: &'a [u8],
+    pub(crate) line: u32,
+}
+
+impl Rest<'_> {
+    /// What is off where this is due and the text goes on otherwise.
+    pub(crate) fn off(&self, what: What) -> Bad
+        ensures { result ≡ off_of self.now what }
+    {
+        let what = if self.text.is_empty() {
+            What::Missing
+        } else {
+            what
+        };
+        Bad::Off {
+            line: self.line,
+            what,
+        }
+    }
+
+    /// Takes the line that is due, with its line feed.
+    pub(crate) fn take(&mut self, due: &[u8], what: What) -> Result<(), Bad>
+        requires line { IsLine due.now }
+        requires short { IsShort self.old }
+        ensures judges { (p : PlansData) (h : List Event)
+            → Judges p h (same_lines what (due.now ∷ [])) self.old self.new result }
+        ensures same { OnErr result (self.new ≡ self.old) }
+    {
+        let Some(text) = behind_line(self.text, due) else {
+            return Err(self.off(what));
+        };
+        self.text = text;
+        self.line += 1;
+        Ok(())
+    }
+
+    /// Sees that nothing is left.
+    pub(crate) fn end(&self) -> Result<(), Bad>
+        ensures ok { OnOk result (self.now.text.now ≡ []) }
+        ensures err { IfErr result (λ bad. bad ≡ Bad.Off self.now.line What.More) }
+        ensures more { OnErr result (self.now.text.now ≡ [] → ⊥) }
+    {
+        if self.text.is_empty() {
+            return Ok(());
+        }
+        Err(self.off(What::More))
+    }
+}

@@ -1,0 +1,388 @@
+//! The parts of an output after its journal, line by line.
+ghost use Rattle.std.specs.Prelude.{◌≡◌, ℕ, ◌≤◌, List, [], ◌∷◌, Some, IsSome, IfOk, IfErr, OnOk, Contains, length, map, take};
+ghost use Rattle.std.specs.Bool.{Decides};
+ghost use Rattle.std.specs.List.{flat_map, range_with_len};
+ghost use Rattle.gpu_store.specs.Images.{picture_of};
+ghost use Rattle.gpu_store.specs.Picture.{Picture};
+ghost use Rattle.gpu_plan.specs.Plans.{PlansData, plan_of};
+ghost use Rattle.gpu_plan.specs.Passes.{flush_count, flushes};
+ghost use Rattle.gpu_journal.specs.declared.event.Event.{Event};
+ghost use Rattle.sync_core.specs.Standing.{IsKnown};
+ghost use Rattle.gpu_journal.specs.Lines.{mark_text};
+ghost use Rattle.gpu_journal.specs.Output.{streams_of};
+ghost use Rattle.journal_verify.specs.Followed.{sum_after};
+ghost use Rattle.verify_input.specs.Due as Due;
+ghost use Rattle.verify_input.specs.Due.{same_lines, image_lines, end_lines, heads_due, dumps_due, looks_due};
+ghost use Rattle.verify_input.specs.Taking.{IsShort, HasTaken, IsBad, Judges, IsHistory, IsLook, is_lost, past_of};
+ghost use Rattle.wait_hooks.specs.Marks.{mark};
+
+use crate::looks::LOOKS;
+use crate::reading_lines::{first_look, value_before_end};
+use crate::rest::{Bad, Rest};
+use crate::what::What;
+use gpu_journal::{End, Event, Line, replay};
+use gpu_plan::{Action, Plans};
+use gpu_store::{Images, texel_sum};
+use gpu_word::Memory;
+use journal_verify::Followed;
+use std::alloc::Global;
+use sync_core::Ending;
+use wait_hooks::mark;
+
+/// What an output is judged by: its script, its events, and what these leave.
+#[derive(Clone, Copy)]
+pub(crate) struct History<'a> {
+    pub(crate) plans: &'a Plans,
+    pub(crate) events: &'a [Event],
+    pub(crate) followed: &'a Followed,
+    pub(crate) ends: &'a [End],
+}
+
+/// The head line and the name lines, of a script of version 2.
+pub(crate) fn take_names(rest: &mut Rest<'_>, line: &mut Line, plans: &Plans) -> Result<(), Bad>
+    requires short { IsShort rest.old }
+    ensures { (h : List Event)
+        → Judges plans.now h (heads_due plans.now) rest.old rest.new result }
+{
+    if plans.version() != 2 {
+        return Ok(());
+    }
+    line.head();
+    rest.take(line.bytes(), What::Name)?;
+    for index in 0..plans.count() {
+        line.name(index + 1, plans.name(index + 1));
+        rest.take(line.bytes(), What::Name)?;
+    }
+    Ok(())
+}
+
+// How many rows an image has.
+fn height_of(images: &Images, image: u32) -> u32
+    requires { IsSome (picture_of images.now image) }
+    ensures { (picture : Picture) → picture_of images.now image ≡ Some picture
+        → result ≡ picture.height }
+{
+    let (_, height) = images.size(image).unwrap();
+    height
+}
+
+// The lines of an image.
+fn take_image(rest: &mut Rest<'_>, line: &mut Line, images: &Images, image: u32) -> Result<(), Bad>
+    requires short { IsShort rest.old }
+    requires there { IsSome (picture_of images.now image) }
+    ensures { (picture : Picture) (p : PlansData) (h : List Event)
+        → picture_of images.now image ≡ Some picture
+        → Judges p h (same_lines What.Image (image_lines (image, picture))) rest.old rest.new result }
+{
+    line.image(images, image);
+    rest.take(line.bytes(), What::Image)?;
+    let height = height_of(images, image);
+    for y in 0..height {
+        line.row(images, image, y);
+        rest.take(line.bytes(), What::Image)?;
+    }
+    Ok(())
+}
+
+/// The lines of all images.
+pub(crate) fn take_images(rest: &mut Rest<'_>, line: &mut Line, images: &Images) -> Result<(), Bad>
+    requires short { IsShort rest.old }
+    ensures { (p : PlansData) (h : List Event)
+        → Judges p h (same_lines What.Image (flat_map image_lines images.now)) rest.old rest.new result }
+{
+    for image in images.numbers() {
+        take_image(rest, line, images, image)?;
+    }
+    Ok(())
+}
+
+/// The line of each stream.
+pub(crate) fn take_streams(
+    rest: &mut Rest<'_>,
+    line: &mut Line,
+    history: History<'_>,
+) -> Result<(), Bad>
+    requires short { IsShort rest.old }
+    requires history { IsHistory history }
+    ensures { Judges history.entry.plans.now (past_of history.entry)
+        (same_lines What.Stream (end_lines history.entry.plans.now (past_of history.entry)))
+        rest.old rest.new result }
+{
+    for index in 0..history.plans.count() {
+        let stream = index + 1;
+        line.stream(
+            stream,
+            history.followed.state(stream),
+            history.ends[index as usize],
+        );
+        rest.take(line.bytes(), What::Stream)?;
+    }
+    Ok(())
+}
+
+/// The line of each ending, with its mark over a base.
+pub(crate) fn take_marks(
+    rest: &mut Rest<'_>,
+    line: &mut Line,
+    endings: &[Ending],
+    base: u32,
+) -> Result<(), Bad>
+    requires short { IsShort rest.old }
+    ensures { (p : PlansData) (h : List Event) → Judges p h
+        (same_lines What.Mark (map (λ ending. mark_text ending (mark base ending)) endings.now))
+        rest.old rest.new result }
+{
+    for ending in endings {
+        line.mark(ending, mark(base, *ending));
+        rest.take(line.bytes(), What::Mark)?;
+    }
+    Ok(())
+}
+
+// How many flushes an action is.
+fn flush_count(action: &Action) -> u32
+    ensures { result ≡ flush_count action.now }
+{
+    match action {
+        Action::Flush { .. } => 1,
+        Action::Put { .. } | Action::Finish | Action::Token { .. } | Action::Close => 0,
+    }
+}
+
+// How many of these actions are flushes.
+fn flushes_in(actions: &[Action]) -> u32
+    requires { length actions.now ≤ 1000000 }
+    ensures value { result ≡ flushes actions.now }
+    ensures few { result ≤ length actions.now }
+{
+    let mut count = 0;
+    for action in actions {
+        count += flush_count(action);
+    }
+    count
+}
+
+// The line of a dump of a stream, before whose action this number of flushes stands.
+fn take_dump(
+    rest: &mut Rest<'_>,
+    line: &mut Line,
+    history: History<'_>,
+    stream: u32,
+    dump: (u32, u32),
+    least: u32,
+) -> Result<(), Bad>
+    requires short { IsShort rest.old }
+    requires history { IsHistory history }
+    requires known { IsKnown (length history.plans.now.plans) stream }
+    requires there { Contains (plan_of history.plans.now stream).dumps dump }
+    requires least { least ≡ flushes (take dump.0 (plan_of history.plans.now stream).actions) }
+    ensures { Judges history.entry.plans.now (past_of history.entry) (Due.Dump stream dump ∷ [])
+        rest.old rest.new result }
+{
+    let (action, place) = dump;
+    line.dump(stream, action, place, 0);
+    let value = value_before_end(rest.text, line.bytes().len());
+    if !history.followed.may_be_told(stream, place, least, value) {
+        return Err(rest.off(What::Dump));
+    }
+    line.dump(stream, action, place, value);
+    rest.take(line.bytes(), What::Dump)
+}
+
+// The lines of the dumps of a stream.
+fn take_dumps_of(
+    rest: &mut Rest<'_>,
+    line: &mut Line,
+    history: History<'_>,
+    stream: u32,
+) -> Result<(), Bad>
+    requires short { IsShort rest.old }
+    requires history { IsHistory history }
+    requires known { IsKnown (length history.plans.now.plans) stream }
+    ensures { Judges history.entry.plans.now (past_of history.entry)
+        (map (λ dump. Due.Dump stream dump) (plan_of history.entry.plans.now stream).dumps)
+        rest.old rest.new result }
+{
+    let plan = history.plans.plan(stream);
+    let mut left = plan.actions();
+    let mut done = 0;
+    let mut least = 0;
+    for dump in plan.dumps() {
+        let (passed, more) = left.split_at((dump.0 - done) as usize);
+        least += flushes_in(passed);
+        left = more;
+        done = dump.0;
+        take_dump(rest, line, history, stream, *dump, least)?;
+    }
+    Ok(())
+}
+
+// Whether a stream that ended so was lost.
+fn is_lost(end: End) -> bool
+    ensures { result ≡ is_lost end }
+{
+    match end {
+        End::Lost(_) => true,
+        End::Done | End::Closed => false,
+    }
+}
+
+// The lines of the dumps of a stream, unless it is lost.
+fn take_dumps_in(
+    rest: &mut Rest<'_>,
+    line: &mut Line,
+    history: History<'_>,
+    stream: u32,
+) -> Result<(), Bad>
+    requires short { IsShort rest.old }
+    requires history { IsHistory history }
+    requires known { IsKnown (length history.plans.now.plans) stream }
+    ensures { Judges history.entry.plans.now (past_of history.entry)
+        (dumps_due history.entry.plans.now (past_of history.entry) stream) rest.old rest.new result }
+{
+    let index = stream as usize - 1;
+    if is_lost(history.ends[index]) {
+        return Ok(());
+    }
+    take_dumps_of(rest, line, history, stream)
+}
+
+/// The lines of all dumps. A stream that is lost has none.
+pub(crate) fn take_dumps(
+    rest: &mut Rest<'_>,
+    line: &mut Line,
+    history: History<'_>,
+) -> Result<(), Bad>
+    requires short { IsShort rest.old }
+    requires history { IsHistory history }
+    ensures { Judges history.entry.plans.now (past_of history.entry)
+        (flat_map (dumps_due history.entry.plans.now (past_of history.entry))
+        (streams_of history.entry.plans.now)) rest.old rest.new result }
+{
+    for index in 0..history.plans.count() {
+        take_dumps_in(rest, line, history, index + 1)?;
+    }
+    Ok(())
+}
+
+// The sum of all texels after a number of events.
+fn sum_after(alloc: Global, history: History<'_>, events: u32) -> Result<u32, Memory>
+    requires history { IsHistory history }
+    requires few { events ≤ length history.events.now }
+    ensures { IfOk result (λ sum. sum ≡ sum_after history.entry.plans.now (past_of history.entry) events) }
+{
+    if let Some(sum) = history.followed.sum_after(events) {
+        return Ok(sum);
+    }
+    let (first, _) = history.events.split_at(events as usize);
+    let images = replay(alloc, history.plans, first)?;
+    Ok(texel_sum(&images))
+}
+
+// Whether a look of this number of events, at least a given number and at most all, has this sum.
+fn may_be_seen(
+    alloc: Global,
+    history: History<'_>,
+    least: u32,
+    look: (u32, u32),
+) -> Result<bool, Memory>
+    requires history { IsHistory history }
+    ensures { IfOk result (λ may. Decides may (IsLook history.entry.plans.now (past_of history.entry) least look)) }
+{
+    let (events, sum) = look;
+    if events < least {
+        return Ok(false);
+    }
+    if events as usize > history.events.len() {
+        return Ok(false);
+    }
+    let found = sum_after(alloc, history, events)?;
+    Ok(found == sum)
+}
+
+// The line of a look of at least a given number of events; answers of how many it is.
+fn take_look(
+    alloc: Global,
+    rest: &mut Rest<'_>,
+    line: &mut Line,
+    history: History<'_>,
+    viewer: u32,
+    least: u32,
+) -> Result<u32, Bad>
+    requires short { IsShort rest.old }
+    requires history { IsHistory history }
+    ensures ok { IfOk result (λ then. HasTaken history.entry.plans.now (past_of history.entry)
+        (Due.Look viewer ∷ []) least rest.old rest.new then) }
+    ensures err { IfErr result (λ bad. IsBad history.entry.plans.now (past_of history.entry)
+        (Due.Look viewer ∷ []) least rest.old bad) }
+{
+    let look = first_look(rest.text);
+    let seen = may_be_seen(alloc, history, least, look)?;
+    if !seen {
+        return Err(rest.off(What::View));
+    }
+    let (events, sum) = look;
+    line.view(viewer, events, sum);
+    rest.take(line.bytes(), What::View)?;
+    Ok(events)
+}
+
+// The line of the last look of a viewer, which is of all events.
+fn take_last_look(
+    alloc: Global,
+    rest: &mut Rest<'_>,
+    line: &mut Line,
+    history: History<'_>,
+    viewer: u32,
+) -> Result<(), Bad>
+    requires short { IsShort rest.old }
+    requires history { IsHistory history }
+    ensures ok { OnOk result ((least : ℕ) → HasTaken history.entry.plans.now (past_of history.entry)
+        (Due.LastLook viewer ∷ []) least rest.old rest.new 0) }
+    ensures err { IfErr result (λ bad. (least : ℕ) → IsBad history.entry.plans.now (past_of history.entry)
+        (Due.LastLook viewer ∷ []) least rest.old bad) }
+{
+    let all = history.events.len() as u32;
+    take_look(alloc, rest, line, history, viewer, all)?;
+    Ok(())
+}
+
+// The lines of a viewer.
+fn take_viewer(
+    alloc: Global,
+    rest: &mut Rest<'_>,
+    line: &mut Line,
+    history: History<'_>,
+    viewer: u32,
+) -> Result<(), Bad>
+    requires short { IsShort rest.old }
+    requires history { IsHistory history }
+    ensures { Judges history.entry.plans.now (past_of history.entry) (looks_due viewer)
+        rest.old rest.new result }
+{
+    let mut least = 0;
+    for _look in 1..LOOKS {
+        least = take_look(alloc, rest, line, history, viewer, least)?;
+    }
+    take_last_look(alloc, rest, line, history, viewer)
+}
+
+/// The lines of all viewers.
+pub(crate) fn take_viewers(
+    alloc: Global,
+    rest: &mut Rest<'_>,
+    line: &mut Line,
+    history: History<'_>,
+    viewers: u32,
+) -> Result<(), Bad>
+    requires short { IsShort rest.old }
+    requires history { IsHistory history }
+    requires few { viewers ≤ 4 }
+    ensures { Judges history.entry.plans.now (past_of history.entry)
+        (flat_map looks_due (range_with_len 1 viewers)) rest.old rest.new result }
+{
+    for index in 0..viewers {
+        take_viewer(alloc, rest, line, history, index + 1)?;
+    }
+    Ok(())
+}

@@ -1,0 +1,172 @@
+//! A whole output: the names, the journal, and all lines after it.
+ghost use Rattle.std.specs.Prelude.{◌≡◌, ◌+◌, ◌<◌, ◌≤◌, ◌^◌, length, drop, IfOk};
+ghost use Rattle.verify_input.specs.Reading.{whole_lines};
+ghost use Rattle.verify_input.specs.Due.{dues};
+ghost use Rattle.verify_input.specs.Taking.{IsShort, IsHistory, Judges, JudgesAll, past_of};
+ghost use Rattle.verify_input.specs.Whole.{FindsAll, FindsBehind, FindsWhole};
+
+use crate::border::Border;
+use crate::cutting::cut_at_border;
+use crate::fault::JournalFault;
+use crate::finding::Finding;
+use crate::looks::view_lines;
+use crate::reading::read_journal;
+use crate::rest::{Bad, Rest};
+use crate::sections::{
+    History, take_dumps, take_images, take_marks, take_names, take_streams, take_viewers,
+};
+use gpu_journal::{Event, Line};
+use gpu_plan::{Plans, ScriptFault, parse};
+use gpu_word::Memory;
+use journal_verify::{Ruling, ends_of, follow};
+use std::alloc::Global;
+
+// Takes the parts after the journal.
+fn take_parts(
+    alloc: Global,
+    rest: &mut Rest<'_>,
+    line: &mut Line,
+    history: History<'_>,
+    base: u32,
+    viewers: u32,
+) -> Result<(), Bad>
+    requires short { IsShort rest.old }
+    requires history { IsHistory history }
+    requires few { viewers ≤ 4 }
+    ensures { Judges history.entry.plans.now (past_of history.entry)
+        (dues history.entry.plans.now base (past_of history.entry) viewers) rest.old rest.new result }
+{
+    take_images(rest, line, history.followed.images())?;
+    take_streams(rest, line, history)?;
+    take_marks(rest, line, history.followed.endings(), base)?;
+    take_dumps(rest, line, history)?;
+    take_viewers(alloc, rest, line, history, viewers)
+}
+
+// Judges all lines after the journal.
+fn take_rest(
+    alloc: Global,
+    rest: &mut Rest<'_>,
+    line: &mut Line,
+    history: History<'_>,
+    base: u32,
+    viewers: u32,
+) -> Result<(), Bad>
+    requires short { IsShort rest.old }
+    requires history { IsHistory history }
+    requires few { viewers ≤ 4 }
+    ensures { JudgesAll history.entry.plans.now (past_of history.entry)
+        (dues history.entry.plans.now base (past_of history.entry) viewers) rest.old result }
+{
+    take_parts(alloc, rest, line, history, base, viewers)?;
+    rest.end()
+}
+
+// The verdict on events and on the lines after them.
+fn judge_all(
+    alloc: Global,
+    plans: &Plans,
+    events: &[Event],
+    rest: Rest<'_>,
+    line: &mut Line,
+    base: u32,
+) -> Result<Finding, Memory>
+    requires short { IsShort rest }
+    requires few { length events.now < 2 ^ 32 }
+    ensures { IfOk result (λ finding. FindsAll plans.now base events.now
+        (whole_lines rest.entry.text.now) rest.entry.line finding) }
+{
+    let mut rest = rest;
+    let views = view_lines(alloc, rest.text)?;
+    let followed = match follow(alloc, plans, events, &views.events)? {
+        Ruling::Whole(followed) => followed,
+        Ruling::No { event, rule } => return Ok(Finding::No { event, rule }),
+        Ruling::NotComplete => return Ok(Finding::NotComplete),
+    };
+    let ends = ends_of(alloc, plans.count(), events)?;
+    let history = History {
+        plans,
+        events,
+        followed: &followed,
+        ends: ends.as_slice(),
+    };
+    match take_rest(alloc, &mut rest, line, history, base, views.viewers) {
+        Ok(()) => Ok(Finding::Yes {
+            images: followed.into_images(),
+            events: events.len() as u32,
+        }),
+        Err(Bad::Off { line, what }) => Ok(Finding::Differs { line, what }),
+        Err(Bad::Memory) => Err(Memory),
+    }
+}
+
+// What is left after a part, which has this number of lines.
+fn after_part<'a>(rest: Rest<'a>, part: &[u8], lines: u32) -> Rest<'a>
+    requires part { length part.now ≤ length rest.text.now }
+    requires lines { rest.line + lines < 2 ^ 32 }
+    ensures text { result.text.now ≡ drop (length part.now) rest.entry.text.now }
+    ensures line { result.line ≡ rest.entry.line + lines }
+{
+    let (_, text) = rest.text.split_at(part.len());
+    Rest {
+        text,
+        line: rest.line + lines,
+    }
+}
+
+// The verdict on the text after a line `journal`, before which stand a given number of lines of a script.
+fn examine_output(
+    alloc: Global,
+    plans: &Plans,
+    lines: u32,
+    text: &[u8],
+    base: u32,
+) -> Result<Finding, Memory>
+    requires { lines + 1 + length text.now ≤ 16777216 }
+    ensures { IfOk result (λ finding. FindsBehind plans.now base lines (whole_lines text.now) finding) }
+{
+    let mut line = Line::make(alloc)?;
+    let mut rest = Rest {
+        text,
+        line: lines + 2,
+    };
+    match take_names(&mut rest, &mut line, plans) {
+        Ok(()) => {}
+        Err(Bad::Off { line, what }) => return Ok(Finding::Differs { line, what }),
+        Err(Bad::Memory) => return Err(Memory),
+    }
+    let cut = cut_at_border(rest.text, Border::Journal);
+    let events = match read_journal(alloc, cut.part) {
+        Ok(events) => events,
+        Err(JournalFault::Refused { line }) => {
+            return Ok(Finding::NoJournal {
+                line: rest.line - 1 + line,
+            });
+        }
+        Err(JournalFault::Memory) => return Err(Memory),
+    };
+    let after = after_part(rest, cut.part, cut.lines);
+    judge_all(alloc, plans, events.as_slice(), after, &mut line, base)
+}
+
+/// The verdict on an input of at most 16,777,216 bytes: a script, a line whose only word is `journal`, and a whole output with
+/// marks over a base.
+///
+/// The script is looked at first, then the names, then the whole journal text, its events, and the lines after them.
+pub fn examine_whole(alloc: Global, input: &[u8], base: u32) -> Result<Finding, Memory>
+    requires { length input.now ≤ 16777216 }
+    ensures { IfOk result (λ finding. FindsWhole base input.now finding) }
+{
+    let cut = cut_at_border(input, Border::Script);
+    let plans = match parse(alloc, cut.part) {
+        Ok(plans) => plans,
+        Err(ScriptFault::Refused { line, kind }) => return Ok(Finding::Refused { line, kind }),
+        Err(ScriptFault::Memory) => return Err(Memory),
+    };
+    match cut.rest {
+        Some(text) => examine_output(alloc, &plans, cut.lines, text, base),
+        None => Ok(Finding::NoJournal {
+            line: cut.lines + 1,
+        }),
+    }
+}
