@@ -62,6 +62,24 @@ def check(top: Path, program: Path, tally: Tally) -> None:
     wrong = wrong_inputs(top)
     for name, data in wrong:
         tally.tell(f"explain {name}", fault_of_wish(data, program))
+    tally.tell("explain a texel that is off", fault_of_texel(top))
+
+
+def fault_of_texel(top: Path) -> str | None:
+    """The fault of what is said of the one texel that is off in a case, or None."""
+    data = (top / "tests/cases/whole/texel_off.script").read_bytes()
+    lines = data.decode().splitlines()
+    wanted = [
+        "line 21 of the input is off (image):",
+        f"    {lines[20]}",
+        "wanted: 336699ff",
+        "texel 0, 0 of image 8: 336699ff is due, and 336699fe stands there",
+        "last written by event 8 of the journal, line 16 of the input:",
+        f"    {lines[15]}",
+        "    CopyRect: source 7, x 1, y 0, target 8, x2 0, y2 0, w 1, h 1",
+    ]
+    told = list(explain.meaning(9, "no: line 21: image", data))
+    return None if told == wanted else f"it says {told}"
 
 
 def row_of(ruling: str, rule: int | str) -> str:
