@@ -1,4 +1,5 @@
 mod gates;
 mod promises;
 mod scripts;
+mod serving;
 mod viewing;

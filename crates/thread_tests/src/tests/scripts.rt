@@ -4,7 +4,7 @@ ghost use Rattle.std.specs.Prelude.{◌≤◌};
 use gpu_house::{Doing, Report};
 use gpu_io::Gate;
 use gpu_journal::journal_text;
-use gpu_plan::parse;
+use gpu_plan::{Plans, parse};
 use gpu_threads::{Team, ThreadedRun, run_threads};
 use live_view::Look;
 use std::alloc::Global;
@@ -81,6 +81,14 @@ put 13 20c00009 1 0 0 1 1 1 0 0
 flush 22
 ";
 
+// The plans of a script.
+pub(crate) fn plans_of(alloc: Global, script: &str) -> Result<Plans, Fail> {
+    if script.len() > 16_777_216 {
+        return Err("a script".into());
+    }
+    Ok(parse(alloc, script.as_bytes()).ok().ok_or("a script")?)
+}
+
 // What a run of a script with a given number of workers leaves, where a gate leads it.
 pub(crate) fn led<G: Gate + Sync, R: Threads + Wait + Sync>(
     rt: &R,
@@ -107,10 +115,7 @@ pub(crate) fn viewed<G: Gate + Sync, R: Threads + Wait + Sync>(
     if workers < 1 || workers > 8 {
         return Err("a number of workers".into());
     }
-    if script.len() > 16_777_216 {
-        return Err("a script".into());
-    }
-    let plans = parse(alloc, script.as_bytes()).ok().ok_or("a script")?;
+    let plans = plans_of(alloc, script)?;
     let team = Team {
         workers,
         viewers: views,

@@ -1,0 +1,202 @@
+//! One turn of a worker, over a client that has posted both its flushes.
+ghost use Rattle.std.specs.Prelude.{◌≡◌, [], ◌∷◌, length, IfOk, OnOk};
+ghost use Rattle.gpu_plan.specs.Plans.{plan_of};
+ghost use Rattle.shm_words.specs.Seen.{service_at};
+ghost use Rattle.flush_queue.specs.Clients.{HasPostedAll};
+ghost use Rattle.flush_queue.specs.Seen.{fresh_end};
+ghost use Rattle.house_core.specs.Core.{IsFresh};
+ghost use Rattle.gpu_threads.specs.Rows.{AreShared};
+
+use super::scripts::{lines_of, plans_of};
+use flush_queue::{FlushQueue, Poster, Taker};
+use gpu_books::{Book, Half};
+use gpu_hall::{Hall, NamedSide};
+use gpu_house::{House, Naming, Report};
+use gpu_io::OpenGate;
+use gpu_plan::{Plan, Plans};
+use gpu_threads::{Ground, Turn, serve_turn};
+use shm_words::{Acted, ClientPass, ServicePass, SharedWords};
+use std::alloc::Global;
+use std::marker::Brand;
+use std::sync::Wait;
+use std::test::Fail;
+use wait_hooks::{Hook, Marker};
+
+/// A client with two empty flushes.
+const TWO_EMPTY: &str = "gpu-script 1
+stream 1 normal 16
+flush 0
+flush 0
+";
+
+/// The journal once one of them is finished.
+const ONE: &str = "order 1 1 0
+order 1 2 1
+finish 1 1
+";
+
+/// The journal once both are.
+const BOTH: &str = "order 1 1 0
+order 1 2 1
+finish 1 1
+finish 1 2
+";
+
+/// Numbers of turns, what the last of them comes to, and the journal after it.
+const TURNS: [(u32, Turn, &str); 3] = [
+    (1, Turn::Ran, ONE),
+    (2, Turn::Ran, BOTH),
+    (3, Turn::NothingRunnable, BOTH),
+];
+
+/// The words and the queue of a stream, with what the service has of it.
+#[derive(Drop)]
+struct Posted {
+    words: SharedWords,
+    side: ServicePass,
+    queue: FlushQueue,
+    taker: Taker,
+    book: (Book, Half, Half),
+}
+
+// The client posts the flush that it stands at.
+fn post_next<R: Wait>(
+    rt: &R,
+    words: &SharedWords,
+    queue: &FlushQueue,
+    client: &mut ClientPass,
+    poster: &mut Poster,
+) -> Result<(), Fail>
+    requires words { words.now ≡ client.old.table }
+    requires queue { queue.now ≡ poster.old.queue }
+    requires all { HasPostedAll client.old poster.old }
+    ensures words { words.now ≡ client.new.table }
+    ensures queue { queue.now ≡ poster.new.queue }
+    ensures all { OnOk result (HasPostedAll client.new poster.new) }
+{
+    match client.act(words) {
+        Acted::AtFlush => {
+            let note = client.flush(words);
+            match queue.post(rt, poster, note) {
+                Ok(()) => Ok(()),
+                Err(_) => Err("room in the queue".into()),
+            }
+        }
+        _ => Err("a flush".into()),
+    }
+}
+
+// What the service has of a client that begins with two flushes and has posted them.
+fn both_posted<R: Wait>(rt: &R, alloc: Global, plan: &Plan) -> Result<Posted, Fail>
+    ensures side { IfOk result (λ made. made.side ≡ service_at made.words plan.now) }
+    ensures taker { IfOk result
+        (λ made. made.taker ≡ fresh_end made.queue made.words plan.now) }
+    ensures book { IfOk result (λ made. IsFresh made.book) }
+{
+    let (words, pass, side) = shm_words::make(alloc, plan)?;
+    let (queue, mut poster, taker, mut pass) = flush_queue::make(rt, alloc, pass)?;
+    post_next(rt, &words, &queue, &mut pass, &mut poster)?;
+    post_next(rt, &words, &queue, &mut pass, &mut poster)?;
+    let book = gpu_books::make(alloc)?;
+    Ok(Posted {
+        words,
+        side,
+        queue,
+        taker,
+        book,
+    })
+}
+
+// A hall without events over the one stream.
+fn hall_over<N: Naming>(
+    alloc: Global,
+    plans: Plans,
+    side: ServicePass,
+    taker: Taker,
+    book: (Book, Half, Half),
+) -> Result<Hall<N, ServicePass, Marker>, Fail>
+    requires plans { plans ≡ N.plans }
+    requires one { length plans.plans ≡ 1 }
+    requires base { N.base ≡ 0 }
+    requires tables { (N.words ≡ side.table ∷ []) × (N.queues ≡ taker.queue ∷ []) }
+    requires book { (N.books ≡ book.0 ∷ []) × IsFresh book }
+    requires side { side ≡ service_at side.table (plan_of plans 1) }
+    requires taker { taker ≡ fresh_end taker.queue side.table (plan_of plans 1) }
+{
+    let mut sides = Vec::new(alloc);
+    sides.push(side)?;
+    let mut results = Vec::new(alloc);
+    results.push(())?;
+    let mut books = Vec::new(alloc);
+    books.push(book)?;
+    let mut takers = Vec::new(alloc);
+    takers.push(taker)?;
+    let house = House::make(alloc, plans, Marker::make(0), sides, results, books)?;
+    Ok(Hall::make(house, takers, None))
+}
+
+// What a number of turns leave, and what the last of them came to.
+fn turns<N: Naming, P: NamedSide, H: Hook, R: Wait>(
+    rt: &R,
+    hall: Hall<N, P, H>,
+    words: &[P::Words],
+    queues: &[FlushQueue],
+    count: u32,
+) -> (Option<Turn>, Report)
+    requires shared { AreShared P.words_of N.plans N.words N.result_words N.queues words.now queues.now }
+{
+    let ground = Ground::new(hall, words, queues, &OpenGate);
+    let mut last = None;
+    for _ in 0..count {
+        last = Some(serve_turn(rt, &ground));
+    }
+    (last, ground.into_hall().end(rt))
+}
+
+// The same over the one stream.
+fn served<N: Naming, R: Wait>(
+    rt: &R,
+    alloc: Global,
+    plans: Plans,
+    posted: Posted,
+    count: u32,
+) -> Result<(Option<Turn>, Report), Fail>
+    requires plans { plans ≡ N.plans }
+    requires one { length plans.plans ≡ 1 }
+    requires base { N.base ≡ 0 }
+    requires tables { (N.words ≡ posted.words ∷ []) × (N.queues ≡ posted.queue ∷ []) }
+    requires book { (N.books ≡ posted.book.0 ∷ []) × IsFresh posted.book }
+    requires side { posted.side ≡ service_at posted.words (plan_of plans 1) }
+    requires taker { posted.taker ≡ fresh_end posted.queue posted.words (plan_of plans 1) }
+{
+    let Posted {
+        words,
+        side,
+        queue,
+        taker,
+        book,
+    } = posted;
+    let hall = hall_over::<N>(alloc, plans, side, taker, book)?;
+    Ok(turns(rt, hall, &[words], &[queue], count))
+}
+
+// What a number of turns leave of a client with two empty flushes that are posted.
+fn served_two<R: Wait>(rt: &R, alloc: Global, count: u32) -> Result<(Option<Turn>, Report), Fail> {
+    let plans = plans_of(alloc, TWO_EMPTY)?;
+    if plans.count() != 1 {
+        return Err("one stream".into());
+    }
+    let posted = both_posted(rt, alloc, plans.plan(1))?;
+    served::<Brand, R>(rt, alloc, plans, posted, count)
+}
+
+// All flushes are ordered in the first turn, and each turn finishes one.
+#[test]
+fn a_turn_ends_after_one_run(rt: HostRuntime) -> Result<(), Fail> {
+    for (count, wanted, lines) in TURNS {
+        let (turn, report) = served_two(&rt, rt.alloc(), count)?;
+        assert_eq!(rt; turn, Some(wanted));
+        assert_eq!(rt; lines_of(rt.alloc(), &report)?.as_slice(), lines.as_bytes());
+    }
+    Ok(())
+}
