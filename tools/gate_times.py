@@ -7,6 +7,8 @@
     tools/gate_times LOG --keep              the same, and writes its seconds to the file by which
                                              tools/build orders crates: tools/crate_times.tsv
     tools/gate_times --expect                says in one line how long the gate takes here
+    tools/gate_times --lanes                 prints how many checks memory holds here at once, at
+                                             most one a processor: RT_JOBS for `rt ci`
     tools/gate_times --above                 prints what stands on each crate, the most first: how
                                              many crates, and the seconds of their proofs
 
@@ -316,10 +318,7 @@ def expectation() -> str:
     processors = machine.processors()
     work = sum(it.in_the_gate() for it in seconds.values())
     took = expected(work, chain, lanes(processors, machine.free_memory()))
-    return (
-        f"the gate takes about {minutes(took)} on {processors} processors where it proves all; "
-        "what an earlier run on this machine passed it does not prove again"
-    )
+    return f"the gate takes about {minutes(took)} on {processors} processors"
 
 
 def main() -> int:
@@ -329,15 +328,20 @@ def main() -> int:
     )
     add = parser.add_argument
     add("log", type=Path, nargs="?", help="the log, which --run writes")
-    add("--run", action="store_true", help="run `rt ci --anew`, or the command after --")
+    add("--run", action="store_true", help="run `rt ci`, or the command after --")
     add("--crates", type=Path, default=TOP / crates.LIST, help="the crates.txt of the run")
     add("--keep", action="store_true", help=f"write the seconds of the log to {crates.TIMES}")
     add("--expect", action="store_true", help="say how long the gate takes here")
+    add("--lanes", action="store_true", help="print how many checks memory holds at once")
     add("--above", action="store_true", help="print what stands on each crate")
     asked = parser.parse_args(sys.argv[1:cut])
-    if (asked.log is not None) + asked.expect + asked.above != 1 or asked.keep and asked.run:
-        parser.error("give a log, --expect or --above, and --keep only with a log that stands")
+    told = asked.expect + asked.lanes + asked.above
+    if (asked.log is not None) + told != 1 or asked.keep and asked.run:
+        parser.error("give a log or one thing to print, and --keep only with a log that stands")
     try:
+        if asked.lanes:
+            print(lanes(machine.processors(), machine.free_memory()).crates)
+            return 0
         if not asked.log:
             print(expectation() if asked.expect else "\n".join(above_lines()))
             return 0

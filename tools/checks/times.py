@@ -4,6 +4,7 @@ The longest chain is low, left, top, with 10 + 50 + 5 seconds of a processor. We
 none, right would be on it, with 20.
 """
 
+import os
 import re
 import shutil
 import subprocess
@@ -94,12 +95,16 @@ def check(top: Path, program: Path, tally: Tally) -> None:
         times.write_text(KEPT)
         ran = of("--expect")
         said = re.fullmatch(
-            r"the gate takes about [1-3] min on \d+ processors where it proves all; .*\n",
+            r"the gate takes about [1-3] min on \d+ processors\n",
             ran.stdout,
         )
         tell("how long a gate takes", ran.returncode == 0 and said is not None, ran)
+        ran = of("--lanes")
+        count = ran.stdout.strip()
+        is_so = count.isdigit() and 1 <= int(count) <= len(os.sched_getaffinity(0))
+        tell("how many checks at once", ran.returncode == 0 and is_so, ran)
         ran = of("--above")
         tell("what stands on each crate", (ran.returncode, ran.stdout) == (0, ABOVE), ran)
-        for words in ((), (log, "--expect"), ("--expect", "--above"), (Path(folder) / "none",)):
+        for words in ((), (log, "--expect"), ("--lanes", "--above"), (Path(folder) / "none",)):
             ran = of(*words)
             tell(f"the words {words}", ran.returncode == 2 and "Traceback" not in ran.stderr, ran)
