@@ -1,9 +1,16 @@
--- The law of findings, on which no proof rests, applied once: if it said less, this could not be shown.
+-- The laws of findings, on which no proof rests, each applied once: if one said less, this could not be shown.
 use Rattle.std.proofs.Common.{◌≡◌, ℕ, List}
-use Rattle.verify_input.specs.declared.finding.Finding.TheVariants.{No, NotComplete}
+use Rattle.gpu_store.specs.Images.{Pictures}
+use Rattle.verify_input.specs.declared.what.What.{What}
+use Rattle.verify_input.specs.declared.finding.Finding.TheVariants.{No, Differs, NotComplete, Yes}
 use Rattle.verify_input.specs.Found.{Finds}
-use Rattle.verify_input.specs.Laws.{FindingIsOne}
+use Rattle.verify_input.specs.Whole.{FindsWhole}
+use Rattle.verify_input.specs.Laws.{FindingIsOne, WholeFindingIsOne}
 
 -- of an input of which an event breaks a rule, it is not found that the history is only not complete
 no_more : FindingIsOne → (input : List ℕ) (event rule : ℕ) → Finds input (No event rule) → Finds input NotComplete → ⊥
 no_more law input event rule breaks lacks = let same : No event rule ≡ NotComplete = law input (No event rule) NotComplete breaks lacks in absurd cc
+
+-- of an input with a whole output that is right, it is not found that a line is off
+none_off : WholeFindingIsOne → (base : ℕ) (input : List ℕ) (images : Pictures) (events line : ℕ) (what : What) → FindsWhole base input (Yes images events) → FindsWhole base input (Differs line what) → ⊥
+none_off law base input images events line what right off = let same : Yes images events ≡ Differs line what = law base input (Yes images events) (Differs line what) right off in absurd cc

@@ -28,4 +28,6 @@ pub mod Outputs
 pub mod Labels
 pub mod Offered
 pub mod Wholly
+pub mod Alone
+pub mod OnlyWholes
 mod Applied

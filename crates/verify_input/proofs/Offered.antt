@@ -135,7 +135,7 @@ module _ (p : PlansData) (h : List Event) where
         (taken_both p h xs ys 0 (a.own ++ (b.own ++ rest)) 0 (b.own ++ rest) 0 rest (a.taken (b.own ++ rest)) (b.taken rest));
   }
 
-  same_offered : (part : What) (ls rest : List (List ℕ)) → AreTakenOff p h (same_lines part ls) 0 (ls ++ rest) 0 rest
+  pub same_offered : (part : What) (ls rest : List (List ℕ)) → AreTakenOff p h (same_lines part ls) 0 (ls ++ rest) 0 rest
   same_offered part [] rest = (refl, refl)
   same_offered part (line ∷ ls) rest = (0, (refl, refl), same_offered part ls rest)
 

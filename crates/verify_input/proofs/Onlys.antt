@@ -25,7 +25,7 @@ use Rattle.verify_input.proofs.Wholes.{concat_whole}
 
 -- ---- one line alone is the first that is another
 
-bad_is_one : (lines : List (List ℕ)) (j k : ℕ) → IsFirstBad lines j → IsFirstBad lines k → j ≡ k
+pub bad_is_one : (lines : List (List ℕ)) (j k : ℕ) → IsFirstBad lines j → IsFirstBad lines k → j ≡ k
 bad_is_one [] j k one other = absurd one
 bad_is_one (line ∷ lines) zero zero one other = refl
 bad_is_one (line ∷ lines) zero (suc k) one other = absurd (one other.0.0 other.0.1)
@@ -108,7 +108,7 @@ wrong_at p events n r q one other =
     let same : one.event ≡ other.event = let a = one.there in let b = other.there in cc in
     rule_is_one p (reverse (take (n - 1) events)) other.event r q (subst (λ (event : Event). BreaksFirst p (reverse (take (n - 1) events)) event r) same one.breaks) other.breaks
 
-wrong_is_one : (p : PlansData) (events : List Event) (m n r q : ℕ) → IsFirstWrong p events m r → IsFirstWrong p events n q → No m r ≡ No n q
+pub wrong_is_one : (p : PlansData) (events : List Event) (m n r q : ℕ) → IsFirstWrong p events m r → IsFirstWrong p events n q → No m r ≡ No n q
 wrong_is_one p events m n r q one other =
     elim (cases_order m n) [
       | inl same ↦ (let rule = wrong_at p events n r q (subst (λ m. IsFirstWrong p events m r) same one) other in (λ i. No (same i) (rule i)))

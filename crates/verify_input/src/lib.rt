@@ -11,7 +11,7 @@
 //!   - it is a legal and complete history, of this number of events, that leaves these images.
 //! - `read_journal` gives the events whose journal text the text is, of numbers of 32 bits. Else it gives the first line
 //!   that is no event's, counted from 1. It does so for every text within the limit.
-//! - Laws: one of the findings alone holds of an input. A text with a line that is no event's is no journal text. A text is
+//! - Laws: one of the findings alone holds of an input, and of one with a whole output. A text with a line that is no event's is no journal text. A text is
 //!   that of one list of events at most.
 //!
 //! Notes:
@@ -42,7 +42,9 @@ mod word;
 pub use examining::examine;
 pub use fault::JournalFault;
 pub use finding::Finding;
-pub use laws::{findings_exclude_one_another, journal_texts_are_told_apart};
+pub use laws::{
+    findings_exclude_one_another, journal_texts_are_told_apart, whole_findings_exclude_one_another,
+};
 pub use reading::read_journal;
 pub use what::What;
 pub use whole::examine_whole;

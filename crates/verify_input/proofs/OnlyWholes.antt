@@ -1,0 +1,192 @@
+-- One finding alone is that of an input with an output.
+use Rattle.std.proofs.Common.{◌≡◌, ◌⊎◌, inl, inr, ℕ, ◌+◌, ◌-◌, List, [], ◌++◌, length, drop, reverse, Option, Some, None, Result, Ok, Err, refl, sym, ap, subst, ◌∙◌, arith}
+use Rattle.std.specs.List.{All, concat}
+use Rattle.std.proofs.lemmas.List.{append_cancel_left}
+use Rattle.script_lines.specs.declared.fault.Kind.{Kind}
+use Rattle.gpu_plan.specs.Plans.{PlansData}
+use Rattle.gpu_journal.specs.declared.event.Event.{Event}
+use Rattle.gpu_journal.specs.Text.{journal_text}
+use Rattle.journal_verify.proofs.Firsts.{wrong_is_illegal}
+use Rattle.verify_input.specs.Reading.{IsWritten, IsFirstBad, whole_lines}
+use Rattle.verify_input.specs.Parts.{before, script_part}
+use Rattle.verify_input.specs.Found.{script_in, head_of}
+use Rattle.verify_input.specs.Due.{dues, heads_due, IsOff, viewers_in}
+use Rattle.verify_input.specs.Whole.{output_part, HasOutput, AreHeaded, TellsAll, LacksEvent, FindsAll, FindsWhole}
+use Rattle.verify_input.specs.Laws.{WholeFindingIsOne}
+use Rattle.verify_input.specs.declared.border.Border.TheVariants.{Journal}
+use Rattle.verify_input.specs.declared.what.What.{What}
+use Rattle.verify_input.specs.declared.what.What.TheVariants.{Name}
+use Rattle.verify_input.specs.declared.finding.Finding.{Finding}
+use Rattle.verify_input.specs.declared.finding.Finding.TheVariants.{Refused, NoJournal, No, Differs, NotComplete, Yes}
+use Rattle.verify_input.proofs.Lines.{refused_is_no_journal, journal_is_one}
+use Rattle.verify_input.proofs.Wholes.{concat_whole}
+use Rattle.verify_input.proofs.Offered.{same_offered}
+use Rattle.verify_input.proofs.Onlys.{bad_is_one, wrong_is_one}
+use Rattle.verify_input.proofs.Alone.{off_not_taken, off_is_one, first_off_is_one, off_not_due}
+
+-- ---- one finding alone is that of events and of the lines after them
+
+all_is_one : (p : PlansData) (base : ℕ) (events : List Event) (others : List (List ℕ)) (start : ℕ) (one other : Finding) → FindsAll p base events others start one → FindsAll p base events others start other → one ≡ other
+all_is_one p base events others start (Refused line kind) other one two = absurd one
+all_is_one p base events others start one (Refused line kind) a two = absurd two
+all_is_one p base events others start (NoJournal line) other one two = absurd one
+all_is_one p base events others start one (NoJournal line) a two = absurd two
+all_is_one p base events others start (No event rule) (No other another) one two = wrong_is_one p events event other rule another one two
+all_is_one p base events others start (No event rule) (Differs line what) one two = absurd (wrong_is_illegal p events event rule one two.0.legal)
+all_is_one p base events others start (No event rule) NotComplete one two = absurd (wrong_is_illegal p events event rule one two.legal)
+all_is_one p base events others start (No event rule) (Yes images count) one two = absurd (wrong_is_illegal p events event rule one two.0.legal)
+all_is_one p base events others start (Differs line what) (No event rule) one two = absurd (wrong_is_illegal p events event rule two one.0.legal)
+all_is_one p base events others start (Differs line what) (Differs other part) one two =
+    let h = reverse events in
+    let same = first_off_is_one p h (dues p base h (viewers_in others)) others one.1 two.1 what part one.3 two.3 in
+    let at : line ≡ other = one.2 ∙ ap (λ (k : ℕ). start + k) same.0 ∙ sym two.2 in
+    let is : what ≡ part = same.1 in
+    (λ i. Differs (at i) (is i))
+all_is_one p base events others start (Differs line what) NotComplete one two = absurd (two.unfinished one.0.complete)
+all_is_one p base events others start (Differs line what) (Yes images count) one two =
+    let h = reverse events in
+    absurd (off_not_due p h (dues p base h (viewers_in others)) others one.1 what one.3 two.1)
+all_is_one p base events others start NotComplete (No event rule) one two = absurd (wrong_is_illegal p events event rule two one.legal)
+all_is_one p base events others start NotComplete (Differs line what) one two = absurd (one.unfinished two.0.complete)
+all_is_one p base events others start NotComplete NotComplete one two = refl
+all_is_one p base events others start NotComplete (Yes images count) one two = absurd (one.unfinished two.0.complete)
+all_is_one p base events others start (Yes images count) (No event rule) one two = absurd (wrong_is_illegal p events event rule two one.0.legal)
+all_is_one p base events others start (Yes images count) (Differs line what) one two =
+    let h = reverse events in
+    absurd (off_not_due p h (dues p base h (viewers_in others)) others two.1 what two.3 one.1)
+all_is_one p base events others start (Yes images count) NotComplete one two = absurd (two.unfinished one.0.complete)
+all_is_one p base events others start (Yes images count) (Yes more number) one two =
+    let left : images ≡ more = one.2 ∙ sym two.2 in
+    let counted : count ≡ number = one.3 ∙ sym two.3 in
+    (λ i. Yes (left i) (counted i))
+
+-- ---- a finding by what is read, part by part, after a script of a given number of lines
+
+-- the finding is that of a head of which a line is off
+abbrev IsOfHead : PlansData → ℕ → List (List ℕ) → Finding → Type 0
+IsOfHead p count lines finding =
+    (k : ℕ) × (what : What) × IsOff p [] (heads_due p) 0 lines k what × (finding ≡ Differs (count + 1 + (k + 1)) what)
+
+-- the finding is that of a journal of which a line is no event's
+abbrev IsOfLine : PlansData → ℕ → List (List ℕ) → Finding → Type 0
+IsOfLine p count rest finding =
+    (k : ℕ) × IsFirstBad (before Journal rest) k × (finding ≡ NoJournal (count + 1 + length (head_of p) + (k + 1)))
+
+-- the finding is that of a journal that tells events, and of the lines after it, in an input of a given number of lines
+record IsOfEvents (p : PlansData) (base total : ℕ) (rest : List (List ℕ)) (finding : Finding) : Type 0 where
+  events : List Event
+  others : List (List ℕ)
+  told : before Journal rest ≡ whole_lines (journal_text events)
+  written : All IsWritten events
+  left : others ≡ drop (length (before Journal rest)) rest
+  found : FindsAll p base events others (total - length others + 1) finding
+
+-- the finding is that of the lines after the head
+abbrev IsOfRest : PlansData → ℕ → ℕ → ℕ → List (List ℕ) → Finding → Type 0
+IsOfRest p base count total rest finding = IsOfLine p count rest finding ⊎ IsOfEvents p base total rest finding
+
+-- the finding is that of the lines of an output
+abbrev IsOfLines : PlansData → ℕ → ℕ → ℕ → List (List ℕ) → Finding → Type 0
+IsOfLines p base count total lines finding =
+    IsOfHead p count lines finding ⊎ ((rest : List (List ℕ)) × AreHeaded p lines rest × IsOfRest p base count total rest finding)
+
+-- the finding is that of what the script says, and of the lines of the output, if there is one
+abbrev IsOf : ℕ → ℕ → ℕ → Result PlansData (ℕ × Kind) → Option (List (List ℕ)) → Finding → Type 0
+IsOf base count total (Err fault) lines finding = finding ≡ Refused fault.0 fault.1
+IsOf base count total (Ok p) None finding = finding ≡ NoJournal (count + 1)
+IsOf base count total (Ok p) (Some lines) finding = IsOfLines p base count total lines finding
+
+-- ---- one finding alone is that of what is read
+
+-- lines of events alone have none that is no event's
+line_not_told : (rest : List (List ℕ)) (k : ℕ) (events : List Event) → IsFirstBad (before Journal rest) k → before Journal rest ≡ whole_lines (journal_text events) → All IsWritten events → ⊥
+line_not_told rest k events bad told written =
+    refused_is_no_journal (journal_text events) k events (subst (λ (lines : List (List ℕ)). IsFirstBad lines k) told bad) (record { is = refl; written = written })
+
+-- a head that is there has no line that is off
+head_not_off : (p : PlansData) (lines rest : List (List ℕ)) (k : ℕ) (part : What) → AreHeaded p lines rest → IsOff p [] (heads_due p) 0 lines k part → ⊥
+head_not_off p lines rest k part headed off =
+    off_not_taken p [] (heads_due p) 0 (head_of p ++ rest) k part 0 rest
+    (subst (λ (ls : List (List ℕ)). IsOff p [] (heads_due p) 0 ls k part) headed off)
+    (same_offered p [] Name (head_of p) rest)
+
+events_are_one : (p : PlansData) (base total : ℕ) (rest : List (List ℕ)) (one other : Finding) → IsOfEvents p base total rest one → IsOfEvents p base total rest other → one ≡ other
+events_are_one p base total rest one other a b =
+    let lines = sym a.told ∙ b.told in
+    let is : journal_text a.events ≡ journal_text b.events = sym (concat_whole (journal_text a.events)) ∙ ap concat lines ∙ concat_whole (journal_text b.events) in
+    let events : a.events ≡ b.events = journal_is_one (journal_text a.events) a.events b.events (record { is = refl; written = a.written }) (record { is = is; written = b.written }) in
+    let others : a.others ≡ b.others = a.left ∙ sym b.left in
+    all_is_one p base b.events b.others (total - length b.others + 1) one other
+    (subst (λ (ls : List (List ℕ)). FindsAll p base b.events ls (total - length ls + 1) one) others
+    (subst (λ (es : List Event). FindsAll p base es a.others (total - length a.others + 1) one) events a.found))
+    b.found
+
+rest_is_one : (p : PlansData) (base count total : ℕ) (rest : List (List ℕ)) (one other : Finding) → IsOfRest p base count total rest one → IsOfRest p base count total rest other → one ≡ other
+rest_is_one p base count total rest one other (inl a) (inl b) =
+    a.2 ∙ ap (λ (k : ℕ). NoJournal (count + 1 + length (head_of p) + (k + 1))) (bad_is_one (before Journal rest) a.0 b.0 a.1 b.1) ∙ sym b.2
+rest_is_one p base count total rest one other (inl a) (inr b) = absurd (line_not_told rest a.0 b.events a.1 b.told b.written)
+rest_is_one p base count total rest one other (inr a) (inl b) = absurd (line_not_told rest b.0 a.events b.1 a.told a.written)
+rest_is_one p base count total rest one other (inr a) (inr b) = events_are_one p base total rest one other a b
+
+lines_are_one : (p : PlansData) (base count total : ℕ) (lines : List (List ℕ)) (one other : Finding) → IsOfLines p base count total lines one → IsOfLines p base count total lines other → one ≡ other
+lines_are_one p base count total lines one other (inl a) (inl b) =
+    let same = off_is_one p [] (heads_due p) 0 lines a.0 b.0 a.1 b.1 a.2 b.2 in
+    let at : a.0 ≡ b.0 = same.0 in
+    let is : a.1 ≡ b.1 = same.1 in
+    let all : Differs (count + 1 + (a.0 + 1)) a.1 ≡ Differs (count + 1 + (b.0 + 1)) b.1 = (λ i. Differs (count + 1 + (at i + 1)) (is i)) in
+    a.3 ∙ all ∙ sym b.3
+lines_are_one p base count total lines one other (inl a) (inr b) = absurd (head_not_off p lines b.0 a.0 a.1 b.1 a.2)
+lines_are_one p base count total lines one other (inr a) (inl b) = absurd (head_not_off p lines a.0 b.0 b.1 a.1 b.2)
+lines_are_one p base count total lines one other (inr a) (inr b) =
+    let same = append_cancel_left (head_of p) a.0 b.0 (sym a.1 ∙ b.1) in
+    rest_is_one p base count total b.0 one other (subst (λ (rest : List (List ℕ)). IsOfRest p base count total rest one) same a.2) b.2
+
+is_one : (base count total : ℕ) (script : Result PlansData (ℕ × Kind)) (lines : Option (List (List ℕ))) (one other : Finding) → IsOf base count total script lines one → IsOf base count total script lines other → one ≡ other
+is_one base count total (Err fault) lines one other a b = a ∙ sym b
+is_one base count total (Ok p) None one other a b = a ∙ sym b
+is_one base count total (Ok p) (Some lines) one other a b = lines_are_one p base count total lines one other a b
+
+-- ---- each finding of an input is that of what is read
+
+-- the finding is that of what the input says
+abbrev IsOfInput : ℕ → List ℕ → Finding → Type 0
+IsOfInput base input finding = IsOf base (length (script_part input)) (length (whole_lines input)) (script_in input) (output_part input) finding
+
+of_lack : (p : PlansData) (base count total line : ℕ) (lines : Option (List (List ℕ))) → LacksEvent p count lines line → IsOf base count total (Ok p) lines (NoJournal line)
+of_lack p base count total line None lacks = ap NoJournal lacks
+of_lack p base count total line (Some lines) lacks = inr (lacks.0, lacks.1, inl (lacks.2, lacks.4, ap NoJournal lacks.3))
+
+module _ (base : ℕ) (input : List ℕ) where
+  of_script : (p : PlansData) (finding : Finding) → script_in input ≡ Ok p → IsOf base (length (script_part input)) (length (whole_lines input)) (Ok p) (output_part input) finding → IsOfInput base input finding
+  of_script p finding script found =
+      subst (λ (s : Result PlansData (ℕ × Kind)). IsOf base (length (script_part input)) (length (whole_lines input)) s (output_part input) finding) (sym script) found
+
+  of_lines : (p : PlansData) (lines : List (List ℕ)) (finding : Finding) → HasOutput input p lines → IsOfLines p base (length (script_part input)) (length (whole_lines input)) lines finding → IsOfInput base input finding
+  of_lines p lines finding has found =
+      of_script p finding has.script
+      (subst (λ (o : Option (List (List ℕ))). IsOf base (length (script_part input)) (length (whole_lines input)) (Ok p) o finding) (sym has.there) found)
+
+  of_events : (p : PlansData) (lines : List (List ℕ)) (events : List Event) (others : List (List ℕ)) (finding : Finding) → HasOutput input p lines → TellsAll p lines events others
+      → FindsAll p base events others (length (whole_lines input) - length others + 1) finding → IsOfInput base input finding
+  of_events p lines events others finding has all found =
+      of_lines p lines finding has
+      (inr (all.rest, all.headed, inr (record { events = events; others = others; told = all.told; written = all.written; left = all.left; found = found })))
+
+  of_all : (finding : Finding) → FindsWhole base input finding → IsOfInput base input finding
+  of_all (Refused line kind) found =
+      subst (λ (s : Result PlansData (ℕ × Kind)). IsOf base (length (script_part input)) (length (whole_lines input)) s (output_part input) (Refused line kind)) (sym found) refl
+  of_all (NoJournal line) found =
+      of_script found.0 (NoJournal line) found.1 (of_lack found.0 base (length (script_part input)) (length (whole_lines input)) line (output_part input) found.2)
+  of_all (No event rule) found = of_events found.0 found.1 found.3 found.4 (No event rule) found.2 found.5 found.6
+  of_all (Differs line what) (inl found) =
+      of_lines found.0 found.1 (Differs line what) found.2 (inl (found.3, what, found.5, ap (λ (l : ℕ). Differs l what) found.4))
+  of_all (Differs line what) (inr found) =
+      let at = found.5 in
+      of_events found.0 found.3.lines found.1 found.2 (Differs line what) found.3.there found.3.told (found.3.whole, found.4, omega (arith, at), found.6)
+  of_all NotComplete found = of_events found.0 found.1 found.3 found.4 NotComplete found.2 found.5 found.6
+  of_all (Yes images count) found =
+      of_events found.0 found.3.lines found.1 found.2 (Yes images count) found.3.there found.3.told (found.3.whole, found.4, found.5, found.6)
+
+pub whole_finding_is_one : WholeFindingIsOne
+whole_finding_is_one base input one other a b =
+    is_one base (length (script_part input)) (length (whole_lines input)) (script_in input) (output_part input) one other (of_all base input one a) (of_all base input other b)
