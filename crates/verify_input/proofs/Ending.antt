@@ -1,15 +1,21 @@
 -- All parts after a journal, one after the other, and the end of the text.
-use Rattle.std.proofs.Common.{◌≡◌, ℕ, zero, suc, ◌+◌, List, [], ◌∷◌, ◌++◌, map, replicate, length, Result, Ok, Err, refl, sym, ap, subst, ◌∙◌, arith}
+use Rattle.std.proofs.Common.{◌≡◌, ℕ, zero, suc, ◌+◌, List, [], ◌∷◌, ◌++◌, map, replicate, length, Result, Ok, Err, refl, sym, ap, subst, ◌∙◌, append_assoc}
 use Rattle.std.specs.Prelude.{OnOk, OnErr, IfErr}
 use Rattle.std.specs.List.{concat, flat_map, range_with_len}
+use Rattle.std.proofs.lemmas.List.{append-nil}
+use Rattle.gpu_store.specs.Images.{Pictures}
 use Rattle.gpu_plan.specs.Plans.{PlansData}
+use Rattle.sync_core.specs.declared.ending.Ending.{Ending}
 use Rattle.gpu_journal.specs.declared.event.Event.{Event}
 use Rattle.verify_input.specs.Reading.{whole_lines}
-use Rattle.verify_input.specs.Due.{Due, Dump, Look, LastLook, what_of, same_lines, picture_lines, end_lines, ending_lines, dumps_due, looks_due, images_due, streams_due, marks_due, all_dumps_due, viewers_due, dues, AreTakenOff, IsOff, AreDue, IsMore, IsFirstOff}
+use Rattle.verify_input.specs.Due.{Due, Dump, Look, LastLook, what_of, same_lines, image_lines, picture_lines, end_lines, ending_lines, dumps_due, looks_due, images_due, streams_due, marks_due, all_dumps_due, viewers_due, dues, AreTakenOff, IsOff, AreDue, IsMore, IsFirstOff}
+use Rattle.gpu_journal.specs.World.{replay}
+use Rattle.gpu_journal.specs.Waits.{endings_in}
 use Rattle.gpu_journal.specs.Output.{streams_of}
 use Rattle.gpu_journal.specs.Dumps.{dumps_of}
-use Rattle.verify_input.specs.Taking.{IsShort, HasTaken, IsBad, IsFirstBadOf, Judges, JudgesAll}
-use Rattle.verify_input.proofs.Dues.{both_taken, bad_first, bad_later}
+use Rattle.verify_input.specs.Taking.{HasTaken, IsBad, IsFirstBadOf, JudgesAll}
+use Rattle.verify_input.proofs.Dues.{IsTaking, Begins, taking_bad, taking_all}
+use Rattle.verify_input.proofs.Lefts.{mark_at}
 use Rattle.verify_input.proofs.Wholes.{concat_whole}
 use Rattle.verify_input.specs.declared.what.What.{What}
 use Rattle.verify_input.specs.declared.what.What.TheVariants as what
@@ -61,7 +67,7 @@ module _ (p : PlansData) (h : List Event) where
   first_off dues lines k what.More none off = absurd (off_is_due dues 0 lines k none off)
 
   pub bad_of : (dues : List Due) (old : Rest) (bad : Bad) → NoneIsMore dues → IsBad p h dues 0 old bad → IsFirstBadOf p h dues old bad
-  bad_of dues old (Off line part) none bad = (bad.0, bad.1, first_off dues (whole_lines old.text.now) bad.0 part none bad.2)
+  bad_of dues old (Off line part) none bad = let off = bad.off line part refl in (off.0, off.1, first_off dues (whole_lines old.text.now) off.0 part none off.2)
   bad_of dues old Memory none bad = tt
 
   -- ---- the end
@@ -103,39 +109,37 @@ none_due p base h viewers =
     (none_flat (dumps_due p h) (streams_of p) (λ s. none_dumps s (dumps_of p h s))))
     (none_flat looks_due (range_with_len 1 viewers) (λ viewer. none_looks 16 viewer)))
 
--- what is off in the first parts is off in all
-module _ (p : PlansData) (base : ℕ) (h : List Event) (viewers : ℕ) (old : Rest) (bad : Bad) where
-  pub off_dumps : IsBad p h (images_due p h ++ streams_due p h ++ marks_due p base h ++ all_dumps_due p h) 0 old bad → IsBad p h (dues p base h viewers) 0 old bad
-  off_dumps off =
-      subst (λ (all : List Due). IsBad p h all 0 old bad) (sym (dues_are p base h viewers))
-      (bad_first p h (images_due p h ++ streams_due p h ++ marks_due p base h ++ all_dumps_due p h) (viewers_due viewers) 0 old bad off)
+-- one part, and then the others
+pub dues_parts : (p : PlansData) (base : ℕ) (h : List Event) (viewers : ℕ) → dues p base h viewers ≡ images_due p h ++ (streams_due p h ++ (marks_due p base h ++ (all_dumps_due p h ++ viewers_due viewers)))
+dues_parts p base h viewers = dues_are p base h viewers ∙ by (images_due p h) (streams_due p h) (marks_due p base h) (all_dumps_due p h) (viewers_due viewers)
+  where
+    by : (a b c d e : List Due) → a ++ b ++ c ++ d ++ e ≡ a ++ (b ++ (c ++ (d ++ e)))
+    by a b c d e = simp append_assoc
 
-  pub off_marks : IsBad p h (images_due p h ++ streams_due p h ++ marks_due p base h) 0 old bad → IsBad p h (dues p base h viewers) 0 old bad
-  off_marks off = off_dumps (bad_first p h (images_due p h ++ streams_due p h ++ marks_due p base h) (all_dumps_due p h) 0 old bad off)
+pub images_first : (p : PlansData) (base : ℕ) (h : List Event) (viewers : ℕ) {images : Pictures} → images ≡ replay p h
+    → Begins (dues p base h viewers) (same_lines what.Image (flat_map image_lines images)) (streams_due p h ++ (marks_due p base h ++ (all_dumps_due p h ++ viewers_due viewers)))
+images_first p base h viewers is = record {
+  is = dues_parts p base h viewers
+      ∙ ap (λ (images : Pictures). same_lines what.Image (flat_map image_lines images) ++ (streams_due p h ++ (marks_due p base h ++ (all_dumps_due p h ++ viewers_due viewers)))) (sym is);
+}
 
-  pub off_streams : IsBad p h (images_due p h ++ streams_due p h) 0 old bad → IsBad p h (dues p base h viewers) 0 old bad
-  off_streams off = off_marks (bad_first p h (images_due p h ++ streams_due p h) (marks_due p base h) 0 old bad off)
+pub marks_next : (p : PlansData) (base : ℕ) (h : List Event) (left : List Due) {endings : List Ending} → endings ≡ endings_in p h → Begins (marks_due p base h ++ left) (same_lines what.Mark (map (mark_at base) endings)) left
+marks_next p base h left is = record { is = ap (λ (endings : List Ending). same_lines what.Mark (map (mark_at base) endings) ++ left) (sym is) }
 
-  pub off_images : IsBad p h (images_due p h) 0 old bad → IsBad p h (dues p base h viewers) 0 old bad
-  off_images off = off_streams (bad_first p h (images_due p h) (streams_due p h) 0 old bad off)
+pub part_next : {xs left : List Due} → Begins (xs ++ left) xs left
+part_next = record { is = refl }
 
--- the last part ends as all do
-judged_both : {T : Type 0} (p : PlansData) (h : List Event) (xs ys : List Due) (old mid new : Rest) (r : Result T Bad) → HasTaken p h xs 0 old mid 0 → Judges p h ys mid new r → Judges p h (xs ++ ys) old new r
-judged_both p h xs ys old mid new (Ok done) taken last = record { ok = both_taken p h xs ys 0 0 0 old mid new taken last.ok; err = tt }
-judged_both p h xs ys old mid new (Err bad) taken last = record { ok = tt; err = bad_later p h xs ys 0 0 old mid bad taken last.err }
+pub part_last : {xs : List Due} → Begins xs xs []
+part_last {xs} = record { is = sym (append-nil xs) }
 
-pub judged_viewers : {T : Type 0} (p : PlansData) (base : ℕ) (h : List Event) (viewers : ℕ) (old mid new : Rest) (r : Result T Bad) → HasTaken p h (images_due p h ++ streams_due p h ++ marks_due p base h ++ all_dumps_due p h) 0 old mid 0
-    → Judges p h (viewers_due viewers) mid new r → Judges p h (dues p base h viewers) old new r
-judged_viewers p base h viewers old mid new r taken last =
-    subst (λ (all : List Due). Judges p h all old new r) (sym (dues_are p base h viewers))
-    (judged_both p h (images_due p h ++ streams_due p h ++ marks_due p base h ++ all_dumps_due p h) (viewers_due viewers) old mid new r taken last)
-
--- what is left after lines that were taken is short, too
-pub short_after : (p : PlansData) (h : List Event) (dues : List Due) (least last : ℕ) (old new : Rest) → HasTaken p h dues least old new last → IsShort old → IsShort new
-short_after p h dues least last old new taken short = let fewer = taken.fewer in omega (arith, fewer, short)
+-- where a part is off, the exit of a `?` says so of all
+pub all_exit : {T : Type 0} {p : PlansData} {h : List Event} {all xs left more : List Due} {m : ℕ} {old mid : Rest} {bad : Bad} {r : Result T Bad}
+    → NoneIsMore all → (y : Bad) × (r ≡ Err y) × (y ≡ bad) → Begins more xs left → IsTaking p h all more old mid m → IsBad p h xs m mid bad → JudgesAll p h all old r
+all_exit {p = p} {h = h} {all = all} {old = old} {bad = bad} none exit begins on here =
+    subst (λ r. JudgesAll p h all old r) (sym (exit.1 ∙ ap Err exit.2)) (record { ok = tt; err = bad_of p h all old bad none (taking_bad begins on here) })
 
 -- where all parts are taken, all ends as the text does
-pub judged_end : {T : Type 0} (p : PlansData) (h : List Event) (dues : List Due) (old new : Rest) (r : Result T Bad) → HasTaken p h dues 0 old new 0 → OnOk r (new.text.now ≡ []) → IfErr r (λ bad. bad ≡ Off new.line what.More) → OnErr r (new.text.now ≡ [] → ⊥)
+pub judged_end : {T : Type 0} (p : PlansData) (h : List Event) (dues : List Due) (old new : Rest) (r : Result T Bad) → IsTaking p h dues [] old new 0 → OnOk r (new.text.now ≡ []) → IfErr r (λ bad. bad ≡ Off new.line what.More) → OnErr r (new.text.now ≡ [] → ⊥)
     → JudgesAll p h dues old r
-judged_end p h dues old new (Ok done) taken none is more = record { ok = all_due p h dues old new taken none; err = tt }
-judged_end p h dues old new (Err bad) taken none is more = record { ok = tt; err = subst (IsFirstBadOf p h dues old) (sym is) (more_due p h dues old new taken more) }
+judged_end p h dues old new (Ok done) on none is more = record { ok = all_due p h dues old new (taking_all refl on) none; err = tt }
+judged_end p h dues old new (Err bad) on none is more = record { ok = tt; err = subst (IsFirstBadOf p h dues old) (sym is) (more_due p h dues old new (taking_all refl on) more) }

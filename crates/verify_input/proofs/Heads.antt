@@ -1,8 +1,8 @@
 -- The head of a journal text.
-use Rattle.std.proofs.Common.{◌≡◌, ◌≢◌, ℕ, zero, suc, ◌+◌, ◌-◌, ◌%◌, ◌/◌, ◌<◌, ◌≤◌, Bool, true, false, not, ltb, Option, Some, None, MatchOption, Bor, List, [], ◌∷◌, ◌++◌, map, length, length-append, refl, sym, ap, subst, ◌∙◌, append_assoc, arith}
+use Rattle.std.proofs.Common.{◌≡◌, ◌≢◌, ℕ, zero, suc, ◌+◌, ◌-◌, ◌%◌, ◌/◌, ◌<◌, ◌≤◌, Bool, true, false, not, ltb, Option, Some, None, MatchOption, Bor, List, [], ◌∷◌, ◌++◌, map, length, refl, sym, ap, subst, ◌∙◌, arith}
 use Rattle.std.specs.Prelude.{codes, option_map, slice_get}
-use Rattle.std.specs.List.{list_all, concat, range_with_len}
-use Rattle.std.proofs.lemmas.Bool.{and_parts, ne_eqb, not-true}
+use Rattle.std.specs.List.{list_all, concat}
+use Rattle.std.proofs.lemmas.Bool.{and_parts, not-true}
 use Rattle.std.proofs.lemmas.Bool.Decides.{nat_tests}
 use Rattle.std.proofs.lemmas.List.{append-nil}
 use Rattle.std.proofs.lemmas.List.Elements.{All-nil, All-cons, All-append}
@@ -85,11 +85,6 @@ other_behind (line ∷ done) heads lines k other =
     let next : suc (length done) + k ≡ suc (length done + k) = omega arith in
     subst (λ k. IsFirstOther (line ∷ (done ++ heads)) (line ∷ (done ++ lines)) k) (sym next) (refl, other_behind done heads lines k other)
 
--- further lines after the first that is another
-other_before : (line : List ℕ) (heads lines : List (List ℕ)) → IsFirstOther (line ∷ []) lines 0 → IsFirstOther (line ∷ heads) lines 0
-other_before line heads [] other = tt
-other_before line heads (first ∷ lines) other = other
-
 bad_within : (lines : List (List ℕ)) (k : ℕ) → IsFirstBad lines k → k < length lines
 bad_within [] k bad = absurd bad
 bad_within (line ∷ lines) zero bad = omega arith
@@ -113,67 +108,8 @@ other_early heads text k other = omega (arith, other_within heads (whole_lines t
 abbrev pub line_of : PlansData → ℕ → List ℕ
 line_of p s = name_text s (plan_of p s).name
 
--- the head line and the name lines of a given number of streams are read, and this is after them
-pub record IsHeaded (p : PlansData) (text rest : List ℕ) (index : ℕ) : Type 0 where
-  pub done : List (List ℕ)
-  pub head : head_of p ≡ done ++ map (line_of p) (range_with_len (1 + index) (length p.plans - index))
-  pub lines : whole_lines text ≡ done ++ whole_lines rest
-  pub counted : length done ≡ index + 1
-  pub few : index + 1 + length rest ≤ length text
-
 pub second : (p : PlansData) → p.version ≡ 2 → head_of p ≡ journal_head ∷ map (line_of p) (streams_of p)
 second p two = rw two refl
-
-pub headed_none : (p : PlansData) (text rest : List ℕ) → p.version ≡ 2 → whole_lines text ≡ journal_head ∷ whole_lines rest → 1 + length rest ≤ length text → IsHeaded p text rest 0
-headed_none p text rest two first less =
-    let all : length p.plans - 0 ≡ length p.plans = omega arith in
-    record {
-      done = journal_head ∷ [];
-      head = second p two ∙ ap (λ n. journal_head ∷ map (line_of p) (range_with_len 1 n)) (sym all);
-      lines = first;
-      counted = refl;
-      few = omega arith;
-    }
-
-left_streams : (p : PlansData) (index : ℕ) → index < length p.plans → map (line_of p) (range_with_len (1 + index) (length p.plans - index)) ≡ line_of p (index + 1) ∷ map (line_of p) (range_with_len (1 + (index + 1)) (length p.plans - (index + 1)))
-left_streams p index more =
-    let one : length p.plans - index ≡ suc (length p.plans - (index + 1)) = omega arith in
-    let this : 1 + index ≡ index + 1 = omega arith in
-    let next : 1 + index + 1 ≡ 1 + (index + 1) = omega arith in
-    ap (λ n. map (line_of p) (range_with_len (1 + index) n)) one
-    ∙ (λ i. line_of p (this i) ∷ map (line_of p) (range_with_len (next i) (length p.plans - (index + 1))))
-
-pub headed_more : (p : PlansData) (text rest behind line : List ℕ) (index : ℕ) → index < length p.plans → line ≡ line_of p (index + 1) → IsHeaded p text rest index → whole_lines rest ≡ line ∷ whole_lines behind → 1 + length behind ≤ length rest → IsHeaded p text behind (index + 1)
-headed_more p text rest behind line index more named on first less =
-    let counted = on.counted in
-    let few = on.few in
-    let own = left_streams p index more ∙ ap (λ (line : List ℕ). line ∷ map (line_of p) (range_with_len (1 + (index + 1)) (length p.plans - (index + 1)))) (sym named) in
-    record {
-      done = on.done ++ line ∷ [];
-      head = on.head ∙ ap (λ (lines : List (List ℕ)). on.done ++ lines) own ∙ sym (append_assoc on.done (line ∷ []) _);
-      lines = on.lines ∙ ap (λ (lines : List (List ℕ)). on.done ++ lines) first ∙ sym (append_assoc on.done (line ∷ []) (whole_lines behind));
-      counted = omega (arith, length-append on.done (line ∷ []));
-      few = omega arith;
-    }
-
-pub headed_all : (p : PlansData) (text rest : List ℕ) (index : ℕ) → length p.plans ≤ index → IsHeaded p text rest index → (whole_lines text ≡ head_of p ++ whole_lines rest) × (length (head_of p) ≡ index + 1)
-headed_all p text rest index none on =
-    let zero : length p.plans - index ≡ 0 = omega arith in
-    let all : head_of p ≡ on.done = on.head ∙ ap (λ n. on.done ++ map (line_of p) (range_with_len (1 + index) n)) zero ∙ append-nil on.done in
-    (on.lines ∙ ap (λ (lines : List (List ℕ)). lines ++ whole_lines rest) (sym all), ap length all ∙ on.counted)
-
-pub headed_other : (p : PlansData) (text rest line : List ℕ) (index : ℕ) → index < length p.plans → line ≡ line_of p (index + 1) → IsHeaded p text rest index → IsFirstOther (line ∷ []) (whole_lines rest) 0 → IsFirstOther (head_of p) (whole_lines text) (index + 1)
-headed_other p text rest line index more named on other =
-    let own = left_streams p index more ∙ ap (λ (line : List ℕ). line ∷ map (line_of p) (range_with_len (1 + (index + 1)) (length p.plans - (index + 1)))) (sym named) in
-    let all = other_behind on.done (line ∷ map (line_of p) (range_with_len (1 + (index + 1)) (length p.plans - (index + 1)))) (whole_lines rest) 0 (other_before line _ (whole_lines rest) other) in
-    let place : length on.done + 0 ≡ index + 1 = let counted = on.counted in omega arith in
-    let heads : head_of p ≡ on.done ++ line ∷ map (line_of p) (range_with_len (1 + (index + 1)) (length p.plans - (index + 1))) = on.head ∙ ap (λ (lines : List (List ℕ)). on.done ++ lines) own in
-    subst (λ (heads : List (List ℕ)). IsFirstOther heads (whole_lines text) (index + 1)) (sym heads)
-    (subst (λ (lines : List (List ℕ)). IsFirstOther (on.done ++ line ∷ map (line_of p) (range_with_len (1 + (index + 1)) (length p.plans - (index + 1)))) lines (index + 1)) (sym on.lines)
-    (subst (λ k. IsFirstOther (on.done ++ line ∷ map (line_of p) (range_with_len (1 + (index + 1)) (length p.plans - (index + 1)))) (on.done ++ whole_lines rest) k) place all))
-
-pub head_other : (p : PlansData) (text : List ℕ) → p.version ≡ 2 → IsFirstOther (journal_head ∷ []) (whole_lines text) 0 → IsFirstOther (head_of p) (whole_lines text) 0
-head_other p text two other = subst (λ (heads : List (List ℕ)). IsFirstOther heads (whole_lines text) 0) (sym (second p two)) (other_before journal_head (map (line_of p) (streams_of p)) (whole_lines text) other)
 
 -- the name of a stream
 pub name_here : (p : PlansData) (s : ℕ) (name : Name) → 1 ≤ s → option_map (λ (plan : PlanData). plan.name) (slice_get p.plans (s - 1)) ≡ Some name → name_text s name ≡ line_of p s
@@ -182,9 +118,6 @@ name_here p s name some e = by (slice_get p.plans (s - 1)) refl e
     by : (found : Option PlanData) → slice_get p.plans (s - 1) ≡ found → option_map (λ (plan : PlanData). plan.name) found ≡ Some name → name_text s name ≡ line_of p s
     by None at e = absurd (cc)
     by (Some plan) at e = let same : plan.name ≡ name = cc in ap (name_text s) (sym same ∙ ap (λ (plan : PlanData). plan.name) (sym (plan_here p s plan some at)))
-
-pub headless : (p : PlansData) → p.version ≢ 2 → head_of p ≡ []
-headless p other = rw (ne_eqb p.version 2 other) refl
 
 -- after the head
 pub bad_behind_head : (p : PlansData) (text rest : List ℕ) (k : ℕ) → whole_lines text ≡ head_of p ++ whole_lines rest → IsFirstBad (whole_lines rest) k → IsFirstOther (head_of p) (whole_lines text) (length (head_of p) + k)

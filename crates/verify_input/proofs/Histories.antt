@@ -1,7 +1,6 @@
 -- What is kept of a whole history, as it is asked for.
-use Rattle.std.proofs.Common.{◌≡◌, ℕ, zero, suc, ◌+◌, ◌<◌, List, length, map, get_or, refl, ap, ◌∙◌, arith}
-use Rattle.std.specs.List.{range_with_len}
-use Rattle.std.proofs.lemmas.List.FromFn.{get_or-map-range_with_len}
+use Rattle.std.proofs.Common.{◌≡◌, ℕ, ◌+◌, ◌<◌, List, [], ◌∷◌, length, get_or, refl, ap, ◌∙◌, arith}
+use Rattle.std.proofs.lemmas.List.FromFn.{length-map-range_with_len, get_or-map-range_with_len}
 use Rattle.stream_state.specs.State.{State}
 use Rattle.gpu_journal.specs.declared.end.End.{End}
 use Rattle.gpu_journal.specs.Text.{tally_of, stream_text}
@@ -12,18 +11,17 @@ use Rattle.gpu_journal.specs.Output.{end_of}
 use Rattle.journal_verify.specs.Faults.{kept_state}
 use Rattle.verify_input.specs.Taking.{past_of, IsHistory}
 use Rattle.verify_input.specs.declared.sections.History.{History}
-use Rattle.verify_input.proofs.Lefts.{end_at}
+use Rattle.verify_input.specs.Due.{same_lines}
+use Rattle.verify_input.specs.declared.what.What.TheVariants as what
+use Rattle.verify_input.proofs.Dues.{Begins, at_range, lines_next}
+use Rattle.verify_input.proofs.Lefts.{end_at, streams_left}
 
 module _ (history : History) (is : IsHistory history) where
   pub streams_kept : length history.followed.now.judge.states ≡ length history.plans.now.plans
   streams_kept = is.followed.follows.fits.states
 
   pub ends_kept : length history.ends.now ≡ length history.plans.now.plans
-  ends_kept = ap length is.ends ∙ count (end_of (past_of history)) 1 (length history.plans.now.plans)
-    where
-      count : {A : Type 0} (f : ℕ → A) (a n : ℕ) → length (map f (range_with_len a n)) ≡ n
-      count f a zero = refl
-      count f a (suc n) = ap suc (count f (a + 1) n)
+  ends_kept = ap length is.ends ∙ length-map-range_with_len (end_of (past_of history)) 1 (length history.plans.now.plans)
 
   pub end_there : (index stream : ℕ) (other : End) → index < length history.plans.now.plans → index + 1 ≡ stream → get_or history.ends.now index other ≡ end_of (past_of history) stream
   end_there index stream other lt next =
@@ -31,10 +29,12 @@ module _ (history : History) (is : IsHistory history) where
       ∙ get_or-map-range_with_len (end_of (past_of history)) 1 (length history.plans.now.plans) index stream other lt (omega (arith, next))
 
   -- the line of a stream, by what is kept
-  pub stream_there : (index : ℕ) (state : State) (other : End) → index < length history.plans.now.plans → state ≡ kept_state history.followed.now.judge (index + 1)
-      → stream_text (index + 1) (tally_of state) (get_or history.ends.now index other) ≡ end_at history.plans.now (past_of history) (index + 1)
-  stream_there index state other lt kept =
-      (λ i. stream_text (index + 1) (tally_of ((kept ∙ is.followed.follows.shows.each (index + 1)) i)) (end_there index (index + 1) other lt refl i))
+  pub stream_next : (index : ℕ) (state : State) (other : End) {due : List ℕ} → index < length history.plans.now.plans → state ≡ kept_state history.followed.now.judge (index + 1)
+      → due ≡ stream_text (index + 1) (tally_of state) (get_or history.ends.now index other)
+      → Begins (streams_left history.plans.now (past_of history) index) (same_lines what.Stream (due ∷ [])) (streams_left history.plans.now (past_of history) (index + 1))
+  stream_next index state other lt kept line =
+      lines_next what.Stream (end_at history.plans.now (past_of history)) (at_range 1 (length history.plans.now.plans) index (index + 1) lt (omega arith))
+      (line ∙ (λ i. stream_text (index + 1) (tally_of ((kept ∙ is.followed.follows.shows.each (index + 1)) i)) (end_there index (index + 1) other lt refl i)))
 
   pub images_there : history.followed.now.judge.images ≡ replay history.plans.now (past_of history)
   images_there = is.followed.follows.shows.drawn

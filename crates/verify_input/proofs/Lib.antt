@@ -16,8 +16,8 @@ pub mod Onlys
 pub mod Feeds
 pub mod Looking
 pub mod Dues
-pub mod Lefts
 pub mod Rows
+pub mod Lefts
 pub mod Histories
 pub mod Losing
 pub mod Rising

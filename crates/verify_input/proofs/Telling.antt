@@ -1,5 +1,5 @@
 -- The lines of dumps and of looks: what is read at its place decides whether a line may stand there.
-use Rattle.std.proofs.Common.{◌≡◌, ℕ, ◌+◌, ◌-◌, ◌^◌, ◌<◌, ◌≤◌, Result, Ok, Err, List, [], ◌∷◌, ◌++◌, length, length-append, take, drop, reverse, refl, sym, ap, subst, ◌∙◌, append_assoc, arith}
+use Rattle.std.proofs.Common.{◌≡◌, ℕ, ◌+◌, ◌-◌, ◌^◌, ◌<◌, ◌≤◌, Bool, true, false, Result, Ok, Err, List, [], ◌∷◌, ◌++◌, length, length-append, take, drop, reverse, refl, sym, ap, subst, ◌∙◌, append_assoc, arith}
 use Rattle.std.specs.List.{concat}
 use Rattle.std.proofs.lemmas.List.{take-append-drop, drop_at, reverse-append, length-reverse, length-drop}
 use Rattle.gpu_store.specs.Sums.{texel_sum}
@@ -36,36 +36,45 @@ dump_parts : (s place index value : ℕ) (more : List ℕ) → dump_text s place
 unfolding dump_text
 dump_parts s place index value more = append_assoc (dump_front s place index ++ hex8 value) (10 ∷ []) more
 
-module _ (p : PlansData) (h : List Event) (s : ℕ) (dump : ℕ × ℕ) (old : Rest) where
-  ends_with : (line : List ℕ) (lines : List (List ℕ)) (value : ℕ) → whole_lines old.text.now ≡ line ∷ lines → line ≡ dump_text s dump.0 dump.1 value → value < 2 ^ 32
-      → EndsWith old.text.now (length (dump_text s dump.0 dump.1 0)) value
-  ends_with line lines value first is small = record {
-    front = dump_front s dump.0 dump.1;
-    rest = concat lines;
-    is = sym (concat_whole old.text.now) ∙ ap concat first ∙ ap (λ (own : List ℕ). own ++ concat lines) is ∙ dump_parts s dump.0 dump.1 value (concat lines);
-    counted = dump_length s dump.0 dump.1;
-    small = small;
+ends_with : (s : ℕ) (dump : ℕ × ℕ) (text line : List ℕ) (lines : List (List ℕ)) (value : ℕ) → whole_lines text ≡ line ∷ lines → line ≡ dump_text s dump.0 dump.1 value → value < 2 ^ 32 → EndsWith text (length (dump_text s dump.0 dump.1 0)) value
+ends_with s dump text line lines value first is small = record {
+  front = dump_front s dump.0 dump.1;
+  rest = concat lines;
+  is = sym (concat_whole text) ∙ ap concat first ∙ ap (λ (own : List ℕ). own ++ concat lines) is ∙ dump_parts s dump.0 dump.1 value (concat lines);
+  counted = dump_length s dump.0 dump.1;
+  small = small;
+}
+
+-- what is read at the place of its value: no line has another, and a test says whether it may be told
+pub record Told (p : PlansData) (h : List Event) (s : ℕ) (dump : ℕ × ℕ) (old : Rest) (value : ℕ) (test : Bool) : Type 0 where
+  pub reads : (other : ℕ) → EndsWith old.text.now (length (dump_text s dump.0 dump.1 0)) other → value ≡ other
+  pub small : (other : ℕ) → MayDump p h s dump other → other < 2 ^ 32
+  pub right : test ≡ true → MayDump p h s dump value
+  pub all : MayDump p h s dump value → test ≡ true
+
+module _ {p : PlansData} {h : List Event} {s : ℕ} {dump : ℕ × ℕ} {old : Rest} {value : ℕ} {test : Bool} (told : Told p h s dump old value test) where
+  read : (line : List ℕ) (lines : List (List ℕ)) (other : ℕ) → whole_lines old.text.now ≡ line ∷ lines → MayDump p h s dump other → line ≡ dump_text s dump.0 dump.1 other → value ≡ other
+  read line lines other first may is = told.reads other (ends_with s dump old.text.now line lines other first is (told.small other may))
+
+  -- what is read is no value that may be told
+  pub dump_bad : test ≡ false → IsBad p h (Dump s dump ∷ []) 0 old (off_of old what.Dump)
+  dump_bad not = due_bad p h (Dump s dump) what.Dump 0 old refl (λ line lines then first may.
+      let same = read line lines may.0 first may.1 may.2 in
+      let is : test ≡ true = told.all (subst (MayDump p h s dump) (sym same) may.1) in
+      absurd (cc))
+
+  -- it is one, and then its line is the only one
+  pub dump_judged : {T : Type 0} {new : Rest} → test ≡ true → (r : Result T Bad) → Judges p h (same_lines what.Dump (dump_text s dump.0 dump.1 value ∷ [])) old new r → Judges p h (Dump s dump ∷ []) old new r
+  dump_judged {new = new} is (Ok done) judged = record {
+    ok = taken_as p h (Same what.Dump (dump_text s dump.0 dump.1 value)) (Dump s dump) 0 0 0 0 old new (λ line stands. (value, told.right is, stands.0, stands.1)) judged.ok;
+    err = tt;
   }
-
-  module _ (value : ℕ) (reads : (other : ℕ) → EndsWith old.text.now (length (dump_text s dump.0 dump.1 0)) other → value ≡ other) (few : (other : ℕ) → MayDump p h s dump other → other < 2 ^ 32) where
-    -- what is read is no value that may be told
-    pub dump_bad : (MayDump p h s dump value → ⊥) → IsBad p h (Dump s dump ∷ []) 0 old (off_of old what.Dump)
-    dump_bad not = due_bad p h (Dump s dump) what.Dump 0 old refl (λ line lines then first may.
-        let same : value ≡ may.0 = reads may.0 (ends_with line lines may.0 first may.2 (few may.0 may.1)) in
-        not (subst (MayDump p h s dump) (sym same) may.1))
-
-    -- it is one, and then its line is the only one
-    pub dump_judged : {T : Type 0} (new : Rest) (r : Result T Bad) → MayDump p h s dump value → Judges p h (same_lines what.Dump (dump_text s dump.0 dump.1 value ∷ [])) old new r → Judges p h (Dump s dump ∷ []) old new r
-    dump_judged new (Ok done) may judged = record {
-      ok = taken_as p h (Same what.Dump (dump_text s dump.0 dump.1 value)) (Dump s dump) 0 0 0 0 old new (λ line stands. (value, may, stands.0, stands.1)) judged.ok;
-      err = tt;
-    }
-    dump_judged new (Err bad) may judged = record {
-      ok = tt;
-      err = bad_as p h (Same what.Dump (dump_text s dump.0 dump.1 value)) (Dump s dump) 0 0 old bad refl (λ line lines then first stands.
-          let same : value ≡ stands.0 = reads stands.0 (ends_with line lines stands.0 first stands.2 (few stands.0 stands.1)) in
-          (0, (stands.2 ∙ ap (dump_text s dump.0 dump.1) (sym same), refl))) judged.err;
-    }
+  dump_judged is (Err bad) judged = record {
+    ok = tt;
+    err = bad_as p h (Same what.Dump (dump_text s dump.0 dump.1 value)) (Dump s dump) 0 0 old bad refl (λ line lines then first stands.
+        let same = read line lines stands.0 first stands.1 stands.2 in
+        (0, (stands.2 ∙ ap (dump_text s dump.0 dump.1) (sym same), refl))) judged.err;
+  }
 
 -- ---- looks
 
@@ -73,46 +82,49 @@ sum_small : (p : PlansData) (h : List Event) (count : ℕ) → sum_after p h cou
 unfolding texel_sum
 sum_small p h count = omega arith
 
-module _ (p : PlansData) (h : List Event) (viewer least : ℕ) (old : Rest) (known : viewer < 2 ^ 32) (few : length h < 2 ^ 32) where
-  begins_with : (line : List ℕ) (lines : List (List ℕ)) (count : ℕ) → whole_lines old.text.now ≡ line ∷ lines → count ≤ length h → line ≡ view_text viewer count (sum_after p h count) → BeginsWithLook old.text.now (count, sum_after p h count)
-  begins_with line lines count first within is = record {
+-- what is read where a look is due, which no line has otherwise
+pub record Seen (p : PlansData) (h : List Event) (viewer : ℕ) (old : Rest) (look : ℕ × ℕ) : Type 0 where
+  pub known : viewer < 2 ^ 32
+  pub few : length h < 2 ^ 32
+  pub reads : (other : ℕ × ℕ) → BeginsWithLook old.text.now other → look ≡ other
+
+module _ {p : PlansData} {h : List Event} {viewer : ℕ} {old : Rest} {look : ℕ × ℕ} (seen : Seen p h viewer old look) where
+  read_look : (line : List ℕ) (lines : List (List ℕ)) (count : ℕ) → whole_lines old.text.now ≡ line ∷ lines → count ≤ length h → line ≡ view_text viewer count (sum_after p h count) → look ≡ (count, sum_after p h count)
+  read_look line lines count first within is = seen.reads (count, sum_after p h count) (record {
     viewer = viewer;
     rest = lines;
     is = first ∙ ap (λ (own : List ℕ). own ∷ lines) is;
-    known = known;
-    few = omega (arith, within, few);
+    known = seen.known;
+    few = (let few = seen.few in omega (arith, within, few));
     small = sum_small p h count;
-  }
+  })
 
-  module _ (look : ℕ × ℕ) (reads : (other : ℕ × ℕ) → BeginsWithLook old.text.now other → look ≡ other) where
-    -- what is read is no look that may stand there
-    pub look_bad : (IsLook p h least look → ⊥) → IsBad p h (Look viewer ∷ []) least old (off_of old what.View)
-    look_bad not = due_bad p h (Look viewer) what.View least old refl (λ line lines then first may.
-        let same : look ≡ (then, sum_after p h then) = reads (then, sum_after p h then) (begins_with line lines then first may.1 may.2) in
-        not (subst (IsLook p h least) (sym same) (record { from = may.0; few = may.1; sum = refl })))
+  -- it is no look that may stand there
+  pub look_bad : {least : ℕ} → (IsLook p h least look → ⊥) → IsBad p h (Look viewer ∷ []) least old (off_of old what.View)
+  look_bad {least} not = due_bad p h (Look viewer) what.View least old refl (λ line lines then first may.
+      not (subst (IsLook p h least) (sym (read_look line lines then first may.1 may.2)) (record { from = may.0; few = may.1; sum = refl })))
 
-    pub look_taken : (new : Rest) → IsLook p h least look → HasTaken p h (same_lines what.View (view_text viewer look.0 look.1 ∷ [])) 0 old new 0 → HasTaken p h (Look viewer ∷ []) least old new look.0
-    look_taken new is taken =
-        taken_as p h (Same what.View (view_text viewer look.0 look.1)) (Look viewer) 0 least 0 look.0 old new
-        (λ line stands. (is.from, is.few, stands.0 ∙ ap (view_text viewer look.0) is.sum)) taken
+  pub look_taken : {least : ℕ} {new : Rest} → IsLook p h least look → HasTaken p h (same_lines what.View (view_text viewer look.0 look.1 ∷ [])) 0 old new 0 → HasTaken p h (Look viewer ∷ []) least old new look.0
+  look_taken {least} {new} is taken =
+      taken_as p h (Same what.View (view_text viewer look.0 look.1)) (Look viewer) 0 least 0 look.0 old new
+      (λ line stands. (is.from, is.few, stands.0 ∙ ap (view_text viewer look.0) is.sum)) taken
 
-    pub look_off : (bad : Bad) → IsBad p h (same_lines what.View (view_text viewer look.0 look.1 ∷ [])) 0 old bad → IsBad p h (Look viewer ∷ []) least old bad
-    look_off bad off =
-        bad_as p h (Same what.View (view_text viewer look.0 look.1)) (Look viewer) 0 least old bad refl (λ line lines then first may.
-        let same : look ≡ (then, sum_after p h then) = reads (then, sum_after p h then) (begins_with line lines then first may.1 may.2) in
-        (0, (may.2 ∙ ap (λ (l : ℕ × ℕ). view_text viewer l.0 l.1) (sym same), refl))) off
+  pub look_off : {least : ℕ} {bad : Bad} → IsBad p h (same_lines what.View (view_text viewer look.0 look.1 ∷ [])) 0 old bad → IsBad p h (Look viewer ∷ []) least old bad
+  look_off {least} {bad} off =
+      bad_as p h (Same what.View (view_text viewer look.0 look.1)) (Look viewer) 0 least old bad refl
+      (λ line lines then first may. (0, (may.2 ∙ ap (λ (l : ℕ × ℕ). view_text viewer l.0 l.1) (sym (read_look line lines then first may.1 may.2)), refl))) off
 
 -- the last look is one of all events
-module _ (p : PlansData) (h : List Event) (viewer m : ℕ) (old : Rest) where
-  pub last_taken : (then : ℕ) (new : Rest) → HasTaken p h (Look viewer ∷ []) (length h) old new then → HasTaken p h (LastLook viewer ∷ []) m old new 0
-  last_taken then new taken =
-      taken_as p h (Look viewer) (LastLook viewer) (length h) m then 0 old new (λ line may.
-      let all : then ≡ length h = omega (arith, may.0, may.1) in
-      (may.2 ∙ ap (λ n. view_text viewer n (sum_after p h n)) all, refl)) taken
+module _ {p : PlansData} {h : List Event} {viewer all m : ℕ} {old : Rest} (is : all ≡ length h) where
+  pub last_taken : {then : ℕ} {new : Rest} → HasTaken p h (Look viewer ∷ []) all old new then → HasTaken p h (LastLook viewer ∷ []) m old new 0
+  last_taken {then} {new} taken =
+      taken_as p h (Look viewer) (LastLook viewer) all m then 0 old new (λ line may.
+      let same : then ≡ length h = omega (arith, may.0, may.1) in
+      (may.2 ∙ ap (λ n. view_text viewer n (sum_after p h n)) same, refl)) taken
 
-  pub last_bad : (bad : Bad) → IsBad p h (Look viewer ∷ []) (length h) old bad → IsBad p h (LastLook viewer ∷ []) m old bad
-  last_bad bad off =
-      bad_as p h (Look viewer) (LastLook viewer) (length h) m old bad refl (λ line lines then first may. (length h, (omega arith, omega arith, may.0))) off
+  pub last_bad : {bad : Bad} → IsBad p h (Look viewer ∷ []) all old bad → IsBad p h (LastLook viewer ∷ []) m old bad
+  last_bad {bad} off =
+      bad_as p h (Look viewer) (LastLook viewer) all m old bad refl (λ line lines then first may. (length h, (omega (arith, is), omega arith, may.0))) off
 
 -- the sum after some first events, by the images that these leave
 pub sum_before : (p : PlansData) (events : List Event) (count : ℕ) → count ≤ length events → texel_sum (replay p (reverse (take count events))) ≡ sum_after p (reverse events) count

@@ -1,5 +1,5 @@
 -- The verdict on an input with an output, by the verdict on its parts.
-use Rattle.std.proofs.Common.{◌≡◌, ℕ, suc, ◌+◌, ◌-◌, ◌≤◌, Bool, true, false, cond, inl, inr, List, [], ◌∷◌, ◌++◌, length, length-append, drop, refl, Option, Some, None, Result, Ok, Err, sym, ap, subst, ◌∙◌, arith}
+use Rattle.std.proofs.Common.{◌≡◌, ℕ, zero, suc, ◌+◌, ◌-◌, ◌≤◌, Bool, true, false, cond, inl, inr, List, [], ◌∷◌, ◌++◌, length, length-append, drop, refl, Option, Some, None, Result, Ok, Err, sym, ap, subst, ◌∙◌, arith}
 use Rattle.std.specs.Prelude.{IfOk, option_map}
 use Rattle.std.specs.List.{concat}
 use Rattle.std.proofs.lemmas.List.{length-drop}
@@ -10,10 +10,11 @@ use Rattle.gpu_journal.specs.Text.{journal_text}
 use Rattle.script_lines.specs.Text.{ends_line}
 use Rattle.verify_input.specs.Reading.{joined, whole_lines, IsJournal}
 use Rattle.verify_input.specs.Parts.{words_on, is_end, before, behind, script_part}
-use Rattle.verify_input.specs.Found.{script_in, head_of}
-use Rattle.verify_input.specs.Due.{same_lines, heads_due}
+use Rattle.verify_input.specs.Found.{script_in, head_of, IsFirstOther}
+use Rattle.verify_input.specs.Due.{same_lines, heads_due, IsOff}
 use Rattle.verify_input.specs.Taking.{HasTaken}
 use Rattle.verify_input.specs.declared.rest.Rest.{Rest}
+use Rattle.verify_input.specs.declared.what.What.{What}
 use Rattle.verify_input.specs.declared.what.What.TheVariants as what
 use Rattle.verify_input.proofs.Outputs.{same_taken}
 use Rattle.verify_input.proofs.Wholes.{concat_whole}
@@ -82,7 +83,15 @@ heads_count p = by (head_of p)
     by [] = refl
     by (line ∷ lines) = ap suc (by lines)
 
-module _ (p : PlansData) (old new : Rest) (taken : HasTaken p [] (heads_due p) 0 old new 0) where
+-- the first line of the head that is off is another
+pub head_off : (p : PlansData) (heads : List (List ℕ)) (l : ℕ) (lines : List (List ℕ)) (k : ℕ) (part : What) → IsOff p [] (same_lines what.Name heads) l lines k part → IsFirstOther heads lines k
+head_off p [] l lines k part off = absurd off
+head_off p (head ∷ heads) l [] zero part off = tt
+head_off p (head ∷ heads) l [] (suc k) part off = let none = off.0 in absurd (omega (arith, none))
+head_off p (head ∷ heads) l (line ∷ lines) zero part off = λ same. off.1 0 (same, refl)
+head_off p (head ∷ heads) l (line ∷ lines) (suc k) part off = (off.1.0, head_off p heads off.0 lines k part off.2)
+
+module _ {p : PlansData} {old new : Rest} (taken : HasTaken p [] (heads_due p) 0 old new 0) where
   -- the lines of the head are taken off
   pub headed : whole_lines old.text.now ≡ head_of p ++ whole_lines new.text.now
   headed = (same_taken p [] what.Name (head_of p) 0 (whole_lines old.text.now) 0 (whole_lines new.text.now) refl taken.taken).0

@@ -16,10 +16,6 @@ use Rattle.verify_input.specs.declared.rest.Rest.{Rest}
 use Rattle.verify_input.specs.declared.rest.Bad.{Bad}
 use Rattle.verify_input.specs.declared.rest.Bad.TheVariants.{Off, Memory}
 
--- the lines that are left have numbers within the longest input
-abbrev pub IsShort : Rest → Type 0
-IsShort rest = rest.line + length rest.text.now ≤ 16777217
-
 -- this is off where the text goes on otherwise, or the line is missing
 abbrev pub off_of : Rest → What → Bad
 off_of rest what = Off rest.line (if length rest.text.now == 0 then Missing else what)
@@ -28,12 +24,10 @@ off_of rest what = Off rest.line (if length rest.text.now == 0 then Missing else
 pub record HasTaken (p : PlansData) (h : List Event) (dues : List Due) (least : ℕ) (old new : Rest) (last : ℕ) : Type 0 where
   pub taken : AreTakenOff p h dues least (whole_lines old.text.now) last (whole_lines new.text.now)
   pub number : new.line ≡ old.line + length dues
-  pub fewer : new.line + length new.text.now ≤ old.line + length old.text.now
 
--- this line is the first that is off
-abbrev pub IsBad : PlansData → List Event → List Due → ℕ → Rest → Bad → Type 0
-IsBad p h dues least old (Off line what) = (k : ℕ) × (line ≡ old.line + k) × IsOff p h dues least (whole_lines old.text.now) k what
-IsBad p h dues least old Memory = Unit {0}
+-- where a line is told, it is the first that is off
+pub record IsBad (p : PlansData) (h : List Event) (dues : List Due) (least : ℕ) (old : Rest) (bad : Bad) : Type 0 where
+  pub off : (line : ℕ) (what : What) → bad ≡ Off line what → (k : ℕ) × (line ≡ old.line + k) × IsOff p h dues least (whole_lines old.text.now) k what
 
 -- the lines that are due were taken, or the first that is off was told
 pub record Judges {T : Type 0} (p : PlansData) (h : List Event) (dues : List Due) (old new : Rest) (result : Result T Bad) : Type 0 where

@@ -1,6 +1,7 @@
-ghost use Rattle.std.specs.Prelude.{◌≡◌, ◌+◌, ◌<◌, ◌≤◌, ◌^◌, [], None, Some, length, drop, MatchOption};
+ghost use Rattle.std.specs.Prelude.{◌≡◌, ◌+◌, ◌<◌, ◌≤◌, ◌^◌, [], ◌∷◌, None, Some, length, drop, MatchOption};
 ghost use Rattle.verify_input.specs.Reading.{whole_lines};
-ghost use Rattle.verify_input.specs.Cuts.{IsFirstLine};
+ghost use Rattle.verify_input.specs.Cuts.{IsFirstLine, IsLine};
+ghost use Rattle.verify_input.specs.Found.{IsFirstOther};
 ghost use Rattle.verify_input.specs.Parts.{before, behind};
 
 use crate::border::Border;
@@ -28,6 +29,17 @@ pub(crate) fn first_line(text: &[u8]) -> Option<(&[u8], &[u8])>
         Some(end) => Some(cut_at(text, end)),
         None => Some((text, &[])),
     }
+}
+
+/// What stands after a line, if that is the first of a text.
+pub(crate) fn behind_line<'a>(text: &'a [u8], line: &[u8]) -> Option<&'a [u8]>
+    requires { IsLine line.now }
+    ensures lines { MatchOption result (IsFirstOther (line.now ∷ []) (whole_lines text.now) 0)
+        (λ rest. whole_lines text.now ≡ line.now ∷ whole_lines rest.now) }
+    ensures shorter { MatchOption result (0 ≤ length text.now)
+        (λ rest. 1 + length rest.now ≤ length text.now) }
+{
+    text.strip_prefix(line)
 }
 
 /// Cuts a text at the first line that ends a part.

@@ -1,11 +1,6 @@
-ghost use Rattle.std.specs.Prelude.{◌≡◌, List, ◌∷◌, [], OnOk, OnErr, IfErr};
-ghost use Rattle.gpu_plan.specs.Plans.{PlansData};
-ghost use Rattle.gpu_journal.specs.declared.event.Event.{Event};
-ghost use Rattle.verify_input.specs.Cuts.{IsLine};
-ghost use Rattle.verify_input.specs.Due.{same_lines};
-ghost use Rattle.verify_input.specs.Taking.{IsShort, Judges, off_of};
+ghost use Rattle.std.specs.Prelude.{◌≡◌, ◌+◌, ◌≤◌, List, ◌∷◌, [], length, OnOk, OnErr, IfErr};
 
-use crate::heading::behind_line;
+use crate::cutting::behind_line;
 use crate::what::What;
 use gpu_word::Memory;
 
@@ -33,9 +28,16 @@ impl From<Memory> for Bad {
 pub(crate) struct Rest<'a> {
     pub(crate) text: &'a [u8],
     pub(crate) line: u32,
+    ghost short: { line + length text.now ≤ 16777217 },
 }
 
 impl Rest<'_> {
+    ghost use Rattle.gpu_plan.specs.Plans.{PlansData};
+    ghost use Rattle.gpu_journal.specs.declared.event.Event.{Event};
+    ghost use Rattle.verify_input.specs.Cuts.{IsLine};
+    ghost use Rattle.verify_input.specs.Due.{same_lines};
+    ghost use Rattle.verify_input.specs.Taking.{Judges, off_of};
+
     /// What is off where this is due and the text goes on otherwise.
     pub(crate) fn off(&self, what: What) -> Bad
         ensures { result ≡ off_of self.now what }
@@ -53,11 +55,9 @@ impl Rest<'_> {
 
     /// Takes the line that is due, with its line feed.
     pub(crate) fn take(&mut self, due: &[u8], what: What) -> Result<(), Bad>
-        requires line { IsLine due.now }
-        requires short { IsShort self.old }
-        ensures judges { (p : PlansData) (h : List Event)
+        requires { IsLine due.now }
+        ensures { (p : PlansData) (h : List Event)
             → Judges p h (same_lines what (due.now ∷ [])) self.old self.new result }
-        ensures same { OnErr result (self.new ≡ self.old) }
     {
         let Some(text) = behind_line(self.text, due) else {
             return Err(self.off(what));

@@ -13,7 +13,7 @@ ghost use Rattle.gpu_journal.specs.Output.{streams_of};
 ghost use Rattle.journal_verify.specs.Followed.{sum_after};
 ghost use Rattle.verify_input.specs.Due as Due;
 ghost use Rattle.verify_input.specs.Due.{same_lines, image_lines, end_lines, heads_due, dumps_due, looks_due};
-ghost use Rattle.verify_input.specs.Taking.{IsShort, HasTaken, IsBad, Judges, IsHistory, IsLook, is_lost, past_of};
+ghost use Rattle.verify_input.specs.Taking.{HasTaken, IsBad, Judges, IsHistory, IsLook, is_lost, past_of};
 ghost use Rattle.wait_hooks.specs.Marks.{mark};
 
 use crate::looks::LOOKS;
@@ -40,7 +40,6 @@ pub(crate) struct History<'a> {
 
 /// The head line and the name lines, of a script of version 2.
 pub(crate) fn take_names(rest: &mut Rest<'_>, line: &mut Line, plans: &Plans) -> Result<(), Bad>
-    requires short { IsShort rest.old }
     ensures { (h : List Event)
         → Judges plans.now h (heads_due plans.now) rest.old rest.new result }
 {
@@ -68,8 +67,7 @@ fn height_of(images: &Images, image: u32) -> u32
 
 // The lines of an image.
 fn take_image(rest: &mut Rest<'_>, line: &mut Line, images: &Images, image: u32) -> Result<(), Bad>
-    requires short { IsShort rest.old }
-    requires there { IsSome (picture_of images.now image) }
+    requires { IsSome (picture_of images.now image) }
     ensures { (picture : Picture) (p : PlansData) (h : List Event)
         → picture_of images.now image ≡ Some picture
         → Judges p h (same_lines What.Image (image_lines (image, picture))) rest.old rest.new result }
@@ -86,7 +84,6 @@ fn take_image(rest: &mut Rest<'_>, line: &mut Line, images: &Images, image: u32)
 
 /// The lines of all images.
 pub(crate) fn take_images(rest: &mut Rest<'_>, line: &mut Line, images: &Images) -> Result<(), Bad>
-    requires short { IsShort rest.old }
     ensures { (p : PlansData) (h : List Event)
         → Judges p h (same_lines What.Image (flat_map image_lines images.now)) rest.old rest.new result }
 {
@@ -102,7 +99,6 @@ pub(crate) fn take_streams(
     line: &mut Line,
     history: History<'_>,
 ) -> Result<(), Bad>
-    requires short { IsShort rest.old }
     requires history { IsHistory history }
     ensures { Judges history.entry.plans.now (past_of history.entry)
         (same_lines What.Stream (end_lines history.entry.plans.now (past_of history.entry)))
@@ -127,7 +123,6 @@ pub(crate) fn take_marks(
     endings: &[Ending],
     base: u32,
 ) -> Result<(), Bad>
-    requires short { IsShort rest.old }
     ensures { (p : PlansData) (h : List Event) → Judges p h
         (same_lines What.Mark (map (λ ending. mark_text ending (mark base ending)) endings.now))
         rest.old rest.new result }
@@ -171,7 +166,6 @@ fn take_dump(
     dump: (u32, u32),
     least: u32,
 ) -> Result<(), Bad>
-    requires short { IsShort rest.old }
     requires history { IsHistory history }
     requires known { IsKnown (length history.plans.now.plans) stream }
     requires there { Contains (plan_of history.plans.now stream).dumps dump }
@@ -196,7 +190,6 @@ fn take_dumps_of(
     history: History<'_>,
     stream: u32,
 ) -> Result<(), Bad>
-    requires short { IsShort rest.old }
     requires history { IsHistory history }
     requires known { IsKnown (length history.plans.now.plans) stream }
     ensures { Judges history.entry.plans.now (past_of history.entry)
@@ -234,7 +227,6 @@ fn take_dumps_in(
     history: History<'_>,
     stream: u32,
 ) -> Result<(), Bad>
-    requires short { IsShort rest.old }
     requires history { IsHistory history }
     requires known { IsKnown (length history.plans.now.plans) stream }
     ensures { Judges history.entry.plans.now (past_of history.entry)
@@ -253,7 +245,6 @@ pub(crate) fn take_dumps(
     line: &mut Line,
     history: History<'_>,
 ) -> Result<(), Bad>
-    requires short { IsShort rest.old }
     requires history { IsHistory history }
     ensures { Judges history.entry.plans.now (past_of history.entry)
         (flat_map (dumps_due history.entry.plans.now (past_of history.entry))
@@ -309,7 +300,6 @@ fn take_look(
     viewer: u32,
     least: u32,
 ) -> Result<u32, Bad>
-    requires short { IsShort rest.old }
     requires history { IsHistory history }
     ensures ok { IfOk result (λ then. HasTaken history.entry.plans.now (past_of history.entry)
         (Due.Look viewer ∷ []) least rest.old rest.new then) }
@@ -335,7 +325,6 @@ fn take_last_look(
     history: History<'_>,
     viewer: u32,
 ) -> Result<(), Bad>
-    requires short { IsShort rest.old }
     requires history { IsHistory history }
     ensures ok { OnOk result ((least : ℕ) → HasTaken history.entry.plans.now (past_of history.entry)
         (Due.LastLook viewer ∷ []) least rest.old rest.new 0) }
@@ -355,7 +344,6 @@ fn take_viewer(
     history: History<'_>,
     viewer: u32,
 ) -> Result<(), Bad>
-    requires short { IsShort rest.old }
     requires history { IsHistory history }
     ensures { Judges history.entry.plans.now (past_of history.entry) (looks_due viewer)
         rest.old rest.new result }
@@ -375,7 +363,6 @@ pub(crate) fn take_viewers(
     history: History<'_>,
     viewers: u32,
 ) -> Result<(), Bad>
-    requires short { IsShort rest.old }
     requires history { IsHistory history }
     requires few { viewers ≤ 4 }
     ensures { Judges history.entry.plans.now (past_of history.entry)

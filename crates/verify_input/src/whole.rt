@@ -2,7 +2,7 @@
 ghost use Rattle.std.specs.Prelude.{◌≡◌, ◌+◌, ◌<◌, ◌≤◌, ◌^◌, length, drop, IfOk};
 ghost use Rattle.verify_input.specs.Reading.{whole_lines};
 ghost use Rattle.verify_input.specs.Due.{dues};
-ghost use Rattle.verify_input.specs.Taking.{IsShort, IsHistory, Judges, JudgesAll, past_of};
+ghost use Rattle.verify_input.specs.Taking.{IsHistory, JudgesAll, past_of};
 ghost use Rattle.verify_input.specs.Whole.{FindsAll, FindsBehind, FindsWhole};
 
 use crate::border::Border;
@@ -21,28 +21,6 @@ use gpu_word::Memory;
 use journal_verify::{Ruling, ends_of, follow};
 use std::alloc::Global;
 
-// Takes the parts after the journal.
-fn take_parts(
-    alloc: Global,
-    rest: &mut Rest<'_>,
-    line: &mut Line,
-    history: History<'_>,
-    base: u32,
-    viewers: u32,
-) -> Result<(), Bad>
-    requires short { IsShort rest.old }
-    requires history { IsHistory history }
-    requires few { viewers ≤ 4 }
-    ensures { Judges history.entry.plans.now (past_of history.entry)
-        (dues history.entry.plans.now base (past_of history.entry) viewers) rest.old rest.new result }
-{
-    take_images(rest, line, history.followed.images())?;
-    take_streams(rest, line, history)?;
-    take_marks(rest, line, history.followed.endings(), base)?;
-    take_dumps(rest, line, history)?;
-    take_viewers(alloc, rest, line, history, viewers)
-}
-
 // Judges all lines after the journal.
 fn take_rest(
     alloc: Global,
@@ -52,13 +30,16 @@ fn take_rest(
     base: u32,
     viewers: u32,
 ) -> Result<(), Bad>
-    requires short { IsShort rest.old }
     requires history { IsHistory history }
     requires few { viewers ≤ 4 }
     ensures { JudgesAll history.entry.plans.now (past_of history.entry)
         (dues history.entry.plans.now base (past_of history.entry) viewers) rest.old result }
 {
-    take_parts(alloc, rest, line, history, base, viewers)?;
+    take_images(rest, line, history.followed.images())?;
+    take_streams(rest, line, history)?;
+    take_marks(rest, line, history.followed.endings(), base)?;
+    take_dumps(rest, line, history)?;
+    take_viewers(alloc, rest, line, history, viewers)?;
     rest.end()
 }
 
@@ -71,8 +52,7 @@ fn judge_all(
     line: &mut Line,
     base: u32,
 ) -> Result<Finding, Memory>
-    requires short { IsShort rest }
-    requires few { length events.now < 2 ^ 32 }
+    requires { length events.now < 2 ^ 32 }
     ensures { IfOk result (λ finding. FindsAll plans.now base events.now
         (whole_lines rest.entry.text.now) rest.entry.line finding) }
 {
@@ -103,7 +83,7 @@ fn judge_all(
 // What is left after a part, which has this number of lines.
 fn after_part<'a>(rest: Rest<'a>, part: &[u8], lines: u32) -> Rest<'a>
     requires part { length part.now ≤ length rest.text.now }
-    requires lines { rest.line + lines < 2 ^ 32 }
+    requires lines { lines ≤ length part.now }
     ensures text { result.text.now ≡ drop (length part.now) rest.entry.text.now }
     ensures line { result.line ≡ rest.entry.line + lines }
 {

@@ -1,15 +1,14 @@
 -- Each goal of the loop is a fact of the dump at hand.
-use Rattle.std.proofs.Common.{◌≡◌, ◌+◌, ◌-◌, ◌<◌, ◌∷◌, ◌++◌, [], ℕ, List, length, map, get_or, drop, take, refl, sym, ap, subst, ◌∙◌, arith}
-use Rattle.std.proofs.lemmas.List.{get_or_default, length-take, length-drop}
+use Rattle.std.proofs.Common.{◌≡◌, ◌+◌, ◌-◌, ◌<◌, ◌∷◌, [], ℕ, List, length, map, get_or, drop, take, refl, sym, ap, subst, ◌∙◌, arith}
+use Rattle.std.proofs.lemmas.List.{get_or_default, length-take, length-drop, drop_all}
 use Rattle.std.proofs.lemmas.Result.{err_from_is_err_and}
 use Rattle.gpu_plan.specs.Plans.{PlanData, plan_of, RiseFrom}
 use Rattle.gpu_plan.specs.Passes.{flushes}
 use Rattle.gpu_plan.proofs.Passing.{flushes_within}
 use Rattle.gpu_journal.proofs.Following.{plan_here}
 use Rattle.verify_input.specs.Due.{Dump}
-use Rattle.verify_input.specs.Taking.{past_of}
-use Rattle.verify_input.proofs.Dues.{taking_none, taking_more, taking_bad, judged_exit, judged_all}
-use Rattle.verify_input.proofs.Lefts.{dumps_left, dumps_next, dumps_end}
+use Rattle.verify_input.proofs.Dues.{Begins, at_read, due_next, taking_none, taking_more, judged_exit, judged_all}
+use Rattle.verify_input.proofs.Lefts.{dumps_left}
 use Rattle.verify_input.proofs.Rising.{Next, next_of}
 use Rattle.verify_input.proofs.sections.take_dumps_of.Goals as goal
 use Rattle.verify_input.proofs.sections.take_dumps_of.Goals.{In-loop-dump, After-flushes_in-least}
@@ -24,7 +23,7 @@ loop-dump-init c =
       within = omega arith;
       least = refl;
       rising = subst (RiseFrom 0) (c.dumps-dump-items.ensures.value ∙ ap (λ (plan : PlanData). plan.dumps) (sym own)) c.dumps-dump-items.ensures.rising;
-      taking = taking_none p (past_of c.args.history) (map (λ dump. Dump s dump) (plan_of p s).dumps) c.args.rest.now;
+      taking = taking_none;
     }
 
 -- ---- the dump at hand
@@ -48,11 +47,12 @@ module _ (c : goal.In-loop-dump) where
       c.loop-dump.invariant.within c.loop-dump.invariant.rising
 
   -- its line is the next that is due
-  left : dumps_left c.args.stream plan.dumps c.loop-dump.dump-index ≡ (Dump c.args.stream dump ∷ []) ++ dumps_left c.args.stream plan.dumps (c.loop-dump.dump-index + 1)
+  left : Begins (dumps_left c.args.stream plan.dumps c.loop-dump.dump-index) (Dump c.args.stream dump ∷ []) (dumps_left c.args.stream plan.dumps (c.loop-dump.dump-index + 1))
   left =
       let same : c.dumps-dump-items.result.now ≡ plan.dumps = c.dumps-dump-items.ensures.value ∙ ap (λ (plan : PlanData). plan.dumps) (sym own) in
-      dumps_next c.args.stream plan.dumps c.loop-dump.dump-index dump (subst (λ (ds : List (ℕ × ℕ)). c.loop-dump.dump-index < length ds) same c.loop-dump-test.true)
-      (at ∙ ap (λ (ds : List (ℕ × ℕ)). get_or ds c.loop-dump.dump-index dump) same)
+      due_next (λ dump. Dump c.args.stream dump) (at_read plan.dumps c.loop-dump.dump-index dump
+      (subst (λ (ds : List (ℕ × ℕ)). c.loop-dump.dump-index < length ds) same c.loop-dump-test.true)
+      (at ∙ ap (λ (ds : List (ℕ × ℕ)). get_or ds c.loop-dump.dump-index dump) same))
 
   -- there are as many actions as the plan has
   many : length c.actions-left.result.now ≡ length plan.actions
@@ -99,42 +99,22 @@ overflow_add-least c =
 pub take_dump-requires : goal.take_dump-requires
 take_dump-requires c =
     let path = goal.at.take_dump-requires c in
-    let fewer = c.loop-dump.invariant.taking.taken.fewer in
-    record {
-      short = omega (arith, fewer, c.requires.short);
-      history = c.requires.history;
-      known = c.requires.known;
-      there = (next path.In-loop-dump).there;
-      least = counted path.After-flushes_in-least;
-    }
+    record { history = c.requires.history; known = c.requires.known; there = (next path.In-loop-dump).there; least = counted path.After-flushes_in-least }
 
 pub returns-in_err-take_dump : goal.returns-in_err-take_dump
 returns-in_err-take_dump c =
-    let p = c.args.history.plans.now in
-    let s = c.args.stream in
-    let h = past_of c.args.history in
-    let here = (goal.at.returns-in_err-take_dump c).In-loop-dump in
-    let dumps = (plan here).dumps in
-    let index = c.loop-dump.dump-index in
-    let all = map (λ dump. Dump s dump) dumps in
-    judged_exit p h all _ _ _ _ (err_from_is_err_and c.from_residual.result c.from_residual.ensures.1)
-    (taking_bad p h all (Dump s (dump here) ∷ []) (dumps_left s dumps (index + 1)) (dumps_left s dumps index) 0 c.args.rest.now c.loop-dump.rest _ (left here) c.loop-dump.invariant.taking c.in_err-take_dump.ensures.err)
+    judged_exit (err_from_is_err_and c.from_residual.result c.from_residual.ensures.1) (left (goal.at.returns-in_err-take_dump c).In-loop-dump) c.loop-dump.invariant.taking c.in_err-take_dump.ensures.err
 
 pub loop-dump-preserved : goal.loop-dump-preserved
 loop-dump-preserved c =
-    let p = c.args.history.plans.now in
-    let s = c.args.stream in
-    let h = past_of c.args.history in
     let path = goal.at.loop-dump-preserved c in
     let here = path.In-loop-dump in
-    let dumps = (plan here).dumps in
-    let index = c.loop-dump.dump-index in
     record {
       left = c.split_at.ensures.back ∙ ap (drop ((dump here).0 - c.loop-dump.done)) c.loop-dump.invariant.left ∙ (next here).left;
       within = (next here).within;
       least = counted path.After-flushes_in-least;
       rising = (next here).rising;
-      taking = taking_more p h (map (λ dump. Dump s dump) dumps) (Dump s (dump here) ∷ []) (dumps_left s dumps (index + 1)) (dumps_left s dumps index) 0 0 c.args.rest.now c.loop-dump.rest c.take_dump.new.rest (left here) c.loop-dump.invariant.taking c.in_ok-take_dump.ensures.ok;
+      taking = taking_more (left here) c.loop-dump.invariant.taking c.in_ok-take_dump.ensures.ok;
     }
 
 pub returns : goal.returns
@@ -143,5 +123,4 @@ returns c =
     let s = c.args.stream in
     let own = plan_here p s c.plan-plan.result.now c.requires.known.0 c.plan-plan.ensures in
     let same = ap length (c.dumps-dump-items.ensures.value ∙ ap (λ (plan : PlanData). plan.dumps) (sym own)) in
-    judged_all p (past_of c.args.history) (map (λ dump. Dump s dump) (plan_of p s).dumps) (dumps_left s (plan_of p s).dumps c.loop-dump.dump-index) c.args.rest.now c.loop-dump.rest _
-    (dumps_end s (plan_of p s).dumps c.loop-dump.dump-index (omega (arith, same))) c.loop-dump.invariant.taking
+    judged_all (ap (λ (left : List (ℕ × ℕ)). map (λ dump. Dump s dump) left) (drop_all c.loop-dump.dump-index (plan_of p s).dumps (omega (arith, same)))) c.loop-dump.invariant.taking

@@ -11,17 +11,15 @@ use Rattle.verify_input.proofs.whole.judge_all.Goals as goal
 
 pub take_rest-requires : goal.take_rest-requires
 take_rest-requires c =
-    let p = c.args.plans.now in
     let events = c.args.events.now in
-    let rules = subst (λ (ruling : Ruling). Rules p events ruling) c.in-Whole.is c.in_ok-followed.ensures in
+    let rules = subst (λ (ruling : Ruling). Rules c.args.plans.now events ruling) c.in-Whole.is c.in_ok-followed.ensures in
     let views = c.in_ok-views.ensures in
     record {
-      short = c.requires.short;
       history = record {
         whole = rules.0;
         followed = rules.1;
         ends = c.as_slice.ensures.value ∙ c.in_ok-ends.ensures ∙ ap (λ n. map (end_of (reverse events)) (range_with_len 1 n)) c.count.ensures.count;
-        few = c.requires.few;
+        few = c.requires;
       };
       few = omega (arith, views);
     }

@@ -1,7 +1,7 @@
 use Rattle.std.proofs.lemmas.Bool.Decides.{Decides-eqb}
 use Rattle.std.proofs.lemmas.Slice.Eq.{strip_prefix_is}
 use Rattle.verify_input.proofs.Heads.{stripped}
-use Rattle.verify_input.proofs.heading.behind_line.Goals as goal
+use Rattle.verify_input.proofs.cutting.behind_line.Goals as goal
 
 pub returns-clause-lines : goal.returns-clause-lines
 returns-clause-lines c =
