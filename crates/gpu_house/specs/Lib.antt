@@ -11,5 +11,6 @@ pub mod Laws
 pub mod Waiting
 pub mod Stuck
 pub mod Batches
+pub mod Fetching
 pub mod Stepping
 pub mod Committing

@@ -1,14 +1,14 @@
-ghost use Rattle.std.specs.Prelude.{◌≡◌, ◌≢◌, ◌++◌, false, length, None, option_map, IfSome, IfOk, IfErr, IsTrue, ◌↔◌};
+ghost use Rattle.std.specs.Prelude.{◌≡◌, option_map, IfOk, IfErr, IsTrue, ◌↔◌};
 ghost use Rattle.std.specs.List.{All};
-ghost use Rattle.gpu_cmd.specs.Copied.{copied, fetched_places, places_listed};
+ghost use Rattle.gpu_cmd.specs.Copied.{IsCopy};
 ghost use Rattle.gpu_cmd.specs.Lawful.{IsLawfulFacts};
-ghost use Rattle.gpu_fetch.specs.Side.{Fetches};
 ghost use Rattle.gpu_fetch.specs.Fetched.{IsFetched, FetchesSome};
 ghost use Rattle.house_core.specs.Core.{book_at};
 ghost use Rattle.gpu_house.specs.Names.{table_at};
 ghost use Rattle.gpu_house.specs.Slots.{RunFits};
 ghost use Rattle.gpu_house.specs.Changes.{met_by};
 ghost use Rattle.gpu_house.specs.Batches.{batch_words, AreChained, EndsExactly, FetchesInPart};
+ghost use Rattle.gpu_house.specs.Fetching.{CanFetch, HasMetNote, RunFetches};
 
 use crate::batch::Batch;
 use crate::meeting::meet;
@@ -103,31 +103,16 @@ impl<N: Naming, P: ServiceSide> Run<N, P> {
     ///
     /// `Memory`: the side has fetched the first of the places that were to be fetched.
     pub fn fetch(&mut self, words: &P::Words) -> Result<Fetched, Memory>
-        requires belongs { P.belongs self.old.side words.now }
-        requires note { IfSome self.old.note (P.note_belongs self.old.side words.now) }
-        requires more { self.old.run.facts.get ≢ self.old.run.facts.put }
-        requires going { self.old.run.paused ≡ false }
-        requires list { length (P.side self.old.side).fetched ≡ self.old.run.facts.fetched }
-        ensures run { self.new.run ≡ self.old.run }
-        ensures met { self.new.note ≡ None }
+        requires { CanFetch P.side P.belongs P.note_belongs words.now self.old }
+        ensures keeps { HasMetNote P.belongs P.note_belongs words.now self.old self.new }
         ensures facts { IfOk result (λ found. found.facts ≡ self.old.run.facts) }
-        ensures grows { IfOk result
-            (λ found. (P.side self.new.side).fetched
-            ≡ (P.side self.old.side).fetched ++ found.words) }
         ensures fetches { IfOk result
-            (λ found. Fetches (met_by (option_map P.mark self.old.note) (P.side self.old.side))
-            (P.side self.new.side) found.words) }
-        ensures places { IfOk result
-            (λ found. places_listed found.words ≡ fetched_places found.words self.old.run.facts) }
-        ensures verdict { IfOk result
-            (λ found. copied found.words self.old.run.facts ≡ found.verdict) }
-        ensures shows { IfOk result (λ found. All (P.shows words.now) found.words) }
+            (λ found. RunFetches P.side P.mark P.shows words.now self.old self.new found.words) }
+        ensures copy { IfOk result
+            (λ found. IsCopy found.words self.old.run.facts found.verdict) }
         ensures some { IfErr result
             (λ _. FetchesSome (met_by (option_map P.mark self.old.note) (P.side self.old.side))
             (P.side self.new.side) self.old.run.facts) }
-        ensures belongs { P.belongs self.new.side words.now }
-        ensures notes { (n : P.Note) → P.note_belongs self.old.side words.now n
-            → P.note_belongs self.new.side words.now n }
     {
         let Run {
             alloc,
@@ -147,29 +132,17 @@ impl<N: Naming, P: ServiceSide> Run<N, P> {
     ///
     /// `Memory`: the side has fetched the first of the places that were to be fetched. The run can then only be lost.
     pub fn fetch_batch(&mut self, words: &P::Words) -> Result<Batch, Memory>
-        requires belongs { P.belongs self.old.side words.now }
-        requires note { IfSome self.old.note (P.note_belongs self.old.side words.now) }
-        requires more { self.old.run.facts.get ≢ self.old.run.facts.put }
-        requires going { self.old.run.paused ≡ false }
-        requires list { length (P.side self.old.side).fetched ≡ self.old.run.facts.fetched }
-        ensures run { self.new.run ≡ self.old.run }
-        ensures met { self.new.note ≡ None }
+        requires { CanFetch P.side P.belongs P.note_belongs words.now self.old }
+        ensures keeps { HasMetNote P.belongs P.note_belongs words.now self.old self.new }
         ensures chained { IfOk result (AreChained self.old.run.facts) }
         ensures copies { IfOk result (All IsFetched) }
         ensures end { IfOk result EndsExactly }
-        ensures grows { IfOk result
-            (λ batch. (P.side self.new.side).fetched
-            ≡ (P.side self.old.side).fetched ++ batch_words batch) }
         ensures fetches { IfOk result
-            (λ batch. Fetches (met_by (option_map P.mark self.old.note) (P.side self.old.side))
-            (P.side self.new.side) (batch_words batch)) }
-        ensures shows { IfOk result (λ batch. All (P.shows words.now) (batch_words batch)) }
+            (λ batch. RunFetches P.side P.mark P.shows words.now self.old self.new
+            (batch_words batch)) }
         ensures some { IfErr result
             (λ _. FetchesInPart (met_by (option_map P.mark self.old.note) (P.side self.old.side))
             (P.side self.new.side) self.old.run.facts) }
-        ensures belongs { P.belongs self.new.side words.now }
-        ensures notes { (n : P.Note) → P.note_belongs self.old.side words.now n
-            → P.note_belongs self.new.side words.now n }
     {
         let Run {
             alloc,

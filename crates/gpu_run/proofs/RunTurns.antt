@@ -23,6 +23,7 @@ use Rattle.house_core.specs.Desks.{RunData, at_home}
 use Rattle.gpu_house.specs.Slots.{slot_at}
 use Rattle.gpu_house.specs.House.{OutData}
 use Rattle.gpu_house.specs.Changes.{CameDone, StillBelongs}
+use Rattle.gpu_house.specs.Fetching.{HasMetNote}
 use Rattle.gpu_house.specs.Steps.{Steps}
 use Rattle.gpu_house.specs.declared.answers.Next.{Next}
 use Rattle.gpu_house.specs.declared.answers.Next.TheVariants.{More, Paused, FlushEnd, Invalid, Lost, Closed}
@@ -90,13 +91,14 @@ has_finished p house new clients run w lawful played out runs its_words ends eve
 -- ---- a fetch
 
 pub fetched_with : (p : PlansData) (house : PlainHouse) (clients : List ClientData) (run new : OutData SideData ℕ) (words list : List (ℕ × ℕ)) (facts : StreamFacts) (verdict : Result Command CmdError) (w : PlainData) → IsOut p house clients run → done_at clients run.run.stream ≡ count p house.core.past run.run.stream
-    → w ≡ (client_at clients run.run.stream).words → run.run.facts.get ≢ run.run.facts.put → new.run ≡ run.run → new.note ≡ None → new.side.fetched ≡ run.side.fetched ++ words → All (IsHeld w) words → list ≡ words → facts ≡ run.run.facts → IsCopy list facts verdict
-    → IsBeside new.side w → ((n : ℕ) → IsNoteBeside run.side w n → IsNoteBeside new.side w n) → HasFetched p house clients new words
-fetched_with p house clients run new words list facts verdict w out there is more same met grows held listed its_facts copy beside notes =
+    → w ≡ (client_at clients run.run.stream).words → run.run.facts.get ≢ run.run.facts.put → HasMetNote IsBeside IsNoteBeside w run new → new.side.fetched ≡ run.side.fetched ++ words → All (IsHeld w) words → list ≡ words → facts ≡ run.run.facts → IsCopy list facts verdict
+    → HasFetched p house clients new words
+fetched_with p house clients run new words list facts verdict w out there is more has grows held listed its_facts copy =
     let mine = (client_at clients run.run.stream).words in
-    has_fetched p house clients run new words out there more same met grows (subst (λ (v : PlainData). All (IsHeld v) words) is held)
+    let still : StillBelongs IsBeside IsNoteBeside mine run.side new.side = subst (λ (v : PlainData). StillBelongs IsBeside IsNoteBeside v run.side new.side) is has.still in
+    has_fetched p house clients run new words out there more has.run has.met grows (subst (λ (v : PlainData). All (IsHeld v) words) is held)
     (subst (λ (f : StreamFacts). places_listed words ≡ fetched_places words f) its_facts (subst (λ (l : List (ℕ × ℕ)). places_listed l ≡ fetched_places l facts) listed copy.places))
-    (subst (IsBeside new.side) is beside) (λ n b. subst (λ (v : PlainData). IsNoteBeside new.side v n) is (notes n (subst (λ (v : PlainData). IsNoteBeside run.side v n) (sym is) b)))
+    still.beside still.notes
 
 -- the note that a fetch has met is met after the step
 pub stays_met : (side : SideData → SideData) (mark : ℕ → ℕ) (p : PlansData) (house new : PlainHouse) (run now : OutData SideData ℕ) (words : List (ℕ × ℕ)) (next : Next) → run.note ≡ None → Steps side mark p house new run now words next → now.note ≡ run.note

@@ -16,6 +16,7 @@ use Rattle.house_core.specs.Answers.{IsMovedBy}
 use Rattle.gpu_house.specs.Slots.{SlotData, slot_at}
 use Rattle.gpu_house.specs.House.{HouseData, OutData}
 use Rattle.gpu_house.specs.Changes.{Same, ResultsBelong}
+use Rattle.gpu_house.specs.Fetching.{HasMetNote}
 use Rattle.gpu_house.specs.Stepping.{KeepsBeside}
 use Rattle.gpu_house.specs.Steps.{Steps}
 use Rattle.gpu_house.specs.declared.answers.Next.{Next}
@@ -37,19 +38,18 @@ module _ {Side Note Results Words : Type 0} (belongs : Side → Words → Type 0
     pub all : AllBelong belongs note_belongs words out.side None (slot_at house.slots 1).notes
     pub results : ResultsBelong results_belong words house.results 1
 
-  pub fetched : (house : HouseData Side Note Results) (old new : OutData Side Note) (found : List (ℕ × ℕ)) → IsOut belongs note_belongs results_belong seen words house old → new.run ≡ old.run → new.note ≡ None → (seen new.side).fetched ≡ (seen old.side).fetched ++ found
-      → belongs new.side words → ((n : Note) → note_belongs old.side words n → note_belongs new.side words n) → HasFetched house new found
-  fetched house old new found out same met grows beside notes = record {
-    stream = ap (λ (r : RunData). r.stream) same ∙ out.stream;
-    going = ap (λ (r : RunData). r.paused) same ∙ out.going;
+  pub fetched : (house : HouseData Side Note Results) (old new : OutData Side Note) (found : List (ℕ × ℕ)) → IsOut belongs note_belongs results_belong seen words house old → HasMetNote belongs note_belongs words old new → (seen new.side).fetched ≡ (seen old.side).fetched ++ found → HasFetched house new found
+  fetched house old new found out has grows = record {
+    stream = ap (λ (r : RunData). r.stream) has.run ∙ out.stream;
+    going = ap (λ (r : RunData). r.paused) has.run ∙ out.going;
     count =
-        let facts : new.run.facts.fetched ≡ old.run.facts.fetched = ap (λ (r : RunData). r.facts.fetched) same in
+        let facts : new.run.facts.fetched ≡ old.run.facts.fetched = ap (λ (r : RunData). r.facts.fetched) has.run in
         let l = ap length grows in
         let sum = length-append (seen old.side).fetched found in
         let was = out.list in
         omega (arith, l, sum, was, facts);
-    met = met;
-    all = still belongs note_belongs results_belong words old.side new.side old.note (slot_at house.slots 1).notes record { beside = beside; notes = notes } out.all;
+    met = has.met;
+    all = still belongs note_belongs results_belong words old.side new.side old.note (slot_at house.slots 1).notes has.still out.all;
     results = out.results;
   }
 

@@ -16,8 +16,8 @@ stepped g c more answer =
     let e = c.in_ok-fetched.ensures in
     let t = c.in_ok-step.ensures in
     let its_words = words_are p c.args.clients.now run.run.stream c.stream.result c.index-clients-stream.result w q.out.is_known q.out.many.as_clients c.stream.ensures c.index-clients-stream.is c.words-words.ensures in
-    let has = fetched_with p c.args.house.now c.args.clients.now run c.fetch.new.self c.in_ok-fetched.fetched.words c.words.result.now c.in_ok-fetched.fetched.facts c.in_ok-fetched.fetched.verdict w q.out q.there its_words q.more e.run e.met e.grows e.shows c.words.ensures.value e.facts c.words.ensures.copy e.belongs e.notes in
-    stepped_with p c.args.house.now c.step.new.self c.args.clients.now run c.fetch.new.self c.step.new.run c.in_ok-fetched.fetched.words w c.in_ok-step.field-0.next more q.lawful q.played q.runs has e.run e.met its_words _ _ t.steps.steps t.keeps.slots t.keeps.still t.keeps.list answer
+    let has = fetched_with p c.args.house.now c.args.clients.now run c.fetch.new.self c.in_ok-fetched.fetched.words c.words.result.now c.in_ok-fetched.fetched.facts c.in_ok-fetched.fetched.verdict w q.out q.there its_words q.more e.keeps e.fetches.grows e.fetches.found c.words.ensures.value e.facts c.words.ensures.copy in
+    stepped_with p c.args.house.now c.step.new.self c.args.clients.now run c.fetch.new.self c.step.new.run c.in_ok-fetched.fetched.words w c.in_ok-step.field-0.next more q.lawful q.played q.runs has e.keeps.run e.keeps.met its_words _ _ t.steps.steps t.keeps.slots t.keeps.still t.keeps.list answer
 
 pub returns-in-More : goal.returns-in-More
 returns-in-More g c = stepped g (goal.at.returns-in-More g c).In_ok-step true (sym (ap goes_further (sym c.into_next.ensures ∙ c.in-More.is)))

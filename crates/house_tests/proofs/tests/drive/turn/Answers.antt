@@ -12,7 +12,7 @@ has g c =
     let e = c.in-Ok.ensures in
     let t = c.in-Ok-step.ensures in
     let found = c.in-Ok.fetched.words in
-    let mid = fetched S.belongs S.note_belongs S.results_belong S.side c.args.words.now c.args.house.now c.args.run c.fetch.new.self found c.requires e.run e.met e.grows e.belongs e.notes in
+    let mid = fetched S.belongs S.note_belongs S.results_belong S.side c.args.words.now c.args.house.now c.args.run c.fetch.new.self found c.requires e.keeps e.fetches.grows in
     stepped S.belongs S.note_belongs S.results_belong S.side c.args.words.now g.N.Naming.plans c.args.house.now c.step.new.self c.fetch.new.self c.step.new.run found mid t.keeps _ c.in-Ok-step.progress.next t.steps.steps
 
 -- a run that goes on

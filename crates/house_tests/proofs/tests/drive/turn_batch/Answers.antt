@@ -15,7 +15,7 @@ has g c on =
     let e = c.in-Ok.ensures in
     let t = c.in-Ok-step_batch.ensures in
     let batch = c.in-Ok.batch in
-    let mid = fetched S.belongs S.note_belongs S.results_belong S.side c.args.words.now c.args.house.now c.args.run c.fetch_batch.new.self (batch_words batch) c.requires e.run e.met e.grows e.belongs e.notes in
+    let mid = fetched S.belongs S.note_belongs S.results_belong S.side c.args.words.now c.args.house.now c.args.run c.fetch_batch.new.self (batch_words batch) c.requires e.keeps e.fetches.grows in
     committed S.belongs S.note_belongs S.results_belong S.side c.args.words.now g.N.Naming.plans record { house = c.args.house.now; out = c.fetch_batch.new.self; drawn = c.args.drawn.now.items } record { house = c.step_batch.new.self; out = c.step_batch.new.run; drawn = c.step_batch.new.drawn.items } (member_words batch)
     mid.stream mid.all t.keeps S.mark c.in-Ok-step_batch.next t.commits t.ready on
 
