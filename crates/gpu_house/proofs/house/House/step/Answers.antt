@@ -72,11 +72,8 @@ seen g c F f =
 stays : (g : Over) (c : goal.After-step g) → Stays c.self.inside.core c.step.new.self
     → HouseInvariant g.P.ServiceSide.side g.P.ServiceSide.table g.P.ServiceSide.mark g.P.ServiceSide.note_of g.P.ServiceSide.takes g.P.ServiceSide.written g.P.ServiceSide.results_of g.N.Naming.plans g.N.Naming.base g.N.Naming.words g.N.Naming.books g.N.Naming.result_words c.take_room.new.hooks record { core = c.step.new.self; slots = c.self.inside.slots.items; results = c.self.inside.results.items }
 stays g c same =
-    let slots = c.self.inside.slots.items in
-    let results = c.self.inside.results.items in
     let room = c.take_room.ensures in
-    kept_still g.P.ServiceSide.side g.P.ServiceSide.table g.P.ServiceSide.mark g.P.ServiceSide.note_of g.P.ServiceSide.takes g.P.ServiceSide.written g.P.ServiceSide.results_of g.N.Naming.plans g.N.Naming.base g.N.Naming.words g.N.Naming.books g.N.Naming.result_words c.self.inside.hooks c.take_room.new.hooks
-    record { core = c.self.inside.core; slots = slots; results = results } record { core = c.step.new.self; slots = slots; results = results } c.self.invariant same refl refl room.base room.marks room.grows
+    kept_still _ _ _ _ _ _ _ _ _ _ _ _ c.self.inside.hooks _ _ _ c.self.invariant same refl refl room.base room.marks room.grows
 
 -- memory ran out for the step
 pub invariant_of-self-in_err-step : goal.invariant_of-self-in_err-step
@@ -143,35 +140,25 @@ tell-requires-clause-takes g c =
 
 pub invariant_of-self-in-Invalid : goal.invariant_of-self-in-Invalid
 invariant_of-self-in-Invalid g c =
+    let S = g.P.ServiceSide in
     let p = g.N.Naming.plans in
-    let takes = g.P.ServiceSide.takes in
-    let told = g.P.ServiceSide.written in
-    let results_of = g.P.ServiceSide.results_of in
-    let answers = table_at g.N.Naming.result_words in
-    let core = c.self.inside.core in
+    let h = c.self.inside.core.past in
     let now = c.step.new.self in
     let s = c.run.inside.carried.stream in
     let why = Error c.in-Invalid.error in
     let words = c.args.fetched.words in
-    let slots = c.self.inside.slots.items in
     let results = c.self.inside.results.items in
     let was = c.self.invariant in
     let is = refused g (goal.at.invariant_of-self-in-Invalid g c).In-Invalid in
     let grows = is.event in
-    kept g.P.ServiceSide.side g.P.ServiceSide.table g.P.ServiceSide.mark g.P.ServiceSide.note_of takes told results_of p g.N.Naming.base g.N.Naming.words g.N.Naming.books g.N.Naming.result_words c.self.inside.hooks c.follow.new.hooks
-    record { core = core; slots = slots; results = results } record { core = now; slots = slots; results = results } was
-    c.holds.ensures grows.plans grows.books (subst (λ (b : ℕ). AreMarked now.plans b now.past c.follow.new.hooks) c.take_room.ensures.base c.follow.ensures) refl
-    (ended_homes g.P.ServiceSide.side g.P.ServiceSide.table g.P.ServiceSide.mark g.P.ServiceSide.note_of p (table_at g.N.Naming.words) core now (Lost s why words) slots grows.past is.outs (lost_ends p core.past s why words) was.homes)
-    refl
-    (subst (λ (h : List Event). AllFit takes told results_of answers p h results) (sym grows.past) (all_still takes told results_of answers p (Lost s why words) core.past results (λ s. refl) was.results))
+    kept _ _ _ _ _ _ _ _ _ _ _ _ c.self.inside.hooks _ _ _ was c.holds.ensures grows.plans grows.books (subst (λ (b : ℕ). AreMarked now.plans b now.past c.follow.new.hooks) c.take_room.ensures.base c.follow.ensures) refl
+    (ended_homes _ _ _ _ _ _ c.self.inside.core now (Lost s why words) c.self.inside.slots.items grows.past is.outs (lost_ends p h s why words) was.homes) refl
+    (subst (λ (h : List Event). AllFit S.takes S.written S.results_of (table_at g.N.Naming.result_words) p h results) (sym grows.past) (all_still S.takes S.written S.results_of (table_at g.N.Naming.result_words) p (Lost s why words) h results (λ s. refl) was.results))
 
 pub invariant_of-self-2 : goal.invariant_of-self-2
 invariant_of-self-2 g c =
+    let S = g.P.ServiceSide in
     let p = g.N.Naming.plans in
-    let takes = g.P.ServiceSide.takes in
-    let told = g.P.ServiceSide.written in
-    let results_of = g.P.ServiceSide.results_of in
-    let answers = table_at g.N.Naming.result_words in
     let core = c.self.inside.core in
     let now = c.step.new.self in
     let run = c.run.inside.carried in
@@ -180,26 +167,21 @@ invariant_of-self-2 g c =
     let path = goal.at.invariant_of-self-2 g c in
     let there = path.After-stream-stream in
     let words = c.args.fetched.words in
-    let slots = c.self.inside.slots.items in
     let results = c.self.inside.results.items in
-    let results' = slice_set results (t - 1) c.tell.new.results in
     let was = c.self.invariant in
     let is = made g path.In-Done in
     let own = is.stepped in
     let grows = own.event in
-    let open' = is.still_open in
-    let positive = order_positive core.plans core.past run (c.in_ok-step.ensures.shows open') in
+    let positive = order_positive core.plans core.past run (c.in_ok-step.ensures.shows is.still_open) in
     let wrote : writes_told c.in-Done.acted.effect ≡ writes (plan_of p s).areas words (state_of p core.past s) = subst (λ (q : PlansData). writes_told c.in-Done.acted.effect ≡ writes (plan_of q s).areas words (state_of q core.past s)) was.plans own.acted.writes in
-    kept g.P.ServiceSide.side g.P.ServiceSide.table g.P.ServiceSide.mark g.P.ServiceSide.note_of takes told results_of p g.N.Naming.base g.N.Naming.words g.N.Naming.books g.N.Naming.result_words c.self.inside.hooks c.follow-2.new.hooks
-    record { core = core; slots = slots; results = results } record { core = now; slots = slots; results = results' } was
-    c.holds-2.ensures grows.plans grows.books (subst (λ (b : ℕ). AreMarked now.plans b now.past c.follow-2.new.hooks) c.take_room.ensures.base c.follow-2.ensures) refl
-    (stepped_homes g.P.ServiceSide.side g.P.ServiceSide.table g.P.ServiceSide.mark g.P.ServiceSide.note_of p (table_at g.N.Naming.words) core now slots s words record { order = run.order; paused = c.in-Done.acted.kept } c.run.invariant.of_plans.known.0 grows.past own.outs
-    (ap (λ (q : PlansData). is_open (standing_of q core.past s)) (sym was.plans) ∙ open') (is_out core.outs s record { order = run.order; paused = false } c.in_ok-step.ensures.out positive)
+    kept _ _ _ _ _ _ _ _ _ _ _ _ c.self.inside.hooks _ _ _ was c.holds-2.ensures grows.plans grows.books (subst (λ (b : ℕ). AreMarked now.plans b now.past c.follow-2.new.hooks) c.take_room.ensures.base c.follow-2.ensures) refl
+    (stepped_homes _ _ _ _ _ _ core now c.self.inside.slots.items s words record { order = run.order; paused = c.in-Done.acted.kept } c.run.invariant.of_plans.known.0 grows.past own.outs
+    (ap (λ (q : PlansData). is_open (standing_of q core.past s)) (sym was.plans) ∙ is.still_open) (is_out core.outs s record { order = run.order; paused = false } c.in_ok-step.ensures.out positive)
     (ap (λ (row : List Out). is_home row s) own.outs ∙ stays_out core.outs s run.order false c.in-Done.acted.kept c.in_ok-step.ensures.out positive) was.homes)
     (length-set results (t - 1) c.tell.new.results)
-    (subst (λ (h : List Event). AllFit takes told results_of answers p h results') (sym grows.past)
-    (all_more takes told results_of answers p (Step s words) core.past results t c.tell.new.results c.index_mut.result.now (its g there) (known g there) c.index_mut.ensures.value
-    (c.tell.ensures.written ∙ ap (λ list. told_more (told c.index_mut.result.now) (writes_of list)) wrote) c.tell.ensures.takes c.tell.ensures.named was.results))
+    (subst (λ (h : List Event). AllFit S.takes S.written S.results_of (table_at g.N.Naming.result_words) p h (slice_set results (t - 1) c.tell.new.results)) (sym grows.past)
+    (all_more S.takes S.written S.results_of (table_at g.N.Naming.result_words) p (Step s words) core.past results t c.tell.new.results c.index_mut.result.now (its g there) (known g there) c.index_mut.ensures.value
+    (c.tell.ensures.written ∙ ap (λ list. told_more (S.written c.index_mut.result.now) (writes_of list)) wrote) c.tell.ensures.takes c.tell.ensures.named was.results))
 
 -- ---- the run
 
