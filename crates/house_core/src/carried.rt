@@ -1,18 +1,19 @@
 ghost use Rattle.std.specs.Prelude.{◌≡◌, ◌↔◌, ◌==◌, ◌<◌, ◌+◌, ◌%◌, ◌^◌, false, IsTrue, IfOk, OnOk, OnErr};
 ghost use Rattle.gpu_cmd.specs.Lawful.{IsLawfulFacts};
 ghost use Rattle.house_core.specs.Desks.{Agree, at_home, run_of};
+ghost use Rattle.gpu_journal.specs.World.{greatest_after};
 ghost use Rattle.step_parts.specs.Executing.{areas_of, IsReady, Executes};
 ghost use Rattle.house_core.specs.Stepping.{stepped_desk};
 ghost use Rattle.stream_state.specs.State.{facts_of};
 
-use crate::desk::Desk;
+use crate::desk::{Desk, note, numbers};
 use gpu_books::Half;
 use gpu_cmd::StreamFacts;
 use gpu_plan::Plan;
 use gpu_word::Memory;
 use std::marker::Model;
-use step_parts::{Acted, Scene, Taken};
-use stream_state::StreamState;
+use step_parts::{Acted, Scene, Taken, act};
+use stream_state::{Effect, StreamState};
 
 /// What a run carries outside the lock.
 #[derive(Drop)]
@@ -71,6 +72,16 @@ fn refresh(facts: &mut StreamFacts, state: &StreamState)
 {
     facts.get = (state.entries() % u64::from(facts.areas.ring)) as u32;
     facts.fetched = state.fetched();
+}
+
+// The greatest token of a stream after a step that asked for this effect.
+fn greatest_after(effect: &Effect, greatest: u32) -> u32
+    ensures { result ≡ greatest_after effect.now greatest }
+{
+    match effect {
+        Effect::Token(token) => (*token).max(greatest),
+        _ => greatest,
+    }
 }
 
 impl Carried {
@@ -174,7 +185,7 @@ impl Carried {
         }
     }
 
-    /// The run executes the command that was taken for it.
+    /// The run executes the command that was taken for it. Its desk and both halves of the book go on with it.
     pub fn step(
         &mut self,
         desk: &mut Desk,
@@ -196,11 +207,17 @@ impl Carried {
         ensures same_desk { OnErr result (desk.new ≡ desk.old) }
         ensures same_run { OnErr result (self.new ≡ self.old) }
     {
-        let acted = desk.step(&mut self.half, scene, taken)?;
-        self.entries = desk.state().entries();
-        refresh(&mut self.facts, desk.state());
-        self.greatest = desk.greatest();
-        self.paused = acted.kept;
+        let acted = act(scene, &mut desk.state, taken)?;
+        let paused = acted.kept;
+        let greatest = greatest_after(&acted.effect, desk.greatest);
+        let numbers = numbers(&desk.state, desk.finished, greatest, desk.out, paused);
+        note(&desk.book, &mut desk.kept, &mut self.half, &numbers);
+        desk.greatest = greatest;
+        desk.paused = paused;
+        self.entries = desk.state.entries();
+        refresh(&mut self.facts, &desk.state);
+        self.greatest = greatest;
+        self.paused = paused;
         Ok(acted)
     }
 }

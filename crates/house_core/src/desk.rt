@@ -1,39 +1,35 @@
-ghost use Rattle.std.specs.Prelude.{◌≡◌, ◌↔◌, ◌==◌, ◌&&◌, ◌+◌, ◌<◌, ◌≤◌, ◌^◌, [], ◌∷◌, true, false, length, slice_get, Some, IsTrue, IfOk, OnOk, OnErr};
+ghost use Rattle.std.specs.Prelude.{◌≡◌, ◌↔◌, ◌==◌, ◌&&◌, ◌+◌, ◌<◌, ◌≤◌, ◌^◌, [], ◌∷◌, true, false, length, slice_get, Some, IsTrue};
 ghost use Rattle.gpu_books.specs.Seen.{blank_half};
 ghost use Rattle.gpu_plan.specs.declared.plan.Action.TheVariants.{Close};
 ghost use Rattle.gpu_plan.specs.Passes.{bound};
 ghost use Rattle.house_core.specs.Walks.{HasWalked};
 ghost use Rattle.house_core.specs.Desks.{DeskData, at_home, fresh_desk, book_numbers, kept_half};
-ghost use Rattle.step_parts.specs.Executing.{IsReady, Executes};
-ghost use Rattle.house_core.specs.Stepping.{stepped_desk};
 
 use crate::walk::Walk;
 use gpu_books::{Book, Half, agree, set};
 use gpu_plan::Action;
-use gpu_word::Memory;
 use std::alloc::Global;
 use std::marker::Model;
-use step_parts::{Acted, Scene, Taken, act};
-use stream_state::{Effect, StreamState};
+use stream_state::StreamState;
 
 /// What the house keeps of one stream beside its waits.
 ///
 /// The book has one half here. The other lies here too while no run of the stream is out, and else with that run.
 #[derive(Drop)]
 pub struct Desk {
-    book: Book,
-    kept: Half,
+    pub(crate) book: Book,
+    pub(crate) kept: Half,
     home: Option<Half>,
     places: Vec<u32>,
     pub(crate) state: StreamState,
     ordered: u32,
-    finished: u32,
-    greatest: u32,
+    pub(crate) finished: u32,
+    pub(crate) greatest: u32,
     lost: bool,
     closed: bool,
     walk: Walk,
-    out: u32,
-    paused: bool,
+    pub(crate) out: u32,
+    pub(crate) paused: bool,
 }
 
 impl Model for Desk {
@@ -69,8 +65,14 @@ impl Model for Desk {
         } };
 }
 
-// The numbers of a book whose run that is out has this order, or none where it is 0.
-fn numbers(state: &StreamState, finished: u32, greatest: u32, order: u32, paused: bool) -> [u64; 6]
+/// The numbers of a book whose run that is out has this order, or none where it is 0.
+pub(crate) fn numbers(
+    state: &StreamState,
+    finished: u32,
+    greatest: u32,
+    order: u32,
+    paused: bool,
+) -> [u64; 6]
     ensures { result
         ≡ book_numbers state.now.entries state.now.fetched finished greatest
         record { order = order; paused = paused } }
@@ -85,8 +87,8 @@ fn numbers(state: &StreamState, finished: u32, greatest: u32, order: u32, paused
     ]
 }
 
-// Both halves of the book have these numbers then.
-fn note(book: &Book, kept: &mut Half, half: &mut Half, numbers: &[u64; 6])
+/// Both halves of the book have these numbers then.
+pub(crate) fn note(book: &Book, kept: &mut Half, half: &mut Half, numbers: &[u64; 6])
     requires kept { kept.old.book ≡ book.now }
     requires half { half.old.book ≡ book.now }
     ensures kept { kept.new ≡ record { book = book.now; numbers = numbers.now } }
@@ -282,40 +284,5 @@ impl Desk {
         self.home = Some(half);
         self.out = 0;
         self.paused = false;
-    }
-
-    /// The run that is out executes the command that was taken for it.
-    pub fn step(
-        &mut self,
-        half: &mut Half,
-        scene: &mut Scene,
-        taken: &Taken<'_>,
-    ) -> Result<Acted, Memory>
-        requires book { half.old.book ≡ self.old.book }
-        requires out { 0 < self.old.out.order }
-        requires ready { IsReady taken.now scene.old.sync self.old.state }
-        ensures executes { IfOk result
-            (Executes taken.now scene.old scene.new self.old.state self.new.state) }
-        ensures desk { IfOk result
-            (λ acted. self.new ≡ stepped_desk self.new.state acted self.old) }
-        ensures half { OnOk result (half.new ≡ kept_half self.new) }
-        ensures same_scene { OnErr result (scene.new ≡ scene.old) }
-        ensures same_desk { OnErr result (self.new ≡ self.old) }
-        ensures same_half { OnErr result (half.new ≡ half.old) }
-    {
-        let acted = act(scene, &mut self.state, taken)?;
-        if let Effect::Token(token) = &acted.effect {
-            self.greatest = self.greatest.max(*token);
-        }
-        self.paused = acted.kept;
-        let numbers = numbers(
-            &self.state,
-            self.finished,
-            self.greatest,
-            self.out,
-            acted.kept,
-        );
-        note(&self.book, &mut self.kept, half, &numbers);
-        Ok(acted)
     }
 }
