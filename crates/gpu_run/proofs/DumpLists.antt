@@ -4,10 +4,10 @@ use Rattle.std.specs.Prelude.{slice_get}
 use Rattle.std.specs.List.{range_with_len}
 use Rattle.std.specs.Result.{OnOk}
 use Rattle.std.proofs.lemmas.Bool.{ne_eqb, eq-eqb}
-use Rattle.std.proofs.lemmas.List.{map-append, append-nil, append_assoc, length-append, drop_more}
+use Rattle.std.proofs.lemmas.List.{append-nil, append_assoc, length-append, drop_more}
+use Rattle.std.proofs.lemmas.List.FromFn.{map-range_with_len_more}
 use Rattle.std.proofs.lemmas.Option.{slice_get_past, slice_get-get_or}
 use Rattle.std.proofs.Math.Seq.{get_or-append_seam}
-use Rattle.gpu_journal.proofs.Rows.{range_more}
 use Rattle.gpu_run.specs.Clients.{ClientData, no_client, client_at}
 use Rattle.gpu_run.specs.Reading.{dump_now, read_with, read_left}
 
@@ -56,8 +56,7 @@ left_further dumps read now all result dump value lt here is pushed old =
 -- one stream more
 pub one_more : {X : Type 0} (f : ℕ → X) (n : ℕ) (all now : List X) (x : X) → all ≡ map f (range_with_len 1 n) → x ≡ f (n + 1) → now ≡ all ++ x ∷ [] → now ≡ map f (range_with_len 1 (n + 1))
 one_more f n all now x old is pushed =
-    let last : 1 + n ≡ n + 1 = omega arith in
-    pushed ∙ ap (λ l. l ++ x ∷ []) old ∙ ap (λ (y : _). map f (range_with_len 1 n) ++ y ∷ []) (is ∙ ap f (sym last)) ∙ sym (map-append f (range_with_len 1 n) ((1 + n) ∷ [])) ∙ ap (map f) (sym (range_more 1 n))
+    pushed ∙ ap (λ l. l ++ x ∷ []) old ∙ ap (λ (y : _). map f (range_with_len 1 n) ++ y ∷ []) is ∙ sym (map-range_with_len_more f 1 n (n + 1) (omega arith))
 
 -- the next of a row is the client of the stream that is next
 pub next_client : (clients yielded rest left : List ClientData) (client : ClientData) (s : ℕ) → clients ≡ yielded ++ left → left ≡ client ∷ rest → s ≡ length yielded → (client_at clients (s + 1) ≡ client) × (s < length clients)

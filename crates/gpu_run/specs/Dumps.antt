@@ -2,7 +2,7 @@
 use Rattle.std.specs.Prelude.{ℕ, List, map}
 use Rattle.gpu_plan.specs.Plans.{PlansData}
 use Rattle.gpu_journal.specs.declared.event.Event.{Event}
-use Rattle.gpu_journal.specs.Output.{streams_of}
+use Rattle.gpu_journal.specs.Ended.{streams_of}
 use Rattle.gpu_journal.specs.Written.{result_at}
 use Rattle.gpu_journal.specs.Dumps.{dumps_of, passed_at}
 

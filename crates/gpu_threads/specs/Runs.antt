@@ -3,7 +3,7 @@ use Rattle.std.specs.Prelude.{◌≡◌, ℕ}
 use Rattle.gpu_plan.specs.Plans.{PlansData}
 use Rattle.gpu_journal.specs.Legal.{IsLegal}
 use Rattle.gpu_journal.specs.Complete.{IsComplete}
-use Rattle.gpu_journal.specs.Output.{streams_of}
+use Rattle.gpu_journal.specs.Ended.{streams_of}
 use Rattle.gpu_threads.specs.declared.threaded_run.ThreadedRun.{ThreadedRun}
 use Rattle.gpu_threads.specs.Dumps.{AreAllRead}
 use Rattle.gpu_threads.specs.Views.{AreAllLooks}

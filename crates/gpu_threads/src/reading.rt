@@ -3,7 +3,7 @@ ghost use Rattle.std.specs.Prelude.{◌≡◌, ◌↔◌, length, IfOk, IsTrue};
 ghost use Rattle.std.specs.List.{All};
 ghost use Rattle.sync_core.specs.Standing.{IsKnown};
 ghost use Rattle.gpu_journal.specs.Dumps.{dumps_of};
-ghost use Rattle.gpu_journal.specs.Output.{streams_of};
+ghost use Rattle.gpu_journal.specs.Ended.{streams_of};
 ghost use Rattle.gpu_threads.specs.Clients.{IsClientOf, AreClientsOf};
 ghost use Rattle.gpu_threads.specs.Dumps.{AreRead, AreAllRead, IsThrough};
 ghost use Rattle.gpu_threads.specs.Rows.{AreWordsOf};

@@ -30,8 +30,8 @@ use Rattle.gpu_journal.specs.Waits.{IsOpen, left_of, pending_in, drawn}
 use Rattle.gpu_journal.specs.Facts.{flush_of, facts_at, verdict_at, reach}
 use Rattle.gpu_journal.specs.Legal.{MayHaveBeenPut, MayClose, IsLegal}
 use Rattle.gpu_journal.specs.Serial.{is_close}
-use Rattle.gpu_journal.proofs.Telling.{error_of, error_back}
 use Rattle.gpu_journal.proofs.Worlds.{known_of_left}
+use Rattle.gpu_journal.proofs.Errors.{same_error}
 use Rattle.serial_laws.specs.Scripts.{AreLawfulPlans}
 use Rattle.serial_laws.proofs.Fitting.{first_some}
 use Rattle.serial_laws.proofs.Obeying.{close_of}
@@ -190,9 +190,6 @@ step_judged p h s words (Valid command) found =
 step_judged p h s words (Refused error) found =
     let x = found.0 in
     (tt, (tt, (tt, (x.some, (x.free, (x.reached, ((x.more, x.places), (x.held, no_ok (verdict_at p h s words) error found.1))))))))
-
-same_error : (a b : CmdError) → code_of a ≡ code_of b → a ≡ b
-same_error a b e = sym (error_back a) ∙ ap error_of e ∙ error_back b
 
 lost_judged : (p : PlansData) (h : List Event) (s : ℕ) (error : CmdError) (words : List (ℕ × ℕ)) (outcome : Outcome) → IsFound p h s words (verdict_at p h s words ≡ Err error) outcome → IsJudged p h (Lost s (Error error) words) (lost_fault error outcome)
 lost_judged p h s error words (Broken rule) found = found

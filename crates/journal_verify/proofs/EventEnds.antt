@@ -3,7 +3,7 @@ use Rattle.std.proofs.Common.{◌≡◌, ℕ, ◌+◌, ◌<◌, List, [], ◌∷
 use Rattle.std.proofs.lemmas.List.{take_more, reverse-append}
 use Rattle.gpu_journal.specs.declared.event.Event.{Event}
 use Rattle.gpu_journal.specs.declared.event.Event.TheVariants.{Order, Step, Finish, Lost, Close}
-use Rattle.gpu_journal.specs.Output.{end_of}
+use Rattle.gpu_journal.specs.Ended.{end_of}
 use Rattle.journal_verify.specs.Ends.{end_after}
 
 step : (e : Event) (h : List Event) (s : ℕ) → end_of (e ∷ h) s ≡ end_after e s (end_of h s)

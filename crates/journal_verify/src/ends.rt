@@ -1,7 +1,7 @@
 ghost use Rattle.std.specs.Prelude.{◌≡◌, ℕ, ◌+◌, ◌<◌, ◌==◌, if◌then◌else◌, map, reverse, length, slice_index_or, IfOk};
 ghost use Rattle.std.specs.List.{range_with_len};
 ghost use Rattle.gpu_journal.specs.declared.end.End.TheVariants.{Done};
-ghost use Rattle.gpu_journal.specs.Output.{end_of};
+ghost use Rattle.gpu_journal.specs.Ended.{end_of};
 ghost use Rattle.journal_verify.specs.Ends.{end_after};
 
 use gpu_journal::{End, Event};

@@ -7,13 +7,13 @@ use Rattle.std.proofs.lemmas.Option.{slice_get-get_or}
 use Rattle.gpu_store.specs.Picture.{Picture, row_of}
 use Rattle.gpu_cmd.specs.declared.name.Name.{Name}
 use Rattle.gpu_plan.specs.Plans.{PlansData, PlanData, plan_of, no_plan}
-use Rattle.gpu_journal.specs.Text.{tally_of, stream_text}
-use Rattle.gpu_journal.specs.Picture.{head_text, row_text}
-use Rattle.gpu_journal.specs.Lines.{journal_head, name_text}
 use Rattle.gpu_journal.specs.World.{state_of}
-use Rattle.gpu_journal.specs.Output.{streams_of, end_of}
+use Rattle.gpu_journal.specs.Ended.{streams_of, end_of}
 use Rattle.gpu_journal.specs.declared.end.End.TheVariants.{Done}
 use Rattle.gpu_journal.specs.declared.event.Event.{Event}
+use Rattle.journal_text.specs.Text.{tally_of, stream_text}
+use Rattle.journal_text.specs.Picture.{head_text, row_text}
+use Rattle.journal_text.specs.Lines.{journal_head, name_text}
 use Rattle.run_output.specs.Parts.{heads, streams, image_lines}
 
 -- the line of each of n numbers from 1 on, after a first line

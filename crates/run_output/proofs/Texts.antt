@@ -10,18 +10,19 @@ use Rattle.std.proofs.lemmas.List.FromFn.{length-range_with_len}
 use Rattle.gpu_store.specs.Picture.{Picture, row_of}
 use Rattle.gpu_store.specs.Images.{Pictures, picture_of}
 use Rattle.gpu_store.proofs.Lookups.{Stands}
-use Rattle.gpu_journal.specs.Picture.{head_text as image_head, row_text, image_text, picture_text}
-use Rattle.gpu_journal.specs.Dumps.{dump_line, dumps_of, dump_lines}
+use Rattle.gpu_journal.specs.Dumps.{dumps_of}
+use Rattle.journal_text.specs.Picture.{head_text as image_head, row_text, image_text, picture_text}
 use Rattle.gpu_run.specs.Dumps.{dump_read, dumps_read, all_dumps}
 use Rattle.gpu_plan.specs.Plans.{PlansData, plan_of}
 use Rattle.live_view.specs.declared.look.Look.{Look}
 use Rattle.wait_hooks.specs.Marks.{mark}
 use Rattle.gpu_journal.specs.declared.event.Event.{Event}
-use Rattle.gpu_journal.specs.Text.{event_text, journal_text, tally_of, stream_text}
-use Rattle.gpu_journal.specs.Lines.{journal_head, name_text, mark_text}
 use Rattle.gpu_journal.specs.World.{state_of}
 use Rattle.gpu_journal.specs.Waits.{endings_in}
-use Rattle.gpu_journal.specs.Output.{streams_of, end_of, head_lines, stream_lines, mark_lines, output}
+use Rattle.gpu_journal.specs.Ended.{streams_of, end_of}
+use Rattle.journal_text.specs.Text.{event_text, journal_text, tally_of, stream_text}
+use Rattle.journal_text.specs.Lines.{journal_head, name_text, mark_text}
+use Rattle.journal_text.specs.Output.{head_lines, stream_lines, mark_lines, output, dump_line, dump_lines}
 use Rattle.run_output.specs.declared.output.Section.{Section}
 use Rattle.run_output.specs.declared.output.Section.TheVariants.{Names, Journal, Images, Streams, Marks, Dumps, Looks}
 use Rattle.run_output.specs.Runs.{OutputData, section_text, behind_text, run_text}

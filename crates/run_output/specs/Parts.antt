@@ -6,13 +6,13 @@ use Rattle.gpu_store.specs.Picture.{Picture, row_of}
 use Rattle.gpu_plan.specs.Plans.{PlansData, plan_of}
 use Rattle.wait_hooks.specs.Marks.{mark}
 use Rattle.gpu_journal.specs.declared.event.Event.{Event}
-use Rattle.gpu_journal.specs.Text.{words_of, tally_of, stream_text}
-use Rattle.gpu_journal.specs.Picture.{head_text, row_text}
-use Rattle.gpu_journal.specs.Lines.{journal_head, name_text, mark_text, dump_text, view_text}
+use Rattle.journal_text.specs.Text.{words_of, tally_of, stream_text}
+use Rattle.journal_text.specs.Picture.{head_text, row_text}
+use Rattle.journal_text.specs.Lines.{journal_head, name_text, mark_text, dump_text, view_text}
 use Rattle.live_view.specs.declared.look.Look.{Look}
 use Rattle.gpu_journal.specs.World.{state_of}
 use Rattle.gpu_journal.specs.Waits.{endings_in}
-use Rattle.gpu_journal.specs.Output.{streams_of, end_of}
+use Rattle.gpu_journal.specs.Ended.{streams_of, end_of}
 
 -- the words of an event are so few, and at places so low, that its line has room
 pub record HasRoom (e : Event) : Type 0 where

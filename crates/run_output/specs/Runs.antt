@@ -5,10 +5,11 @@ use Rattle.std.specs.declared.alloc.Global.{Global}
 use Rattle.wait_hooks.specs.Marks.{mark}
 use Rattle.live_view.specs.declared.look.Look.{Look}
 use Rattle.gpu_journal.specs.declared.end.End.{End}
-use Rattle.gpu_journal.specs.Text.{journal_text}
-use Rattle.gpu_journal.specs.Picture.{picture_text}
 use Rattle.gpu_journal.specs.World.{replay}
-use Rattle.gpu_journal.specs.Output.{streams_of, end_of, head_lines, stream_lines, mark_lines, output}
+use Rattle.gpu_journal.specs.Ended.{streams_of, end_of}
+use Rattle.journal_text.specs.Text.{journal_text}
+use Rattle.journal_text.specs.Picture.{picture_text}
+use Rattle.journal_text.specs.Output.{head_lines, stream_lines, mark_lines, output}
 use Rattle.gpu_house.specs.House.{ReportData}
 use Rattle.run_output.specs.declared.output.Section.{Section}
 use Rattle.run_output.specs.declared.output.Section.TheVariants.{Names, Journal, Images, Streams, Marks, Dumps, Looks}

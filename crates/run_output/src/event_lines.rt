@@ -1,11 +1,12 @@
 ghost use Rattle.std.specs.Prelude.{◌≡◌, map, reverse};
 ghost use Rattle.std.specs.List.{All};
-ghost use Rattle.gpu_journal.specs.Text.{event_text};
+ghost use Rattle.journal_text.specs.Text.{event_text};
 ghost use Rattle.run_output.specs.Parts.{HasRoom};
 
 use crate::lines::Lines;
 use crate::outcome::Outcome;
-use gpu_journal::{Event, Sheet};
+use gpu_journal::Event;
+use journal_text::Sheet;
 
 /// The journal: a line for each event, in their order.
 #[derive(Drop)]

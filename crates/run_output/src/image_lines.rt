@@ -3,8 +3,8 @@ ghost use Rattle.gpu_store.specs.Images.{picture_of};
 ghost use Rattle.run_output.specs.Parts.{image_lines};
 
 use crate::lines::Lines;
-use gpu_journal::Sheet;
 use gpu_store::Images;
+use journal_text::Sheet;
 
 /// An image: its own line, and a line for each of its rows from the top.
 #[derive(Drop)]

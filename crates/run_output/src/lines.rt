@@ -1,6 +1,6 @@
 ghost use Rattle.std.specs.Prelude.{◌≡◌, ℕ, ◌<◌, ◌≤◌, List, [], ◌++◌, length, slice_index_or};
 
-use gpu_journal::Sheet;
+use journal_text::Sheet;
 
 /// Lines of the output, each of which is made when it is asked for.
 pub(crate) trait Lines {

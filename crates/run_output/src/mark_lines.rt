@@ -2,7 +2,7 @@ ghost use Rattle.run_output.specs.Parts.{marks};
 
 use crate::lines::Lines;
 use gpu_house::Report;
-use gpu_journal::Sheet;
+use journal_text::Sheet;
 
 /// A line for each ending, with its mark.
 #[derive(Drop)]

@@ -2,8 +2,8 @@ ghost use Rattle.std.specs.Prelude.{◌≡◌, ◌≤◌, length};
 ghost use Rattle.run_output.specs.Parts.{heads};
 
 use crate::lines::Lines;
-use gpu_journal::Sheet;
 use gpu_plan::Plans;
+use journal_text::Sheet;
 
 /// The head line of a script of version 2, and the line of each stream's name.
 #[derive(Drop)]

@@ -1,6 +1,6 @@
 ghost use Rattle.std.specs.Prelude.{◌≡◌, ◌≤◌, length, map, reverse, IfOk};
 ghost use Rattle.std.specs.List.{All};
-ghost use Rattle.gpu_journal.specs.Output.{streams_of, end_of};
+ghost use Rattle.gpu_journal.specs.Ended.{streams_of, end_of};
 ghost use Rattle.run_output.specs.Parts.{HasRoom};
 
 use gpu_house::Report;

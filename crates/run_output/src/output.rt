@@ -1,7 +1,7 @@
 ghost use Rattle.std.specs.Prelude.{◌≡◌, ◌≤◌, [], length};
 ghost use Rattle.std.specs.List.{concat};
-ghost use Rattle.gpu_journal.specs.Picture.{picture_text};
-ghost use Rattle.gpu_journal.specs.Output.{head_lines};
+ghost use Rattle.journal_text.specs.Picture.{picture_text};
+ghost use Rattle.journal_text.specs.Output.{head_lines};
 ghost use Rattle.run_output.specs.Pieces.{Adds, Puts};
 ghost use Rattle.run_output.specs.Parts.{dump_texts, view_texts};
 ghost use Rattle.run_output.specs.Runs.{run_text, section_text};

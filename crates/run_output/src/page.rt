@@ -6,8 +6,8 @@ ghost use Rattle.run_output.specs.Pieces.{Adds, Puts};
 use crate::lines::Lines;
 use crate::writing::write_all;
 use gpu_io::{Failed, Sink};
-use gpu_journal::Sheet;
 use gpu_word::Memory;
+use journal_text::Sheet;
 use std::alloc::Global;
 use std::marker::Model;
 

@@ -1,5 +1,5 @@
 ghost use Rattle.std.specs.Prelude.{◌≡◌, [], ◌++◌, IfOk};
-ghost use Rattle.gpu_journal.specs.Picture.{picture_text};
+ghost use Rattle.journal_text.specs.Picture.{picture_text};
 ghost use Rattle.run_output.specs.Pieces.{Adds, Puts};
 
 use crate::output::put_images;
@@ -49,7 +49,7 @@ pub struct PictureOutput {
 
 impl Model for PictureOutput {
     ghost use Rattle.std.specs.Prelude.{◌≡◌, ℕ, List, [], ◌++◌};
-    ghost use Rattle.gpu_journal.specs.Picture.{picture_text};
+    ghost use Rattle.journal_text.specs.Picture.{picture_text};
     ghost use Rattle.run_output.specs.Page.{blank_page};
 
     ghost Value = { List ℕ };

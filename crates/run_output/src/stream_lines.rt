@@ -1,11 +1,12 @@
 ghost use Rattle.std.specs.Prelude.{◌≡◌, ◌≤◌, length, map};
-ghost use Rattle.gpu_journal.specs.Output.{streams_of, end_of};
+ghost use Rattle.gpu_journal.specs.Ended.{streams_of, end_of};
 ghost use Rattle.run_output.specs.Parts.{streams};
 
 use crate::lines::Lines;
 use crate::outcome::Outcome;
 use gpu_house::Report;
-use gpu_journal::{End, Sheet};
+use gpu_journal::End;
+use journal_text::Sheet;
 
 /// A line for each stream: how it ended, and what it counted.
 #[derive(Drop)]

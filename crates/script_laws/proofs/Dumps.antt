@@ -21,8 +21,9 @@ use Rattle.gpu_journal.specs.Legal.{Obeys, IsLegal}
 use Rattle.gpu_journal.specs.Complete.{IsComplete}
 use Rattle.gpu_journal.specs.Serial.{is_close, is_runnable, count, serial}
 use Rattle.gpu_journal.specs.Written.{result_at}
-use Rattle.gpu_journal.specs.Dumps.{MayDump, AreDumps, AreDumpsOf, dumps_of, passed_at, dump_line, dump_lines}
+use Rattle.gpu_journal.specs.Dumps.{MayDump, dumps_of, passed_at}
 use Rattle.gpu_journal.proofs.Worlds.{sync_none}
+use Rattle.journal_text.specs.Output.{AreDumps, AreDumpsOf, dump_line, dump_lines}
 use Rattle.serial_laws.specs.Scripts.{AreLawfulPlans}
 use Rattle.serial_laws.proofs.First.{first_none}
 use Rattle.serial_laws.proofs.Flushes.{close_is_last, within}

@@ -12,7 +12,7 @@ use Rattle.gpu_journal.specs.declared.event.Why.{Why}
 use Rattle.gpu_journal.specs.declared.event.Why.TheVariants.{Error, Memory}
 use Rattle.gpu_journal.specs.World.{world, stream_in, asked_by, known}
 use Rattle.gpu_journal.specs.Waits.{deed, sync_of, standing_of, drawn}
-use Rattle.gpu_journal.specs.Output.{streams_of}
+use Rattle.gpu_journal.specs.Ended.{streams_of}
 use Rattle.gpu_journal.specs.Facts.{place_of}
 use Rattle.gpu_journal.specs.Legal.{Obeys, IsLegal}
 use Rattle.serial_laws.proofs.Others.{moved_by, standing_own, standing_other}

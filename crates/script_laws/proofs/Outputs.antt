@@ -16,21 +16,22 @@ use Rattle.sync_core.specs.Standing.{IsKnown}
 use Rattle.gpu_journal.specs.declared.event.Event.{Event}
 use Rattle.gpu_journal.specs.declared.event.Event.TheVariants.{Order, Step, Finish, Lost, Close}
 use Rattle.gpu_journal.specs.declared.event.Why.TheVariants.{Error, Memory}
-use Rattle.gpu_journal.specs.declared.tally.Tally.{Tally}
 use Rattle.gpu_journal.specs.declared.end.End.{End}
-use Rattle.gpu_journal.specs.Digits.{number_text}
-use Rattle.gpu_journal.specs.Text.{event_text, journal_text, stream_text, tally_of}
-use Rattle.gpu_journal.specs.Picture.{head_text, image_text, picture_text}
-use Rattle.gpu_journal.specs.Lines.{journal_head, name_text, mark_text, dump_text, view_text}
 use Rattle.gpu_journal.specs.World.{state_of, replay}
 use Rattle.gpu_journal.specs.Waits.{endings_in}
 use Rattle.gpu_journal.specs.Facts.{flush_of, reach}
 use Rattle.gpu_journal.specs.Legal.{MayHaveBeenPut, Obeys, IsLegal}
-use Rattle.gpu_journal.specs.Output.{streams_of, end_of, head_lines, stream_lines, mark_lines, output}
-use Rattle.gpu_journal.specs.Dumps.{AreDumps, AreDumpsOf, dumps_of, dump_line, dump_lines}
-use Rattle.gpu_journal.specs.Laws.{HasWords, is_other}
-use Rattle.gpu_journal.proofs.Numerals.{behind_first, number_cut}
-use Rattle.gpu_journal.proofs.Telling.{output_tells}
+use Rattle.gpu_journal.specs.Ended.{streams_of, end_of}
+use Rattle.gpu_journal.specs.Dumps.{dumps_of}
+use Rattle.journal_text.specs.declared.tally.Tally.{Tally}
+use Rattle.journal_text.specs.Digits.{number_text}
+use Rattle.journal_text.specs.Text.{event_text, journal_text, stream_text, tally_of}
+use Rattle.journal_text.specs.Picture.{head_text, image_text, picture_text}
+use Rattle.journal_text.specs.Lines.{journal_head, name_text, mark_text, dump_text, view_text}
+use Rattle.journal_text.specs.Output.{head_lines, stream_lines, mark_lines, output, AreDumps, AreDumpsOf, dump_line, dump_lines}
+use Rattle.journal_text.specs.Laws.{HasWords, is_other}
+use Rattle.journal_text.proofs.Numerals.{behind_first, number_cut}
+use Rattle.journal_text.proofs.Telling.{output_tells}
 use Rattle.serial_laws.specs.Scripts.{AreLawfulPlans}
 use Rattle.serial_laws.proofs.Passed.{lawful_of}
 use Rattle.serial_laws.proofs.Spent.{obeys_known}

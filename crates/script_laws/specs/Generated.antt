@@ -6,7 +6,7 @@ use Rattle.gpu_plan.specs.Plans.{PlansData}
 use Rattle.gpu_plan.specs.Script.{script_of}
 use Rattle.gpu_journal.specs.declared.event.Event.{Event}
 use Rattle.gpu_journal.specs.Waits.{standing_of}
-use Rattle.gpu_journal.specs.Output.{streams_of}
+use Rattle.gpu_journal.specs.Ended.{streams_of}
 use Rattle.gpu_journal.specs.Legal.{IsLegal}
 use Rattle.script_laws.specs.Trials.{losses}
 

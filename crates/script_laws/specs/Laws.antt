@@ -8,15 +8,15 @@ use Rattle.sync_core.specs.declared.ending.Ending.{Ending}
 use Rattle.sync_core.specs.Standing.{first_order}
 use Rattle.gpu_journal.specs.declared.event.Event.{Event}
 use Rattle.gpu_journal.specs.declared.event.Event.TheVariants.{Finish}
-use Rattle.gpu_journal.specs.Lines.{view_text}
 use Rattle.gpu_journal.specs.World.{known}
 use Rattle.gpu_journal.specs.Waits.{left_of, pending_in, endings_in}
 use Rattle.gpu_journal.specs.Legal.{OfRun, RunsFirstNumber, RunsUnblocked, RunsReachedFlush, IsLegal}
 use Rattle.gpu_journal.specs.Complete.{IsComplete}
 use Rattle.gpu_journal.specs.Serial.{most_events, serial}
 use Rattle.gpu_journal.specs.Written.{result_at}
-use Rattle.gpu_journal.specs.Dumps.{MayDump, AreDumpLines, dump_lines}
-use Rattle.gpu_journal.specs.Output.{output}
+use Rattle.gpu_journal.specs.Dumps.{MayDump}
+use Rattle.journal_text.specs.Lines.{view_text}
+use Rattle.journal_text.specs.Output.{output, AreDumpLines, dump_lines}
 use Rattle.serial_laws.specs.Scripts.{AreLawfulPlans}
 use Rattle.script_laws.specs.Kept.{HaveEnded, HasCause}
 

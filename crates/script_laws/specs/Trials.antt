@@ -7,9 +7,9 @@ use Rattle.gpu_plan.specs.Plans.{PlansData}
 use Rattle.sync_core.specs.declared.ending.Ending.{Ending}
 use Rattle.gpu_journal.specs.declared.event.Event.{Event}
 use Rattle.gpu_journal.specs.declared.event.Event.TheVariants.{Order, Step, Finish, Lost, Close}
-use Rattle.gpu_journal.specs.Digits.{hex8, number_text}
 use Rattle.gpu_journal.specs.World.{replay}
 use Rattle.gpu_journal.specs.Waits.{endings_in}
+use Rattle.journal_text.specs.Digits.{hex8, number_text}
 
 -- the event is the loss of a stream
 abbrev pub is_loss : Event → Bool

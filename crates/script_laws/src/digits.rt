@@ -1,5 +1,5 @@
 ghost use Rattle.std.specs.Prelude.{◌≡◌, ◌++◌, OnOk};
-ghost use Rattle.gpu_journal.specs.Digits.{number_text};
+ghost use Rattle.journal_text.specs.Digits.{number_text};
 ghost use Rattle.script_laws.specs.Trials.{counted};
 
 use itoa::Buffer;

@@ -3,9 +3,10 @@ ghost use Rattle.script_laws.specs.Trials.{line_text};
 
 use crate::counts::loss_count;
 use crate::digits::{push_count, push_number};
-use gpu_journal::{Journal, spaced_hex};
+use gpu_journal::Journal;
 use gpu_store::{Images, texel_sum};
 use gpu_word::Memory;
+use journal_text::spaced_hex;
 use std::alloc::Global;
 use sync_core::Ending;
 

@@ -12,11 +12,12 @@ use Rattle.gpu_plan.specs.Plans.{PlansData}
 use Rattle.wait_hooks.specs.Marks.{mark}
 use Rattle.sync_core.specs.declared.ending.Ending.{Ending}
 use Rattle.gpu_journal.specs.declared.event.Event.{Event}
-use Rattle.gpu_journal.specs.Text.{event_text, journal_text, tally_of, stream_text}
-use Rattle.gpu_journal.specs.Lines.{mark_text, view_text}
 use Rattle.gpu_journal.specs.World.{state_of, replay}
 use Rattle.gpu_journal.specs.Waits.{endings_in}
-use Rattle.gpu_journal.specs.Output.{streams_of, end_of, output}
+use Rattle.gpu_journal.specs.Ended.{streams_of, end_of}
+use Rattle.journal_text.specs.Text.{event_text, journal_text, tally_of, stream_text}
+use Rattle.journal_text.specs.Lines.{mark_text, view_text}
+use Rattle.journal_text.specs.Output.{output}
 use Rattle.serial_laws.specs.Scripts.{AreLawfulPlans}
 use Rattle.script_laws.proofs.Scripts.{scripts_are_lawful}
 use Rattle.script_laws.proofs.Outputs.{behind_journal, output_flat}

@@ -10,7 +10,7 @@ use Rattle.gpu_plan.specs.Plans.{PlansData}
 use Rattle.gpu_plan.specs.Script.{script_of, from_head}
 use Rattle.wait_hooks.specs.Marks.{mark}
 use Rattle.gpu_journal.specs.declared.event.Event.{Event}
-use Rattle.gpu_journal.specs.Output.{output}
+use Rattle.journal_text.specs.Output.{output}
 use Rattle.serial_laws.specs.Scripts.{AreLawfulPlans}
 use Rattle.verify_input.specs.Found.{script_in}
 use Rattle.verify_input.specs.Whole.{IsRightWhole}

@@ -12,12 +12,13 @@ use Rattle.gpu_plan.specs.Plans.{PlansData, plan_of}
 use Rattle.wait_hooks.specs.Marks.{mark}
 use Rattle.sync_core.specs.declared.ending.Ending.{Ending}
 use Rattle.gpu_journal.specs.declared.event.Event.{Event}
-use Rattle.gpu_journal.specs.Text.{journal_text, tally_of, stream_text}
-use Rattle.gpu_journal.specs.Picture.{head_text, row_text, image_text, picture_text}
-use Rattle.gpu_journal.specs.Lines.{journal_head, name_text, mark_text}
 use Rattle.gpu_journal.specs.World.{state_of, replay}
 use Rattle.gpu_journal.specs.Waits.{endings_in}
-use Rattle.gpu_journal.specs.Output.{streams_of, end_of, head_lines, output}
+use Rattle.gpu_journal.specs.Ended.{streams_of, end_of}
+use Rattle.journal_text.specs.Text.{journal_text, tally_of, stream_text}
+use Rattle.journal_text.specs.Picture.{head_text, row_text, image_text, picture_text}
+use Rattle.journal_text.specs.Lines.{journal_head, name_text, mark_text}
+use Rattle.journal_text.specs.Output.{head_lines, output}
 use Rattle.journal_verify.specs.Followed.{sum_after}
 use Rattle.verify_input.specs.Found.{head_of}
 use Rattle.verify_input.specs.Due.{Look, LastLook, image_lines, picture_lines, end_lines, ending_lines, looks_due, AreTakenOff, viewers_in}

@@ -9,11 +9,12 @@ use Rattle.std.proofs.lemmas.List.FromFn.{length-range_with_len}
 use Rattle.gpu_plan.specs.Plans.{PlansData}
 use Rattle.wait_hooks.specs.Marks.{mark}
 use Rattle.gpu_journal.specs.declared.event.Event.{Event}
-use Rattle.gpu_journal.specs.Lines.{dump_text}
 use Rattle.gpu_journal.specs.Legal.{IsLegal}
 use Rattle.gpu_journal.specs.Complete.{IsComplete}
-use Rattle.gpu_journal.specs.Output.{streams_of, output}
-use Rattle.gpu_journal.specs.Dumps.{AreDumps, AreDumpsOf, dumps_of}
+use Rattle.gpu_journal.specs.Ended.{streams_of}
+use Rattle.gpu_journal.specs.Dumps.{dumps_of}
+use Rattle.journal_text.specs.Lines.{dump_text}
+use Rattle.journal_text.specs.Output.{output, AreDumps, AreDumpsOf}
 use Rattle.run_output.specs.Parts.{dump_read_text, dump_texts, look_text, view_texts}
 use Rattle.run_output.specs.Runs.{OutputData, behind_text, run_text}
 use Rattle.gpu_threads.specs.declared.threaded_run.ThreadedRun.{ThreadedRun}

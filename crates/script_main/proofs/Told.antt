@@ -4,7 +4,7 @@ use Rattle.std.specs.List.{flat_map}
 use Rattle.gpu_plan.specs.Plans.{PlansData}
 use Rattle.wait_hooks.specs.Marks.{mark}
 use Rattle.gpu_journal.specs.declared.event.Event.{Event}
-use Rattle.gpu_journal.specs.Output.{output}
+use Rattle.journal_text.specs.Output.{output}
 use Rattle.script_laws.specs.Laws.{look_lines}
 use Rattle.script_laws.proofs.Outputs.{same_threaded_run_is_same_history}
 use Rattle.live_view.specs.declared.look.Look.{Look}

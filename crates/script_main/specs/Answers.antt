@@ -1,6 +1,6 @@
 -- Answers that are ready to be written.
 use Rattle.std.specs.Prelude.{◌≡◌, ℕ, List, [], ◌++◌, reverse}
-use Rattle.gpu_journal.specs.Picture.{picture_text}
+use Rattle.journal_text.specs.Picture.{picture_text}
 use Rattle.run_output.specs.Runs.{run_text}
 use Rattle.script_main.specs.declared.answer.Answer.{Answer}
 use Rattle.script_main.specs.declared.answer.Answer.TheVariants.{Found, Text, Ran, Right}

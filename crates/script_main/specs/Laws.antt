@@ -4,7 +4,7 @@ use Rattle.gpu_store.specs.Images.{Pictures}
 use Rattle.gpu_plan.specs.Plans.{PlansData}
 use Rattle.wait_hooks.specs.Marks.{mark}
 use Rattle.gpu_journal.specs.declared.event.Event.{Event}
-use Rattle.gpu_journal.specs.Output.{output}
+use Rattle.journal_text.specs.Output.{output}
 use Rattle.serial_laws.specs.Scripts.{AreLawfulPlans}
 use Rattle.verify_input.specs.Found.{script_in}
 use Rattle.verify_input.specs.Whole.{FindsWhole}

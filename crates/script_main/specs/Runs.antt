@@ -10,9 +10,8 @@ use Rattle.gpu_journal.specs.declared.event.Event.TheVariants.{Lost}
 use Rattle.gpu_journal.specs.declared.event.Why.TheVariants.{Error}
 use Rattle.gpu_journal.specs.Legal.{IsLegal}
 use Rattle.gpu_journal.specs.Complete.{IsComplete}
-use Rattle.gpu_journal.specs.Output.{output}
-use Rattle.gpu_journal.specs.Dumps.{dump_lines, AreDumpLines}
 use Rattle.gpu_journal.specs.Serial.{serial}
+use Rattle.journal_text.specs.Output.{output, dump_lines, AreDumpLines}
 use Rattle.serial_laws.specs.Going.{wants_memory}
 use Rattle.script_laws.specs.Trials.{trial_text}
 use Rattle.live_view.specs.declared.look.Look.{Look}

@@ -6,8 +6,8 @@ use Rattle.script_generator.specs.Generator.{generated}
 use Rattle.gpu_store.specs.Images.{Pictures}
 use Rattle.gpu_plan.specs.Plans.{PlansData}
 use Rattle.gpu_plan.specs.Script.{script_of}
-use Rattle.gpu_journal.specs.Picture.{picture_text}
 use Rattle.gpu_journal.specs.World.{replay}
+use Rattle.journal_text.specs.Picture.{picture_text}
 use Rattle.verify_input.specs.Found.{script_in, IsRight, Finds}
 use Rattle.verify_input.specs.Whole.{output_part, FindsWhole}
 use Rattle.verify_input.specs.declared.finding.Finding.{Finding}

@@ -4,9 +4,9 @@ use Rattle.std.specs.Prelude.{codes}
 use Rattle.gpu_word.proofs.Pieces.{five_pieces}
 use Rattle.gpu_plan.specs.Plans.{PlansData}
 use Rattle.gpu_journal.specs.declared.event.Event.{Event}
-use Rattle.gpu_journal.specs.Digits.{hex8, number_text}
-use Rattle.gpu_journal.specs.Lines.{view_text}
-use Rattle.gpu_journal.proofs.Numerals.{number_cut}
+use Rattle.journal_text.specs.Digits.{hex8, number_text}
+use Rattle.journal_text.specs.Lines.{view_text}
+use Rattle.journal_text.proofs.Numerals.{number_cut}
 use Rattle.journal_verify.specs.Followed.{sum_after}
 use Rattle.verify_input.specs.Due.{Due, Same, Dump, Look, LastLook, MayStand, AreTakenOff, IsOff, AreDue, IsMore, IsFirstOff}
 use Rattle.verify_input.specs.declared.what.What.{What}

@@ -4,8 +4,8 @@ use Rattle.std.specs.Prelude.{codes}
 use Rattle.std.specs.List.{flat_map}
 use Rattle.gpu_journal.specs.declared.event.Event.{Event}
 use Rattle.gpu_journal.specs.declared.event.Event.TheVariants.{Order, Step, Finish, Lost, Close}
-use Rattle.gpu_journal.specs.Digits.{number_text}
-use Rattle.gpu_journal.specs.Text.{word_text, why_text, event_text, journal_text}
+use Rattle.journal_text.specs.Digits.{number_text}
+use Rattle.journal_text.specs.Text.{word_text, why_text, event_text, journal_text}
 use Rattle.verify_input.specs.Reading.{IsJournal}
 
 some_end : (front : List ℕ) → 0 < length (front ++ codes "\n")

@@ -11,7 +11,7 @@ use Rattle.verify_input.specs.Reading.{whole_lines}
 use Rattle.verify_input.specs.Due.{Due, Dump, Look, LastLook, what_of, same_lines, image_lines, picture_lines, end_lines, ending_lines, dumps_due, looks_due, images_due, streams_due, marks_due, all_dumps_due, viewers_due, dues, AreTakenOff, IsOff, AreDue, IsMore, IsFirstOff}
 use Rattle.gpu_journal.specs.World.{replay}
 use Rattle.gpu_journal.specs.Waits.{endings_in}
-use Rattle.gpu_journal.specs.Output.{streams_of}
+use Rattle.gpu_journal.specs.Ended.{streams_of}
 use Rattle.gpu_journal.specs.Dumps.{dumps_of}
 use Rattle.verify_input.specs.Taking.{HasTaken, IsBad, IsFirstBadOf, JudgesAll}
 use Rattle.verify_input.proofs.Dues.{IsTaking, Begins, taking_bad, taking_all}

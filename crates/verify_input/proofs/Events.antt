@@ -9,7 +9,7 @@ use Rattle.gpu_journal.specs.declared.event.Event.{Event}
 use Rattle.gpu_journal.specs.declared.event.Event.TheVariants.{Order, Step, Finish, Lost, Close}
 use Rattle.gpu_journal.specs.declared.event.Why.{Why}
 use Rattle.gpu_journal.specs.declared.event.Why.TheVariants.{Error, Memory}
-use Rattle.gpu_journal.specs.Digits.{numeral}
+use Rattle.journal_text.specs.Digits.{numeral}
 use Rattle.verify_input.specs.Said.{◌>>=◌, own_number, words_said, why_said, order_said, step_said, finish_said, lost_with, lost_said, close_said, said_by, pieces_said}
 use Rattle.verify_input.specs.Reading.{IsWord, IsWritten}
 use Rattle.verify_input.proofs.Numbers.{number_told_own, own_number_there}

@@ -8,15 +8,15 @@ use Rattle.gpu_cmd.specs.Errors.{code_of}
 use Rattle.sync_core.specs.declared.ending.Ending.{Ending}
 use Rattle.sync_core.specs.declared.ending.How.{How}
 use Rattle.sync_core.specs.declared.ending.How.TheVariants.{Release, Guard, Closed}
-use Rattle.gpu_journal.specs.Digits.{hex8, number_text}
 use Rattle.gpu_journal.specs.declared.event.Why.{Why}
 use Rattle.gpu_journal.specs.declared.event.Why.TheVariants.{Error, Memory}
 use Rattle.gpu_journal.specs.declared.end.End as ends
 use Rattle.gpu_journal.specs.declared.end.End.TheVariants as end
-use Rattle.gpu_journal.specs.declared.tally.Tally.{Tally}
-use Rattle.gpu_journal.specs.Text.{why_text, end_text, errors_text, tally_text, stream_text}
-use Rattle.gpu_journal.specs.Picture.{head_text, row_text}
-use Rattle.gpu_journal.specs.Lines.{how_text, mark_text, dump_text, view_text}
+use Rattle.journal_text.specs.Digits.{hex8, number_text}
+use Rattle.journal_text.specs.declared.tally.Tally.{Tally}
+use Rattle.journal_text.specs.Text.{why_text, end_text, errors_text, tally_text, stream_text}
+use Rattle.journal_text.specs.Picture.{head_text, row_text}
+use Rattle.journal_text.specs.Lines.{how_text, mark_text, dump_text, view_text}
 use Rattle.verify_input.specs.Reading.{HasNoFeed}
 use Rattle.verify_input.specs.Cuts.{IsLine}
 use Rattle.verify_input.proofs.Lines.{IsInk, ink_value, feed_none}

@@ -11,9 +11,9 @@ use Rattle.std.proofs.lemmas.List.{append-nil, take-append-drop, drop_more, take
 use Rattle.std.proofs.lemmas.List.Elements.{All-nil, All-cons, All-head}
 use Rattle.std.proofs.lemmas.List.Quantifiers.{position-Some}
 use Rattle.std.proofs.lemmas.List.Splits.{slice_split_none, slice_split_at, slice_split-cons_yes}
-use Rattle.gpu_journal.specs.Digits.{numeral, hex8}
-use Rattle.gpu_journal.proofs.Numerals.{numeral_decimal}
-use Rattle.gpu_journal.proofs.Lengths.{length-hex8}
+use Rattle.journal_text.specs.Digits.{numeral, hex8}
+use Rattle.journal_text.proofs.Numerals.{numeral_decimal}
+use Rattle.journal_text.proofs.Lengths.{length-hex8}
 use Rattle.verify_input.specs.Said.{is_space, pieces_of, own_number, own_value, words_said}
 use Rattle.verify_input.specs.Reading.{IsWord}
 use Rattle.verify_input.specs.Fronts.{IsCut, is_colon, HasValue, HasWord, HasNoWord}

@@ -9,10 +9,10 @@ use Rattle.std.proofs.lemmas.List.Elements.{All-nil, All-cons, All-append}
 use Rattle.gpu_cmd.specs.declared.name.Name.{Name}
 use Rattle.script_lines.specs.Text.{ends_line}
 use Rattle.gpu_plan.specs.Plans.{PlanData, PlansData, plan_of}
-use Rattle.gpu_journal.specs.Digits.{digits_within, numeral, number_text}
-use Rattle.gpu_journal.specs.Lines.{journal_head, name_text}
-use Rattle.gpu_journal.specs.Output.{streams_of}
+use Rattle.gpu_journal.specs.Ended.{streams_of}
 use Rattle.gpu_journal.proofs.Following.{plan_here}
+use Rattle.journal_text.specs.Digits.{digits_within, numeral, number_text}
+use Rattle.journal_text.specs.Lines.{journal_head, name_text}
 use Rattle.verify_input.specs.Reading.{HasNoFeed, IsFirstBad, whole_lines}
 use Rattle.verify_input.specs.Cuts.{IsLine}
 use Rattle.verify_input.specs.Found.{head_of, IsFirstOther}

@@ -3,11 +3,11 @@ use Rattle.std.proofs.Common.{◌≡◌, ℕ, ◌+◌, ◌<◌, List, [], ◌∷
 use Rattle.std.proofs.lemmas.List.FromFn.{length-map-range_with_len, get_or-map-range_with_len}
 use Rattle.stream_state.specs.State.{State}
 use Rattle.gpu_journal.specs.declared.end.End.{End}
-use Rattle.gpu_journal.specs.Text.{tally_of, stream_text}
 use Rattle.gpu_journal.specs.World.{replay}
+use Rattle.journal_text.specs.Text.{tally_of, stream_text}
 use Rattle.sync_core.specs.Pending.{endings}
 use Rattle.gpu_journal.specs.Waits.{endings_in, sync_of}
-use Rattle.gpu_journal.specs.Output.{end_of}
+use Rattle.gpu_journal.specs.Ended.{end_of}
 use Rattle.journal_verify.specs.Faults.{kept_state}
 use Rattle.verify_input.specs.Taking.{past_of, IsHistory}
 use Rattle.verify_input.specs.declared.sections.History.{History}

@@ -14,12 +14,12 @@ use Rattle.sync_core.specs.declared.ending.Ending.{Ending}
 use Rattle.gpu_journal.specs.declared.event.Event.{Event}
 use Rattle.gpu_journal.specs.declared.event.Event.TheVariants.{Order, Step, Finish, Lost, Close}
 use Rattle.gpu_journal.specs.declared.end.End.{End}
-use Rattle.gpu_journal.specs.declared.tally.Tally.{Tally}
-use Rattle.gpu_journal.specs.Digits.{numeral, hex8, number_text}
-use Rattle.gpu_journal.specs.Text.{word_text, why_text, event_text, end_text, tally_text, stream_text}
-use Rattle.gpu_journal.specs.Picture.{head_text, row_text}
-use Rattle.gpu_journal.specs.Lines.{how_text, mark_text, dump_text, view_text}
-use Rattle.gpu_journal.proofs.Lengths.{length-hex8}
+use Rattle.journal_text.specs.declared.tally.Tally.{Tally}
+use Rattle.journal_text.specs.Digits.{numeral, hex8, number_text}
+use Rattle.journal_text.specs.Text.{word_text, why_text, event_text, end_text, tally_text, stream_text}
+use Rattle.journal_text.specs.Picture.{head_text, row_text}
+use Rattle.journal_text.specs.Lines.{how_text, mark_text, dump_text, view_text}
+use Rattle.journal_text.proofs.Lengths.{length-hex8}
 use Rattle.verify_input.specs.Reading.{HasNoFeed}
 use Rattle.verify_input.specs.Parts.{words_on, begins_part}
 use Rattle.verify_input.specs.Due.{image_lines, begins_view}

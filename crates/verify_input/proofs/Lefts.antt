@@ -10,11 +10,11 @@ use Rattle.gpu_plan.specs.Plans.{PlanData, PlansData}
 use Rattle.wait_hooks.specs.Marks.{mark}
 use Rattle.sync_core.specs.declared.ending.Ending.{Ending}
 use Rattle.gpu_journal.specs.declared.event.Event.{Event}
-use Rattle.gpu_journal.specs.Text.{tally_of, stream_text}
-use Rattle.gpu_journal.specs.Picture.{head_text, row_text}
-use Rattle.gpu_journal.specs.Lines.{journal_head, name_text, mark_text}
+use Rattle.journal_text.specs.Text.{tally_of, stream_text}
+use Rattle.journal_text.specs.Picture.{head_text, row_text}
+use Rattle.journal_text.specs.Lines.{journal_head, name_text, mark_text}
 use Rattle.gpu_journal.specs.World.{state_of}
-use Rattle.gpu_journal.specs.Output.{streams_of, end_of}
+use Rattle.gpu_journal.specs.Ended.{streams_of, end_of}
 use Rattle.verify_input.specs.Due.{Due, Same, Dump, Look, LastLook, same_lines, image_lines, heads_due, dumps_due, looks_due}
 use Rattle.verify_input.specs.declared.what.What.TheVariants as what
 use Rattle.verify_input.proofs.Heads.{line_of, second, name_here}

@@ -18,11 +18,11 @@ use Rattle.gpu_journal.specs.declared.event.Event.{Event}
 use Rattle.gpu_journal.specs.declared.event.Event.TheVariants.{Order, Step, Finish, Lost, Close}
 use Rattle.gpu_journal.specs.declared.event.Why.{Why}
 use Rattle.gpu_journal.specs.declared.event.Why.TheVariants.{Error, Memory}
-use Rattle.gpu_journal.specs.Digits.{numeral, hex8, number_text}
-use Rattle.gpu_journal.specs.Text.{word_text, why_text, event_text, journal_text}
-use Rattle.gpu_journal.specs.Laws.{HasWords}
-use Rattle.gpu_journal.proofs.Numerals.{numeral_decimal}
-use Rattle.gpu_journal.proofs.Telling.{different_texts}
+use Rattle.journal_text.specs.Digits.{numeral, hex8, number_text}
+use Rattle.journal_text.specs.Text.{word_text, why_text, event_text, journal_text}
+use Rattle.journal_text.specs.Laws.{HasWords}
+use Rattle.journal_text.proofs.Numerals.{numeral_decimal}
+use Rattle.journal_text.proofs.Telling.{different_texts}
 use Rattle.script_lines.specs.Text.{ends_line}
 use Rattle.script_lines.proofs.Cuts.{not_found}
 use Rattle.verify_input.specs.Said.{is_space, pieces_said, line_said}

@@ -5,9 +5,9 @@ use Rattle.std.specs.List.{slice_split, join_with_byte}
 use Rattle.std.proofs.lemmas.List.{take_at, drop_at, append_cancel_right, get_or_at}
 use Rattle.std.proofs.lemmas.List.Elements.{All-get_or}
 use Rattle.script_lines.specs.Text.{ends_line}
-use Rattle.gpu_journal.specs.Digits.{numeral, hex8}
-use Rattle.gpu_journal.specs.Lines.{view_text}
-use Rattle.gpu_journal.proofs.Lengths.{length-hex8}
+use Rattle.journal_text.specs.Digits.{numeral, hex8}
+use Rattle.journal_text.specs.Lines.{view_text}
+use Rattle.journal_text.proofs.Lengths.{length-hex8}
 use Rattle.verify_input.specs.Said.{is_space, pieces_of, own_value}
 use Rattle.verify_input.specs.Reading.{HasNoFeed, whole_lines}
 use Rattle.verify_input.specs.Cuts.{IsFirstLine, IsLine}

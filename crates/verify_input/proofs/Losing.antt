@@ -12,7 +12,7 @@ use Rattle.gpu_journal.specs.declared.end.End.{End}
 use Rattle.gpu_journal.specs.World.{world, stream_in, asked_by}
 use Rattle.gpu_journal.specs.Waits.{deed, deed_asked, standing_of, drawn}
 use Rattle.gpu_journal.specs.Legal.{Obeys, IsLegal}
-use Rattle.gpu_journal.specs.Output.{end_of}
+use Rattle.gpu_journal.specs.Ended.{end_of}
 use Rattle.gpu_journal.proofs.Worlds.{sync_none}
 use Rattle.serial_laws.proofs.Others.{moved_by, standing_own, standing_other}
 use Rattle.verify_input.specs.Due.{Dump, dumps_due}

@@ -17,9 +17,9 @@ use Rattle.std.proofs.lemmas.List.Folds.{list_all-append, list_all_at, list_all_
 use Rattle.std.proofs.Math.Nat.{pow-le-pow_right}
 use Rattle.script_lines.specs.Numbers.{number_of, decimal_of, hex_of}
 use Rattle.script_lines.proofs.Digits.{all_digits}
-use Rattle.gpu_journal.specs.Digits.{numeral, hex_digits, hex8}
-use Rattle.gpu_journal.proofs.Lengths.{length-hex8}
-use Rattle.gpu_journal.proofs.Numerals.{numeral_decimal, different_values}
+use Rattle.journal_text.specs.Digits.{numeral, hex_digits, hex8}
+use Rattle.journal_text.proofs.Lengths.{length-hex8}
+use Rattle.journal_text.proofs.Numerals.{numeral_decimal, different_values}
 use Rattle.verify_input.specs.Said.{is_small, small_digit, own_number, own_value}
 
 -- ---- digits

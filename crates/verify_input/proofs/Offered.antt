@@ -10,13 +10,14 @@ use Rattle.gpu_store.specs.Images.{Pictures}
 use Rattle.gpu_plan.specs.Plans.{PlansData, plan_of}
 use Rattle.wait_hooks.specs.Marks.{mark}
 use Rattle.gpu_journal.specs.declared.event.Event.{Event}
-use Rattle.gpu_journal.specs.Text.{event_text, journal_text, tally_of, stream_text}
-use Rattle.gpu_journal.specs.Picture.{head_text, row_text}
-use Rattle.gpu_journal.specs.Lines.{journal_head, name_text, mark_text, dump_text}
 use Rattle.gpu_journal.specs.World.{state_of, replay}
 use Rattle.gpu_journal.specs.Waits.{endings_in}
-use Rattle.gpu_journal.specs.Output.{streams_of, end_of}
-use Rattle.gpu_journal.specs.Dumps.{AreDumps, AreDumpsOf, dumps_of}
+use Rattle.gpu_journal.specs.Ended.{streams_of, end_of}
+use Rattle.gpu_journal.specs.Dumps.{dumps_of}
+use Rattle.journal_text.specs.Text.{event_text, journal_text, tally_of, stream_text}
+use Rattle.journal_text.specs.Picture.{head_text, row_text}
+use Rattle.journal_text.specs.Lines.{journal_head, name_text, mark_text, dump_text}
+use Rattle.journal_text.specs.Output.{AreDumps, AreDumpsOf}
 use Rattle.verify_input.specs.Reading.{IsWritten, whole_lines}
 use Rattle.verify_input.specs.Cuts.{IsLine}
 use Rattle.verify_input.specs.Parts.{before}

@@ -5,7 +5,7 @@ use Rattle.std.proofs.lemmas.List.{append_cancel_left}
 use Rattle.script_lines.specs.declared.fault.Kind.{Kind}
 use Rattle.gpu_plan.specs.Plans.{PlansData}
 use Rattle.gpu_journal.specs.declared.event.Event.{Event}
-use Rattle.gpu_journal.specs.Text.{journal_text}
+use Rattle.journal_text.specs.Text.{journal_text}
 use Rattle.journal_verify.proofs.Firsts.{wrong_is_illegal}
 use Rattle.verify_input.specs.Reading.{IsWritten, IsFirstBad, whole_lines}
 use Rattle.verify_input.specs.Parts.{before, script_part}

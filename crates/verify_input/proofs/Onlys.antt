@@ -8,9 +8,9 @@ use Rattle.gpu_store.specs.Images.{Pictures}
 use Rattle.script_lines.specs.declared.fault.Kind.{Kind}
 use Rattle.gpu_plan.specs.Plans.{PlansData}
 use Rattle.gpu_journal.specs.declared.event.Event.{Event}
-use Rattle.gpu_journal.specs.Text.{journal_text}
 use Rattle.gpu_journal.specs.World.{replay}
 use Rattle.gpu_journal.specs.Legal.{IsLegal}
+use Rattle.journal_text.specs.Text.{journal_text}
 use Rattle.verify_input.specs.Reading.{IsFirstBad, whole_lines}
 use Rattle.verify_input.proofs.Lines.{refused_is_no_journal, journal_is_one}
 use Rattle.journal_verify.specs.Rules.{BreaksFirst}

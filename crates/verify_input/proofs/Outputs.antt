@@ -4,8 +4,9 @@ use Rattle.std.specs.List.{concat, flat_map, range_with_len}
 use Rattle.std.proofs.lemmas.List.Folds.{concat-append}
 use Rattle.gpu_plan.specs.Plans.{PlansData}
 use Rattle.gpu_journal.specs.declared.event.Event.{Event}
-use Rattle.gpu_journal.specs.Output.{streams_of}
-use Rattle.gpu_journal.specs.Dumps.{AreDumps, AreDumpsOf, AreDumpLines, dumps_of}
+use Rattle.gpu_journal.specs.Ended.{streams_of}
+use Rattle.gpu_journal.specs.Dumps.{dumps_of}
+use Rattle.journal_text.specs.Output.{AreDumps, AreDumpsOf, AreDumpLines}
 use Rattle.verify_input.specs.Due.{Due, Dump, same_lines, picture_lines, end_lines, ending_lines, dumps_due, looks_due, dues, AreTakenOff, AreDue}
 use Rattle.verify_input.specs.declared.what.What.{What}
 use Rattle.verify_input.specs.declared.what.What.TheVariants as what

@@ -2,7 +2,7 @@
 use Rattle.std.proofs.Common.{◌≡◌, ℕ, ◌<◌, Option, Some, None, List, refl, sym, ap, subst, ◌∙◌}
 use Rattle.std.specs.Prelude.{option_map, unwrap_or, IsSome, IfSome, IsSomeAnd}
 use Rattle.gpu_store.specs.Picture.{Picture, row_of}
-use Rattle.gpu_journal.specs.Picture.{head_text, row_text}
+use Rattle.journal_text.specs.Picture.{head_text, row_text}
 use Rattle.verify_input.specs.Cuts.{IsLine}
 use Rattle.verify_input.proofs.Feeds.{image_line, row_line}
 

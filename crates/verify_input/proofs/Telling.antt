@@ -5,11 +5,11 @@ use Rattle.std.proofs.lemmas.List.{take-append-drop, drop_at, reverse-append, le
 use Rattle.gpu_store.specs.Sums.{texel_sum}
 use Rattle.gpu_plan.specs.Plans.{PlansData}
 use Rattle.gpu_journal.specs.declared.event.Event.{Event}
-use Rattle.gpu_journal.specs.Digits.{hex8}
-use Rattle.gpu_journal.specs.Lines.{dump_text, view_text}
 use Rattle.gpu_journal.specs.World.{replay}
 use Rattle.gpu_journal.specs.Dumps.{MayDump}
-use Rattle.gpu_journal.proofs.Lengths.{length-hex8}
+use Rattle.journal_text.specs.Digits.{hex8}
+use Rattle.journal_text.specs.Lines.{dump_text, view_text}
+use Rattle.journal_text.proofs.Lengths.{length-hex8}
 use Rattle.journal_verify.specs.Followed.{sum_after}
 use Rattle.verify_input.specs.Reading.{whole_lines}
 use Rattle.verify_input.specs.Due.{Same, Dump, Look, LastLook, same_lines}

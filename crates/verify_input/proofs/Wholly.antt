@@ -6,7 +6,7 @@ use Rattle.std.proofs.lemmas.List.{length-drop}
 use Rattle.std.proofs.lemmas.List.Folds.{concat-append}
 use Rattle.gpu_plan.specs.Plans.{PlansData}
 use Rattle.gpu_journal.specs.declared.event.Event.{Event}
-use Rattle.gpu_journal.specs.Text.{journal_text}
+use Rattle.journal_text.specs.Text.{journal_text}
 use Rattle.script_lines.specs.Text.{ends_line}
 use Rattle.verify_input.specs.Reading.{joined, whole_lines, IsJournal}
 use Rattle.verify_input.specs.Parts.{words_on, is_end, before, behind, script_part}

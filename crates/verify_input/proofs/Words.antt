@@ -7,9 +7,9 @@ use Rattle.std.proofs.lemmas.Bool.Decides.{nat_tests}
 use Rattle.std.proofs.lemmas.Fmt.{decimal_nonempty}
 use Rattle.std.proofs.lemmas.List.{append-nil, take-append-drop, take_at, drop_at, drop_more, get_or_at, length-drop}
 use Rattle.std.proofs.lemmas.List.Elements.{All-nil, All-cons, All-head, All-tail}
-use Rattle.gpu_journal.specs.Digits.{numeral, hex8}
-use Rattle.gpu_journal.proofs.Numerals.{numeral_decimal}
-use Rattle.gpu_journal.proofs.Lengths.{length-hex8}
+use Rattle.journal_text.specs.Digits.{numeral, hex8}
+use Rattle.journal_text.proofs.Numerals.{numeral_decimal}
+use Rattle.journal_text.proofs.Lengths.{length-hex8}
 use Rattle.verify_input.specs.Said.{◌>>=◌, own_number, own_value, word_said, words_said}
 use Rattle.verify_input.specs.Reading.{IsWord}
 use Rattle.verify_input.proofs.Numbers.{number_told_own, own_number_there, value_told_own, own_value_there}

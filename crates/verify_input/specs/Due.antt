@@ -5,13 +5,13 @@ use Rattle.gpu_store.specs.Picture.{Picture, row_of}
 use Rattle.gpu_plan.specs.Plans.{PlansData}
 use Rattle.wait_hooks.specs.Marks.{mark}
 use Rattle.gpu_journal.specs.declared.event.Event.{Event}
-use Rattle.gpu_journal.specs.Text.{tally_of, stream_text}
-use Rattle.gpu_journal.specs.Picture.{head_text, row_text}
-use Rattle.gpu_journal.specs.Lines.{mark_text, dump_text, view_text}
 use Rattle.gpu_journal.specs.World.{state_of, replay}
 use Rattle.gpu_journal.specs.Waits.{endings_in}
-use Rattle.gpu_journal.specs.Output.{streams_of, end_of}
+use Rattle.gpu_journal.specs.Ended.{streams_of, end_of}
 use Rattle.gpu_journal.specs.Dumps.{MayDump, dumps_of}
+use Rattle.journal_text.specs.Text.{tally_of, stream_text}
+use Rattle.journal_text.specs.Picture.{head_text, row_text}
+use Rattle.journal_text.specs.Lines.{mark_text, dump_text, view_text}
 use Rattle.journal_verify.specs.Followed.{sum_after}
 use Rattle.verify_input.specs.Parts.{words_on}
 use Rattle.verify_input.specs.Found.{head_of}

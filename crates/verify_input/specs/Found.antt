@@ -6,10 +6,10 @@ use Rattle.script_lines.specs.declared.fault.Kind.{Kind}
 use Rattle.gpu_plan.specs.Plans.{PlansData, plan_of}
 use Rattle.gpu_plan.specs.Script.{script_of}
 use Rattle.gpu_journal.specs.declared.event.Event.{Event}
-use Rattle.gpu_journal.specs.Text.{journal_text}
-use Rattle.gpu_journal.specs.Lines.{journal_head, name_text}
-use Rattle.gpu_journal.specs.Output.{streams_of}
+use Rattle.gpu_journal.specs.Ended.{streams_of}
 use Rattle.gpu_journal.specs.World.{replay}
+use Rattle.journal_text.specs.Text.{journal_text}
+use Rattle.journal_text.specs.Lines.{journal_head, name_text}
 use Rattle.verify_input.specs.Reading.{IsWritten, IsFirstBad, whole_lines}
 use Rattle.verify_input.specs.declared.fault.JournalFault.{JournalFault}
 use Rattle.verify_input.specs.declared.fault.JournalFault.TheVariants as faults

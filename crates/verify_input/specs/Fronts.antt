@@ -1,6 +1,6 @@
 -- What a text begins with, as a journal spells it.
 use Rattle.std.specs.Prelude.{◌≡◌, ℕ, ◌==◌, ◌<◌, ◌^◌, Bool, List, [], ◌∷◌, ◌++◌}
-use Rattle.gpu_journal.specs.Digits.{numeral, hex8}
+use Rattle.journal_text.specs.Digits.{numeral, hex8}
 use Rattle.verify_input.specs.Reading.{IsWord}
 
 -- nothing, or a space and what stands after it

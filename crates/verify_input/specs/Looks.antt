@@ -1,7 +1,7 @@
 -- What the lines of dumps and of looks name.
 use Rattle.std.specs.Prelude.{◌≡◌, ℕ, ◌+◌, ◌<◌, ◌^◌, List, [], ◌∷◌, ◌++◌, length, unwrap_or}
-use Rattle.gpu_journal.specs.Digits.{hex8}
-use Rattle.gpu_journal.specs.Lines.{view_text}
+use Rattle.journal_text.specs.Digits.{hex8}
+use Rattle.journal_text.specs.Lines.{view_text}
 use Rattle.verify_input.specs.Said.{own_number, own_value}
 use Rattle.verify_input.specs.Reading.{whole_lines}
 

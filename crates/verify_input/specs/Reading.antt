@@ -5,7 +5,7 @@ use Rattle.script_lines.specs.Text.{ends_line}
 use Rattle.gpu_journal.specs.declared.event.Event.{Event}
 use Rattle.gpu_journal.specs.declared.event.Event.TheVariants.{Order, Step, Finish, Lost, Close}
 use Rattle.gpu_journal.specs.declared.event.Why.TheVariants.{Error, Memory}
-use Rattle.gpu_journal.specs.Text.{event_text, journal_text}
+use Rattle.journal_text.specs.Text.{event_text, journal_text}
 use Rattle.verify_input.specs.declared.fault.JournalFault.{JournalFault}
 use Rattle.verify_input.specs.declared.fault.JournalFault.TheVariants as faults
 

@@ -4,7 +4,7 @@ use Rattle.gpu_plan.specs.Plans.{PlansData}
 use Rattle.gpu_journal.specs.declared.event.Event.{Event}
 use Rattle.gpu_journal.specs.declared.end.End.{End}
 use Rattle.gpu_journal.specs.declared.end.End.TheVariants as end
-use Rattle.gpu_journal.specs.Output.{streams_of, end_of}
+use Rattle.gpu_journal.specs.Ended.{streams_of, end_of}
 use Rattle.journal_verify.specs.Answers.{IsWhole}
 use Rattle.journal_verify.specs.Followed.{IsFollowed, sum_after}
 use Rattle.verify_input.specs.Reading.{whole_lines}

@@ -4,8 +4,8 @@ use Rattle.std.specs.List.{All}
 use Rattle.gpu_store.specs.Images.{Pictures}
 use Rattle.gpu_plan.specs.Plans.{PlansData}
 use Rattle.gpu_journal.specs.declared.event.Event.{Event}
-use Rattle.gpu_journal.specs.Text.{journal_text}
 use Rattle.gpu_journal.specs.World.{replay}
+use Rattle.journal_text.specs.Text.{journal_text}
 use Rattle.journal_verify.specs.Answers.{IsFirstWrong, IsWhole, IsUnfinished}
 use Rattle.verify_input.specs.Reading.{IsWritten, IsFirstBad, whole_lines}
 use Rattle.verify_input.specs.Parts.{before, behind, script_part}

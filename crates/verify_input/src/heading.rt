@@ -6,8 +6,9 @@ use crate::fault::JournalFault;
 use crate::reading::read_journal;
 use crate::rest::{Bad, Rest};
 use crate::sections::take_names;
-use gpu_journal::{Event, Line};
+use gpu_journal::Event;
 use gpu_plan::Plans;
+use journal_text::Line;
 use std::alloc::Global;
 
 /// The events of a journal text with the head that these plans ask for. The text has at most 16,777,216 bytes.

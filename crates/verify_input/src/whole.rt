@@ -15,9 +15,10 @@ use crate::rest::{Bad, Rest};
 use crate::sections::{
     History, take_dumps, take_images, take_marks, take_names, take_streams, take_viewers,
 };
-use gpu_journal::{Event, Line};
+use gpu_journal::Event;
 use gpu_plan::{Plans, ScriptFault, parse};
 use gpu_word::Memory;
+use journal_text::Line;
 use journal_verify::{Ruling, ends_of, follow};
 use std::alloc::Global;
 

@@ -1,5 +1,6 @@
 use gpu_house::{Doing, Report};
-use gpu_journal::{End, Event, journal_text, picture_text, stream_text};
+use gpu_journal::{End, Event};
+use journal_text::{journal_text, picture_text, stream_text};
 use std::alloc::Global;
 use std::test::Fail;
 

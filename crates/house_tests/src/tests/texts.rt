@@ -1,5 +1,6 @@
-use gpu_journal::{End, Tally, Why, mark_text, replay, tally_text};
+use gpu_journal::{End, Why, replay};
 use gpu_plan::parse;
+use journal_text::{Tally, mark_text, tally_text};
 use std::test::Fail;
 use sync_core::{Ending, How};
 

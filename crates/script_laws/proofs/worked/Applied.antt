@@ -32,20 +32,20 @@ use Rattle.sync_core.specs.Laws.{KeptIsDecided, EndedStaysEnded, WaitsRise, Orde
 use Rattle.gpu_journal.specs.declared.event.Event.{Event}
 use Rattle.gpu_journal.specs.declared.event.Event.TheVariants as events
 use Rattle.gpu_journal.specs.declared.event.Why.TheVariants.{Memory}
-use Rattle.gpu_journal.specs.Digits.{number_text}
-use Rattle.gpu_journal.specs.Text.{event_text}
-use Rattle.gpu_journal.specs.Lines.{journal_head, dump_text, view_text}
 use Rattle.gpu_journal.specs.World.{known, state_of}
 use Rattle.gpu_journal.specs.Folds.{steps_of, StateIsFold}
-use Rattle.gpu_journal.specs.Laws.{DifferentNumbers, EventsAreApart, OthersBegin, is_other}
 use Rattle.gpu_journal.specs.Waits.{sync_of, standing_of, left_of, pending_in, endings_in, IsOpen}
 use Rattle.gpu_journal.specs.Facts.{flush_of, reach}
 use Rattle.gpu_journal.specs.Legal.{IsLegal}
 use Rattle.gpu_journal.specs.Complete.{IsComplete}
 use Rattle.gpu_journal.specs.Serial.{serial}
 use Rattle.gpu_journal.specs.Written.{result_at}
-use Rattle.gpu_journal.specs.Dumps.{MayDump, AreDumpLines, dump_lines}
-use Rattle.gpu_journal.specs.Output.{output}
+use Rattle.gpu_journal.specs.Dumps.{MayDump}
+use Rattle.journal_text.specs.Digits.{number_text}
+use Rattle.journal_text.specs.Text.{event_text}
+use Rattle.journal_text.specs.Lines.{journal_head, dump_text, view_text}
+use Rattle.journal_text.specs.Laws.{DifferentNumbers, EventsAreApart, OthersBegin, is_other}
+use Rattle.journal_text.specs.Output.{output, AreDumpLines, dump_lines}
 use Rattle.serial_laws.specs.Scripts.{AreLawfulPlans}
 use Rattle.serial_laws.specs.Going.{wants_memory}
 use Rattle.serial_laws.specs.Laws.{UnfinishedHasEvent, SerialWantsNoMemory}

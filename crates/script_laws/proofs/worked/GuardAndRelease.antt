@@ -20,12 +20,11 @@ use Rattle.gpu_journal.specs.World.{world}
 use Rattle.gpu_journal.specs.Waits.{sync_of}
 use Rattle.gpu_journal.specs.Serial.{next, events, serial}
 use Rattle.gpu_journal.specs.Written.{written}
-use Rattle.gpu_journal.specs.Digits.{numeral, hex8}
-use Rattle.gpu_journal.specs.Text.{event_text, journal_text, stream_text}
-use Rattle.gpu_journal.specs.Picture.{head_text, row_text, image_text, picture_text}
-use Rattle.gpu_journal.specs.Lines.{name_text, mark_text, dump_text}
-use Rattle.gpu_journal.specs.Output.{output}
-use Rattle.gpu_journal.specs.Dumps.{dump_lines}
+use Rattle.journal_text.specs.Digits.{numeral, hex8}
+use Rattle.journal_text.specs.Text.{event_text, journal_text, stream_text}
+use Rattle.journal_text.specs.Picture.{head_text, row_text, image_text, picture_text}
+use Rattle.journal_text.specs.Lines.{name_text, mark_text, dump_text}
+use Rattle.journal_text.specs.Output.{output, dump_lines}
 use Rattle.script_laws.proofs.worked.Said.{told}
 
 -- from the bytes of the script to the bytes of the output of its serial history

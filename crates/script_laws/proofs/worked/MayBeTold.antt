@@ -25,13 +25,14 @@ use Rattle.stream_state.specs.Writes.{first_words, after_writes}
 use Rattle.stream_state.specs.Steps.{command_in, transfer_bytes, immediate_bytes, asked, effect_of, acted, stepped, effect, writes}
 use Rattle.stream_state.specs.Verdict.{checked_state, verdict}
 use Rattle.gpu_journal.specs.Waits.{sync_of}
-use Rattle.gpu_journal.specs.Digits.{numeral, hex8}
 use Rattle.gpu_journal.specs.World.{world, known}
 use Rattle.gpu_journal.specs.Serial.{next, events, serial}
 use Rattle.gpu_journal.specs.Written.{written, result_at}
-use Rattle.gpu_journal.specs.Lines.{dump_text}
-use Rattle.gpu_journal.specs.Output.{streams_of}
-use Rattle.gpu_journal.specs.Dumps.{MayDump, AreDumps, AreDumpsOf, AreDumpLines, dumps_of}
+use Rattle.gpu_journal.specs.Ended.{streams_of}
+use Rattle.gpu_journal.specs.Dumps.{MayDump, dumps_of}
+use Rattle.journal_text.specs.Digits.{numeral, hex8}
+use Rattle.journal_text.specs.Lines.{dump_text}
+use Rattle.journal_text.specs.Output.{AreDumps, AreDumpsOf, AreDumpLines}
 
 -- ---- the values that may be told
 

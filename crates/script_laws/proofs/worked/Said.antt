@@ -5,8 +5,7 @@ use Rattle.sync_core.specs.declared.ending.How.{How}
 use Rattle.sync_core.specs.declared.ending.How.TheVariants.{Release, Guard, Closed}
 use Rattle.gpu_plan.specs.Plans.{PlansData}
 use Rattle.gpu_journal.specs.Serial.{serial}
-use Rattle.gpu_journal.specs.Output.{output}
-use Rattle.gpu_journal.specs.Dumps.{dump_lines}
+use Rattle.journal_text.specs.Output.{output, dump_lines}
 
 abbrev kind : How → ℕ
 kind Release = 0

@@ -3,9 +3,9 @@ ghost use Rattle.std.specs.Prelude.{◌≤◌};
 
 use gpu_house::{Doing, Report};
 use gpu_io::Gate;
-use gpu_journal::journal_text;
 use gpu_plan::{Plans, parse};
 use gpu_threads::{Team, ThreadedRun, run_threads};
+use journal_text::journal_text;
 use live_view::Look;
 use std::alloc::Global;
 use std::sync::Wait;

@@ -3,7 +3,7 @@ use Rattle.std.specs.List.{All}
 use Rattle.gpu_journal.specs.declared.event.Event.{Event}
 use Rattle.gpu_journal.specs.Legal.{IsLegal}
 use Rattle.gpu_journal.specs.Complete.{IsComplete}
-use Rattle.gpu_journal.specs.Output.{streams_of}
+use Rattle.gpu_journal.specs.Ended.{streams_of}
 use Rattle.gpu_hall.specs.Halls.{HallData}
 use Rattle.gpu_threads.specs.Clients.{AreClientsOf}
 use Rattle.gpu_threads.specs.Dumps.{IsThrough, AreAllRead}

@@ -1,7 +1,7 @@
 use Rattle.std.proofs.Common.{◌≡◌, ℕ, ◌+◌, ◌<◌, length, take, reverse}
 use Rattle.std.specs.Prelude.{slice_index_or}
 use Rattle.gpu_journal.specs.declared.end.End.TheVariants.{Done}
-use Rattle.gpu_journal.specs.Output.{end_of}
+use Rattle.gpu_journal.specs.Ended.{end_of}
 use Rattle.journal_verify.proofs.ends.ends_of.Given as goal
 
 abbrev pub invariant-loop-event : goal.invariant-loop-event

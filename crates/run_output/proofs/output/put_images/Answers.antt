@@ -3,7 +3,7 @@ use Rattle.std.proofs.Math.Seq.{take-length}
 use Rattle.std.proofs.lemmas.List.{length_push, length-map}
 use Rattle.gpu_store.specs.Images.{Pictures}
 use Rattle.gpu_store.proofs.Lookups.{Stands, number_stands, numbers_end}
-use Rattle.gpu_journal.specs.Picture.{image_text}
+use Rattle.journal_text.specs.Picture.{image_text}
 use Rattle.run_output.proofs.Pieces.{line_put, line_failed}
 use Rattle.run_output.proofs.Texts.{image_shown, images_text}
 use Rattle.run_output.proofs.output.put_images.Given.{Over}

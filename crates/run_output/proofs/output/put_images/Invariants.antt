@@ -1,6 +1,6 @@
 use Rattle.std.proofs.Common.{map, length, take}
 use Rattle.std.specs.List.{concat}
-use Rattle.gpu_journal.specs.Picture.{image_text}
+use Rattle.journal_text.specs.Picture.{image_text}
 use Rattle.std.specs.Prelude.{Ok}
 use Rattle.gpu_io.specs.declared.failed.Failed.{Failed}
 use Rattle.run_output.specs.Pieces.{Puts}

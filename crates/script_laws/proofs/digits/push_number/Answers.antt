@@ -1,6 +1,6 @@
 use Rattle.std.proofs.Common.{◌≡◌, ℕ, List, ◌∷◌, ◌++◌, OnOk, sym, subst, arith}
 use Rattle.std.proofs.lemmas.Grind.{common_steps}
-use Rattle.gpu_journal.proofs.Numerals.{numeral_decimal}
+use Rattle.journal_text.proofs.Numerals.{numeral_decimal}
 use Rattle.script_laws.proofs.digits.push_number.Goals as goal
 
 pub returns : goal.returns

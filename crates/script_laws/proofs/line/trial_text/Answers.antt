@@ -1,6 +1,6 @@
 use Rattle.std.proofs.Common.{refl}
 use Rattle.std.proofs.lemmas.List.{length-reverse}
-use Rattle.gpu_journal.specs.Digits as digits
+use Rattle.journal_text.specs.Digits as digits
 use Rattle.script_laws.specs.Trials.{is_loss, line_text}
 use Rattle.script_laws.proofs.Texts.{count_by-reverse}
 use Rattle.script_laws.proofs.line.trial_text.Goals as goal

@@ -1,5 +1,5 @@
 use Rattle.std.proofs.Common.{◌≡◌, true, length, sym, ap, subst, ◌∙◌, [], ◌∷◌}
-use Rattle.gpu_journal.specs.Lines.{dump_text}
+use Rattle.journal_text.specs.Lines.{dump_text}
 use Rattle.journal_verify.specs.Followed.{may_be_told}
 use Rattle.journal_verify.proofs.Asking.{told_decides}
 use Rattle.verify_input.specs.Cuts.{IsLine}

@@ -1,5 +1,5 @@
 use Rattle.std.specs.List.{flat_map}
-use Rattle.gpu_journal.specs.Output.{streams_of}
+use Rattle.gpu_journal.specs.Ended.{streams_of}
 use Rattle.verify_input.specs.Due.{dumps_due}
 use Rattle.verify_input.specs.Taking.{past_of}
 use Rattle.verify_input.proofs.Dues.{IsTaking}

@@ -3,7 +3,7 @@ use Rattle.std.proofs.lemmas.List.{get_or_default, drop_all}
 use Rattle.std.proofs.lemmas.Result.{err_from_is_err_and}
 use Rattle.sync_core.specs.declared.ending.Ending.{Ending}
 use Rattle.wait_hooks.specs.Marks.{mark}
-use Rattle.gpu_journal.specs.Lines.{mark_text}
+use Rattle.journal_text.specs.Lines.{mark_text}
 use Rattle.verify_input.specs.Cuts.{IsLine}
 use Rattle.verify_input.specs.Due.{same_lines}
 use Rattle.verify_input.specs.declared.what.What.TheVariants as what

@@ -1,6 +1,6 @@
 use Rattle.std.proofs.Common.{map, refl, reverse, ap, subst, ◌∙◌, arith}
 use Rattle.std.specs.List.{range_with_len}
-use Rattle.gpu_journal.specs.Output.{end_of}
+use Rattle.gpu_journal.specs.Ended.{end_of}
 use Rattle.journal_verify.specs.Ruled.{Rules}
 use Rattle.journal_verify.specs.declared.rulings.Ruling.{Ruling}
 use Rattle.verify_input.specs.Reading.{whole_lines}

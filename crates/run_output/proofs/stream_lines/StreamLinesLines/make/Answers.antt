@@ -2,7 +2,7 @@ use Rattle.std.proofs.Common.{◌≡◌, ◌+◌, ◌<◌, ℕ, List, ◌++◌, 
 use Rattle.std.specs.Prelude.{slice_index_or}
 use Rattle.gpu_journal.specs.declared.end.End.{End}
 use Rattle.gpu_journal.specs.declared.end.End.TheVariants.{Done}
-use Rattle.gpu_journal.specs.Output.{end_of}
+use Rattle.gpu_journal.specs.Ended.{end_of}
 use Rattle.run_output.proofs.Parts.{length-streams, stream_at, end_at}
 use Rattle.run_output.proofs.stream_lines.StreamLinesLines.make.Goals as goal
 

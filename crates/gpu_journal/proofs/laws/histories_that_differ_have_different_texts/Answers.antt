@@ -1,5 +1,0 @@
-use Rattle.gpu_journal.proofs.Telling.{different_texts}
-use Rattle.gpu_journal.proofs.laws.histories_that_differ_have_different_texts.Goals as goal
-
-pub returns : goal.returns
-returns c = different_texts

@@ -1,0 +1,7 @@
+pub mod Digits
+pub mod Text
+pub mod Picture
+pub mod Lines
+pub mod Sheet
+pub mod Output
+pub mod Laws

@@ -1,0 +1,177 @@
+ghost use Rattle.std.specs.Prelude.{◌≡◌, ◌+◌, ◌<◌, ◌≤◌, [], ◌++◌, length, IfOk, IfSome, IsSome, IsSomeAnd};
+ghost use Rattle.std.specs.List.{All};
+ghost use Rattle.gpu_store.specs.Images.{picture_of};
+ghost use Rattle.gpu_store.specs.Picture.{row_of};
+ghost use Rattle.journal_text.specs.Text.{words_of, event_text, tally_of, stream_text};
+ghost use Rattle.journal_text.specs.Picture.{head_text, row_text};
+ghost use Rattle.journal_text.specs.Lines.{journal_head, name_text, mark_text, dump_text, view_text};
+
+use crate::event_line::put_event;
+use crate::other_lines::{put_dump, put_mark, put_name, put_view};
+use crate::picture_line::{put_head, put_row};
+use crate::put::put;
+use crate::stream_line::put_stream;
+use crate::tally::Tally;
+use gpu_cmd::Name;
+use gpu_journal::{End, Event};
+use gpu_store::Images;
+use gpu_word::Memory;
+use std::alloc::Global;
+use std::marker::Model;
+use stream_state::StreamState;
+use sync_core::Ending;
+
+/// The bytes that a line has room for. The longest is that of an event with 69,632 words, each of them at most 15 bytes.
+const ROOM: usize = 1_048_576;
+
+/// Lines of the output with their line feeds, one after the other, seen as their bytes and as a limit.
+///
+/// Each call puts another line after those that are there, as long as these have no more bytes than the limit. All memory
+/// is taken by `make`.
+#[derive(Drop)]
+pub struct Sheet {
+    bytes: Vec<u8>,
+    limit: usize,
+}
+
+impl Model for Sheet {
+    ghost use Rattle.std.specs.Prelude.{◌+◌, ◌≤◌, vec_capacity};
+    ghost use Rattle.journal_text.specs.Sheet.{SheetData};
+
+    ghost Value = { SheetData };
+
+    ghost view = { λ sheet. record { bytes = sheet.bytes.items; limit = sheet.limit } };
+
+    ghost invariant = { λ sheet. sheet.limit + 1048576 ≤ vec_capacity sheet.bytes };
+}
+
+impl Sheet {
+    /// No line yet, and room for 1,048,576 bytes after as many as the limit.
+    pub fn make(alloc: Global, limit: usize) -> Result<Sheet, Memory>
+        ensures { IfOk result (λ sheet. sheet ≡ record { bytes = []; limit = limit }) }
+    {
+        let room = limit.checked_add(ROOM).ok_or(Memory)?;
+        let bytes = Vec::with_capacity(alloc, room)?;
+        Ok(Sheet { bytes, limit })
+    }
+
+    /// Takes all lines away.
+    pub fn clear(&mut self)
+        ensures bytes { self.new.bytes ≡ [] }
+        ensures limit { self.new.limit ≡ self.old.limit }
+    {
+        self.bytes.clear();
+    }
+
+    /// Puts a text, with which there are at most 1,048,576 bytes more than the limit.
+    pub fn text(&mut self, text: &[u8])
+        requires { length self.old.bytes + length text.now ≤ self.old.limit + 1048576 }
+        ensures bytes { self.new.bytes ≡ self.old.bytes ++ text.now }
+        ensures limit { self.new.limit ≡ self.old.limit }
+    {
+        put(&mut self.bytes, text);
+    }
+
+    /// Puts the first line of the output of a script of version 2.
+    pub fn head(&mut self)
+        requires { length self.old.bytes ≤ self.old.limit }
+        ensures bytes { self.new.bytes ≡ self.old.bytes ++ journal_head }
+        ensures limit { self.new.limit ≡ self.old.limit }
+    {
+        put(&mut self.bytes, b"gpu-journal 2\n");
+    }
+
+    /// Puts the line of a stream's name.
+    pub fn name(&mut self, stream: u32, name: Name)
+        requires { length self.old.bytes ≤ self.old.limit }
+        ensures bytes { self.new.bytes ≡ self.old.bytes ++ name_text stream name }
+        ensures limit { self.new.limit ≡ self.old.limit }
+    {
+        put_name(&mut self.bytes, stream, name);
+    }
+
+    /// Puts the line of an event, which has at most 69,632 words, each at a place below 69,632.
+    pub fn event(&mut self, event: &Event)
+        requires room { length self.old.bytes ≤ self.old.limit }
+        requires few { length (words_of event.now) ≤ 69632 }
+        requires near { All (λ word. word.0 < 69632) (words_of event.now) }
+        ensures bytes { self.new.bytes ≡ self.old.bytes ++ event_text event.now }
+        ensures limit { self.new.limit ≡ self.old.limit }
+    {
+        put_event(&mut self.bytes, event);
+    }
+
+    /// Puts the own line of an image: its number, its width and its height.
+    pub fn image(&mut self, images: &Images, image: u32)
+        requires room { length self.old.bytes ≤ self.old.limit }
+        requires there { IsSome (picture_of images.now image) }
+        ensures bytes { IfSome (picture_of images.now image) (λ picture. self.new.bytes
+            ≡ self.old.bytes ++ head_text image picture.width picture.height) }
+        ensures limit { self.new.limit ≡ self.old.limit }
+    {
+        let (width, height) = images.size(image).unwrap();
+        put_head(&mut self.bytes, image, width, height);
+    }
+
+    /// Puts the line of a row of an image: its texels from left to right.
+    pub fn row(&mut self, images: &Images, image: u32, y: u32)
+        requires room { length self.old.bytes ≤ self.old.limit }
+        requires there { IsSomeAnd (picture_of images.now image) (λ picture. y < picture.height) }
+        ensures bytes { IfSome (picture_of images.now image) (λ picture. self.new.bytes
+            ≡ self.old.bytes ++ row_text (row_of picture y)) }
+        ensures limit { self.new.limit ≡ self.old.limit }
+    {
+        put_row(&mut self.bytes, images.row(image, y));
+    }
+
+    /// Puts the line of a stream: how it ended, and what it counted.
+    pub fn stream(&mut self, stream: u32, state: &StreamState, end: End)
+        requires { length self.old.bytes ≤ self.old.limit }
+        ensures bytes { self.new.bytes
+            ≡ self.old.bytes ++ stream_text stream (tally_of state.now) end }
+        ensures limit { self.new.limit ≡ self.old.limit }
+    {
+        put_stream(&mut self.bytes, stream, &Tally::of(state), end);
+    }
+
+    /// Puts the mark line of an ending: who waited on what, how the wait ended, and the mark that is kept of it.
+    pub fn mark(&mut self, ending: &Ending, value: u32)
+        requires { length self.old.bytes ≤ self.old.limit }
+        ensures bytes { self.new.bytes ≡ self.old.bytes ++ mark_text ending.now value }
+        ensures limit { self.new.limit ≡ self.old.limit }
+    {
+        put_mark(&mut self.bytes, ending, value);
+    }
+
+    /// Puts the line of a dump: its stream, its action place, its result place, and the value that was read.
+    pub fn dump(&mut self, stream: u32, place: u32, index: u32, value: u32)
+        requires { length self.old.bytes ≤ self.old.limit }
+        ensures bytes { self.new.bytes ≡ self.old.bytes ++ dump_text stream place index value }
+        ensures limit { self.new.limit ≡ self.old.limit }
+    {
+        put_dump(&mut self.bytes, stream, place, index, value);
+    }
+
+    /// Puts the line of a look: its viewer, how many events it saw, and the sum of all texels after these.
+    pub fn view(&mut self, viewer: u32, events: u32, sum: u32)
+        requires { length self.old.bytes ≤ self.old.limit }
+        ensures bytes { self.new.bytes ≡ self.old.bytes ++ view_text viewer events sum }
+        ensures limit { self.new.limit ≡ self.old.limit }
+    {
+        put_view(&mut self.bytes, viewer, events, sum);
+    }
+
+    /// The bytes of all lines.
+    pub fn bytes(&self) -> &[u8]
+        ensures { result.now ≡ self.now.bytes }
+    {
+        self.bytes.as_slice()
+    }
+
+    /// Up to how many bytes another line may be begun.
+    pub fn limit(&self) -> usize
+        ensures { result ≡ self.now.limit }
+    {
+        self.limit
+    }
+}
