@@ -15,9 +15,9 @@ use Rattle.live_view.specs.Fronts.{FrontData}
 use Rattle.live_view.specs.Seen.{ViewerData}
 use Rattle.live_view.proofs.Prefixes.{prefix_length}
 use Rattle.gpu_hall.specs.Views.{ShownData}
-use Rattle.gpu_hall.specs.Looks.{IsLookOf}
+use Rattle.gpu_hall.specs.Looks.{IsLookOf, AreViewerLooks}
 use Rattle.gpu_hall.proofs.Looked.{look_is_of, last_look}
-use Rattle.gpu_threads.specs.Views.{AreViewerLooks, HasLooked, SawTold}
+use Rattle.gpu_threads.specs.Views.{HasLooked, SawTold}
 
 -- ---- the looks of one viewer
 

@@ -1,7 +1,6 @@
 -- What the viewers of a run on threads see.
-use Rattle.std.specs.Prelude.{◌≡◌, ℕ, ◌-◌, ◌<◌, ◌≤◌, List, [], ◌∷◌, ◌++◌, length, map, slice_get, slice_index_or, option_map, Some, Vec}
+use Rattle.std.specs.Prelude.{◌≡◌, ℕ, ◌-◌, ◌<◌, ◌≤◌, List, [], ◌∷◌, ◌++◌, length, map, slice_index_or, Vec}
 use Rattle.std.specs.List.{All}
-use Rattle.std.specs.List.Sorted.{IsNonDecreasingBy}
 use Rattle.std.specs.declared.alloc.Global.{Global}
 use mathlib.Core.List.{IsPrefix}
 use Rattle.logbook.specs.Pages.{Book}
@@ -11,18 +10,10 @@ use Rattle.live_view.specs.declared.look.Look.{Look}
 use Rattle.live_view.specs.Looks.{sight, IsOf}
 use Rattle.live_view.specs.Fronts.{FrontData}
 use Rattle.live_view.specs.Seen.{ViewerData}
-use Rattle.gpu_hall.specs.Looks.{IsLookOf}
+use Rattle.gpu_hall.specs.Looks.{AreViewerLooks}
 use Rattle.gpu_hall.specs.Views.{ShowAll, ShownData}
 
 -- ---- what comes of a run
-
--- the looks of one viewer: there are 17; each is of a prefix of the journal; the number of events does not fall from look to
--- look; and the last look is of all events
-pub record AreViewerLooks (p : PlansData) (h : List Event) (looks : List Look) : Type 0 where
-  pub count : length looks ≡ 17
-  pub each : All (IsLookOf p h) looks
-  pub rising : IsNonDecreasingBy (λ look. look.events) looks
-  pub last : option_map (λ (look : Look). look.events) (slice_get looks 16) ≡ Some (length h)
 
 -- a given number of viewers, and these are the looks of each, in order
 pub record AreAllLooks (p : PlansData) (h : List Event) (viewers : ℕ) (all : List (Vec Look Global)) : Type 0 where

@@ -3,7 +3,8 @@ ghost use Rattle.std.specs.Prelude.{◌≡◌, ◌≤◌, [], length, IfOk, IfSo
 ghost use Rattle.std.specs.List.{All};
 ghost use mathlib.Core.List.{IsPrefix};
 ghost use Rattle.gpu_threads.specs.Viewers.{AreFreshViews};
-ghost use Rattle.gpu_threads.specs.Views.{AreViewerLooks, AreAllLooks, HasNotLooked, HasWatched, HaveWatched, IsTold, SawTold};
+ghost use Rattle.gpu_hall.specs.Looks.{AreViewerLooks};
+ghost use Rattle.gpu_threads.specs.Views.{AreAllLooks, HasNotLooked, HasWatched, HaveWatched, IsTold, SawTold};
 
 use crate::watch::Watch;
 use gpu_hall::{Hall, NamedSide, Shown};

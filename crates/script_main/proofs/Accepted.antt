@@ -34,8 +34,7 @@ use Rattle.verify_input.proofs.Feeds.{view_line}
 use Rattle.verify_input.proofs.Labels.{Ends, IsView, view_ends, view_own, all_lines}
 use Rattle.verify_input.proofs.Offered.{Offered, offered_none, offered_both, all_dumps_offered, whole_concat, events_text, event_lines, tells_of, heads_are, all_due, all_are, all_stop, all_viewers}
 use Rattle.live_view.specs.declared.look.Look as look
-use Rattle.gpu_hall.specs.Looks.{IsLookOf}
-use Rattle.gpu_threads.specs.Views.{AreViewerLooks}
+use Rattle.gpu_hall.specs.Looks.{IsLookOf, AreViewerLooks}
 use Rattle.run_output.specs.Parts.{look_text}
 use Rattle.run_output.proofs.Texts.{concat-map}
 use Rattle.script_main.specs.Runs.{view_lines, IsViewedRun}

@@ -26,8 +26,7 @@ use Rattle.verify_input.specs.Whole.{TellsAll, IsRightWhole}
 use Rattle.verify_input.proofs.Wholly.{told_text}
 use Rattle.verify_input.proofs.Outputs.{Parted, taken_parts, all_parted}
 use Rattle.live_view.specs.declared.look.Look as look
-use Rattle.gpu_hall.specs.Looks.{IsLookOf}
-use Rattle.gpu_threads.specs.Views.{AreViewerLooks}
+use Rattle.gpu_hall.specs.Looks.{IsLookOf, AreViewerLooks}
 use Rattle.run_output.specs.Parts.{look_text}
 use Rattle.run_output.proofs.Texts.{concat-map}
 use Rattle.script_laws.proofs.Outputs.{behind_journal, output_flat}

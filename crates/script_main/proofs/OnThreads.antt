@@ -20,7 +20,8 @@ use Rattle.run_output.specs.Runs.{OutputData, behind_text, run_text}
 use Rattle.gpu_threads.specs.declared.threaded_run.ThreadedRun.{ThreadedRun}
 use Rattle.gpu_threads.specs.Dumps.{AreRead, AreAllRead}
 use Rattle.gpu_threads.specs.Runs.{IsThreadedRun}
-use Rattle.gpu_threads.specs.Views.{AreViewerLooks, AreAllLooks}
+use Rattle.gpu_hall.specs.Looks.{AreViewerLooks}
+use Rattle.gpu_threads.specs.Views.{AreAllLooks}
 use Rattle.live_view.specs.declared.look.Look.{Look}
 use Rattle.script_main.specs.Runs.{view_lines, AreViewLines, IsViewedRun, IsOutput, run_ending}
 use Rattle.script_main.proofs.Endings.{none_lost}

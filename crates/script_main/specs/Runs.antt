@@ -15,7 +15,7 @@ use Rattle.journal_text.specs.Output.{output, dump_lines, AreDumpLines}
 use Rattle.serial_laws.specs.Going.{wants_memory}
 use Rattle.script_laws.specs.Trials.{trial_text}
 use Rattle.live_view.specs.declared.look.Look.{Look}
-use Rattle.gpu_threads.specs.Views.{AreViewerLooks}
+use Rattle.gpu_hall.specs.Looks.{AreViewerLooks}
 use Rattle.run_output.specs.Parts.{look_text}
 use Rattle.script_main.specs.declared.status.Status.{Status}
 use Rattle.script_main.specs.declared.status.Status.TheVariants as status
