@@ -20,7 +20,7 @@ FORMATS, TESTS, DEFINITIONS = (
     Path("docs/DEFINITIONS.md"),
 )
 TABLE = Path("crates/gpu_cmd/specs/Table.antt")
-STATUSES = Path("crates/script_main/specs/Statuses.antt")
+STATUSES = Path("crates/script_answers/specs/Statuses.antt")
 LEGAL = Path("crates/gpu_journal/specs/Legal.antt")
 MINUTES, WORDS_A_MINUTE = 30, 130
 SIZE_BITS = 21

@@ -104,9 +104,9 @@ MOST_FENCES = constant("gpu_plan/src/acting.rt", "MOST_FENCES")
 MOST_SIDE = constant("gpu_store/src/images.rt", "MOST_SIDE")
 MOST_TEXELS = constant("gpu_store/src/images.rt", "MOST_TEXELS")
 MOST_NOTES = constant("flush_queue/src/queue.rt", "MOST_NOTES")
-MOST_SIZE = constant("script_main/src/command.rt", "MOST_SIZE")
-MOST_WORKERS = constant("script_main/src/command.rt", "MOST_WORKERS")
-MOST_VIEWS = constant("script_main/src/command.rt", "MOST_VIEWS")
+MOST_SIZE = constant("script_answers/src/command.rt", "MOST_SIZE")
+MOST_WORKERS = constant("script_answers/src/command.rt", "MOST_WORKERS")
+MOST_VIEWS = constant("script_answers/src/command.rt", "MOST_VIEWS")
 ALL_LOOKS = constant("gpu_threads/src/watch.rt", "ALL_LOOKS")
 SIZE_BITS = constant("gpu_word/src/header.rt", "SIZE_BITS")
 ID_BITS = constant("gpu_word/src/header.rt", "ID_BITS")
@@ -162,7 +162,7 @@ FACTS = (
     Fact(r"size up to #|that SIZE, from 1 to #", MOST_SIZE),
     Fact(r"marks over the base #|answered: #", constant("script_main/src/main.rt", "BASE")),
     Fact(r"the same # clauses", CLAUSES),
-    Fact(r"whose # fields", fields("crates/script_main/specs/Conducts.antt", "Conducts")),
+    Fact(r"whose # fields", fields("crates/script_answers/specs/Conducts.antt", "Conducts")),
     Fact(r"times the slots, and # more", spare_entries),
     Fact(r"[Rr]ules? (?:\d+ (?:to|and) )#|# rules", RULES),
     Fact(r"checks \d+ (?:to|and) #|check #,|checks # and|[Cc]hecks 1 to #", CHECKS),

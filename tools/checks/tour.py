@@ -14,8 +14,9 @@ from tools.checks.tally import Tally
 
 TOUR, LAYERS = Path("docs/DEFINITIONS.md"), Path("docs/LAYERS.md")
 THEOREM = tuple(
-    Path("crates/script_main") / name
-    for name in ("src/program.rt", "src/plain.rt", "src/main.rt", "specs/Conducts.antt"))
+    Path("crates") / name
+    for name in ("script_main/src/program.rt", "script_main/src/main.rt",
+                 "script_answers/src/plain.rt", "script_answers/specs/Conducts.antt"))
 
 USE = re.compile(
     r"^(?:pub )?use Rattle\.(?P<crate>\w+)\.specs\.(?P<file>[A-Z]\w*)(?:\.\{(?P<names>[^}]*)\}| as "

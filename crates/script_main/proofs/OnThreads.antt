@@ -23,8 +23,8 @@ use Rattle.gpu_threads.specs.Runs.{IsThreadedRun}
 use Rattle.gpu_hall.specs.Looks.{AreViewerLooks}
 use Rattle.gpu_threads.specs.Views.{AreAllLooks}
 use Rattle.live_view.specs.declared.look.Look.{Look}
-use Rattle.script_main.specs.Runs.{view_lines, AreViewLines, IsViewedRun, IsOutput, run_ending}
-use Rattle.script_main.proofs.Endings.{none_lost}
+use Rattle.script_answers.specs.Runs.{view_lines, AreViewLines, IsViewedRun, IsOutput, run_ending}
+use Rattle.script_answers.proofs.Endings.{none_lost}
 
 -- the text of what was read of some dumps of a stream is one that may be told of them
 reads_are_told : (p : PlansData) (h : List Event) (s : ℕ) (dumps : List (ℕ × ℕ)) (reads : List (ℕ × ℕ × ℕ)) → AreRead p h s dumps reads → AreDumps p h s dumps (flat_map (dump_read_text s) reads)

@@ -1,21 +1,18 @@
 ghost use Rattle.std.specs.Prelude.{◌≤◌, length, reverse, IfOk};
 ghost use Rattle.run_output.specs.Runs.{run_text};
 ghost use Rattle.gpu_io.specs.Whole.{most_bytes};
-ghost use Rattle.script_main.specs.declared.command.Command.TheVariants.{RunOnThreads};
-ghost use Rattle.script_main.specs.Commands.{IsSized};
-ghost use Rattle.script_main.specs.Runs.{IsViewedRun, IsOutput, run_ending};
-ghost use Rattle.script_main.specs.Says.{Says};
-ghost use Rattle.script_main.specs.Answers.{answer_ending, answer_text};
+ghost use Rattle.script_answers.specs.declared.command.Command.TheVariants.{RunOnThreads};
+ghost use Rattle.script_answers.specs.Commands.{IsSized};
+ghost use Rattle.script_answers.specs.Runs.{IsViewedRun, IsOutput, run_ending};
+ghost use Rattle.script_answers.specs.Says.{Says};
+ghost use Rattle.script_answers.specs.Answers.{answer_ending, answer_text};
 
-use crate::answer::Answer;
-use crate::answering::answer_to;
-use crate::command::Command;
-use crate::status::Status;
 use gpu_io::Gate;
 use gpu_plan::{Plans, ScriptFault, parse};
 use gpu_threads::{Team, run_threads};
 use gpu_word::Memory;
 use run_output::RunOutput;
+use script_answers::{Answer, Command, Status, answer_to};
 use std::alloc::Global;
 use std::sync::Wait;
 use std::thread::Threads;

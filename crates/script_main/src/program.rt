@@ -1,12 +1,10 @@
 ghost use Rattle.std.specs.Prelude.{map, string_bytes};
-ghost use Rattle.script_main.specs.Commands.{command_of};
-ghost use Rattle.script_main.specs.Conducts.{Conducts};
+ghost use Rattle.script_answers.specs.Commands.{command_of};
+ghost use Rattle.script_answers.specs.Conducts.{Conducts};
 
-use crate::command::command_of;
-use crate::input::take_input;
 use crate::on_threads::answer_on;
-use crate::status::Status;
 use gpu_io::{Gate, ReadError, Sink, Source};
+use script_answers::{Status, command_of, take_input};
 use std::alloc::Global;
 use std::sync::Wait;
 use std::thread::Threads;
@@ -19,7 +17,7 @@ use wait_hooks::Hook;
 ///   side.
 /// - It writes the output of one history, which is legal and complete. Which one that is may differ from run to run.
 /// - After it are 17 lines for each viewer.
-#[tactic(auto, using(crate::proofs::Endings::said_speaks))]
+#[tactic(auto, using(script_answers::proofs::Endings::said_speaks))]
 pub fn top<S: Source, K: Sink, G: Gate + Sync, H: Hook + Send, R: Threads + Wait + Sync>(
     rt: &R,
     alloc: Global,

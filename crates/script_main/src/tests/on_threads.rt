@@ -1,9 +1,8 @@
 //! The program on threads.
 
-use super::{Edges, TWO_TEXELS, TWO_TEXELS_OUTPUT, given, is_front, sink_of, source_of, steady};
 use crate::program::top;
-use crate::status::Status;
-use gpu_io::{Gate, OpenGate, Place};
+use gpu_io::{Gate, MemorySink, MemorySource, OpenGate, Place};
+use script_answers::Status;
 use std::alloc::Global;
 use std::sync::Wait;
 use std::sync::atomic::{AtomicU64, Ordering};
@@ -11,6 +10,21 @@ use std::test::Fail;
 use std::thread;
 use std::thread::Threads;
 use wait_hooks::Marker;
+
+const TWO_TEXELS: &[u8] = b"gpu-script 1
+stream 1 normal 16
+put 0 20400004 1 2 1 20800007 1 0 0 2 1 ff0000ff
+flush 11
+";
+
+const TWO_TEXELS_OUTPUT: &[u8] = b"order 1 1 11
+step 1 0:20400004 1:00000001 2:00000002 3:00000001
+step 1 4:20800007 5:00000001 6:00000000 7:00000000 8:00000002 9:00000001 10:ff0000ff
+finish 1 1
+image 1 2 1
+ff0000ff ff0000ff
+stream 1 done entries 11 release 0 token 0 words 11 errors 0 0 0
+";
 
 // Two clients with a command each.
 const ONE_EACH: &[u8] = b"gpu-script 1
@@ -22,18 +36,31 @@ put 0 1
 flush 1
 ";
 
-// How the program ends on some words and a text, where a gate leads it, and what stands in its sink then.
+// Words of a command line.
+fn given(alloc: Global, words: &[&str]) -> Result<Vec<String>, Fail> {
+    let mut given = Vec::new(alloc);
+    for word in words {
+        given.push(String::from_str(alloc, word)?)?;
+    }
+    Ok(given)
+}
+
+// How the program ends on some words and a text, where a gate leads it, and what stands in its sink then. It reads 16 bytes at once and
+// writes one. One read and one write fail, of these numbers, or none where the number is 0.
 fn ended<G: Gate + Sync, R: Threads + Wait + Sync>(
     rt: &R,
     alloc: Global,
     words: &[&str],
     text: &[u8],
-    edges: &Edges,
+    fails: (u32, u32),
     gate: &G,
 ) -> Result<(Status, Vec<u8>), Fail> {
     let words = given(alloc, words)?;
-    let mut source = source_of(alloc, text, edges)?;
-    let mut sink = sink_of(alloc, edges)?;
+    let read_fails = Vec::from_slice(alloc, &[fails.0])?;
+    let mut source = MemorySource::make(Vec::from_slice(alloc, text)?, 16, read_fails);
+    let write_fails = Vec::from_slice(alloc, &[fails.1])?;
+    let sink = MemorySink::make(alloc, 4096, 1, write_fails).ok();
+    let mut sink = sink.ok_or("memory is ample")?;
     let hook = Marker::make(1000);
     let status = top(rt, alloc, &words, &mut source, &mut sink, gate, hook);
     Ok((status, Vec::from_slice(alloc, sink.bytes())?))
@@ -43,7 +70,7 @@ fn ended<G: Gate + Sync, R: Threads + Wait + Sync>(
 fn a_script_is_run_with_each_number_of_workers(rt: HostRuntime) -> Result<(), Fail> {
     for workers in ["0", "1", "2", "3", "4", "5", "6", "7", "8"] {
         let words = ["run", "--workers", workers];
-        let (status, stands) = ended(&rt, rt.alloc(), &words, TWO_TEXELS, &steady(), &OpenGate)?;
+        let (status, stands) = ended(&rt, rt.alloc(), &words, TWO_TEXELS, (0, 0), &OpenGate)?;
         assert_eq!(rt; status, Status::Ok, "{workers} workers");
         assert_eq!(rt; stands.as_slice(), TWO_TEXELS_OUTPUT);
     }
@@ -53,24 +80,22 @@ fn a_script_is_run_with_each_number_of_workers(rt: HostRuntime) -> Result<(), Fa
 #[test]
 fn each_failing_write_of_a_run_with_workers_leaves_a_front(rt: HostRuntime) -> Result<(), Fail> {
     for write_fails in 1..=TWO_TEXELS_OUTPUT.len() as u32 {
-        let mut edges = steady();
-        edges.write_piece = 1;
-        edges.write_fails = write_fails;
         let words = ["run", "--workers", "2"];
-        let (status, stands) = ended(&rt, rt.alloc(), &words, TWO_TEXELS, &edges, &OpenGate)?;
+        let fails = (0, write_fails);
+        let (status, stands) = ended(&rt, rt.alloc(), &words, TWO_TEXELS, fails, &OpenGate)?;
         assert_eq!(rt; status, Status::WriteFault, "write {write_fails} fails");
-        assert_eq!(rt; stands.len(), write_fails as usize - 1);
-        assert!(rt; is_front(&stands, TWO_TEXELS_OUTPUT));
+        assert_eq!(rt;
+            stands.as_slice(),
+            &TWO_TEXELS_OUTPUT[..write_fails as usize - 1]
+        );
     }
     Ok(())
 }
 
 #[test]
 fn a_failing_source_ends_a_run_with_workers(rt: HostRuntime) -> Result<(), Fail> {
-    let mut edges = steady();
-    edges.read_fails = 2;
     let words = ["run", "--workers", "2"];
-    let (status, stands) = ended(&rt, rt.alloc(), &words, TWO_TEXELS, &edges, &OpenGate)?;
+    let (status, stands) = ended(&rt, rt.alloc(), &words, TWO_TEXELS, (2, 0), &OpenGate)?;
     assert_eq!(rt; status, Status::ReadFault);
     assert_eq!(rt; stands.as_slice(), b"".as_slice());
     Ok(())
@@ -117,7 +142,7 @@ fn two_workers_are_at_work_at_once(rt: HostRuntime) -> Result<(), Fail> {
         late: AtomicU64::new(0),
     };
     let words = ["run", "--workers", "2"];
-    let (status, _) = ended(&rt, rt.alloc(), &words, ONE_EACH, &steady(), &both)?;
+    let (status, _) = ended(&rt, rt.alloc(), &words, ONE_EACH, (0, 0), &both)?;
     assert_eq!(rt; status, Status::Ok);
     assert_eq!(rt; both.late.load(Ordering::SeqCst), 0);
     Ok(())

@@ -2,8 +2,8 @@
 ghost use Rattle.std.specs.Prelude.{◌≡◌, false};
 
 use crate::run_on;
-use crate::status::Status;
 use gpu_io::{Sink, Source};
+use script_answers::Status;
 use std::alloc::Global;
 use std::sync::Wait;
 use std::thread::Threads;

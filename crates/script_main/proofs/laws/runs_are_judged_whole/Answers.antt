@@ -1,5 +1,0 @@
-use Rattle.script_main.proofs.Accepted.{run_is_judged_whole}
-use Rattle.script_main.proofs.laws.runs_are_judged_whole.Goals as goal
-
-pub returns : goal.returns
-returns c = run_is_judged_whole

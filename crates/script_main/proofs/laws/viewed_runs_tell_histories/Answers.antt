@@ -1,5 +1,0 @@
-use Rattle.script_main.proofs.Told.{same_viewed_run_is_same_history}
-use Rattle.script_main.proofs.laws.viewed_runs_tell_histories.Goals as goal
-
-pub returns : goal.returns
-returns c = same_viewed_run_is_same_history
