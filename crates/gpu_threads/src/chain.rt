@@ -30,15 +30,23 @@ fn collect<N: Naming, P: NamedSide, H: Hook, R: Wait, G: Gate>(
     }
 }
 
-// Orders the flushes that were posted, and takes the run of the scheduler's choice, unless the thread has enough.
+// The run that goes on, where there is one: no other is taken then. Else the flushes that were posted are ordered, and the run of the
+// scheduler's choice is taken, unless the thread has enough.
 fn next<N: Naming, P: NamedSide, H: Hook, R: Wait, G: Gate>(
     rt: &R,
     ground: &Ground<'_, N, P, H, G>,
     hall: &mut Hall<N, P, H>,
     shift: &mut Shift<'_>,
+    on: Option<Run<N, P>>,
 ) -> Option<Run<N, P>>
-    ensures { IfSome result (IsReady P.side P.table P.mark P.note_of N.plans N.words N.books) }
+    requires ready { IfSome on (IsReady P.side P.table P.mark P.note_of N.plans N.words N.books) }
+    ensures ready { IfSome result (IsReady P.side P.table P.mark P.note_of N.plans N.words N.books) }
+    ensures same { IfSome on (λ run. result ≡ Some run) }
 {
+    match on {
+        Some(run) => return Some(run),
+        None => {}
+    }
     if shift.has_enough() {
         return None;
     }
@@ -53,24 +61,6 @@ fn next<N: Naming, P: NamedSide, H: Hook, R: Wait, G: Gate>(
         });
     }
     run
-}
-
-// The run that goes on, where there is one: no other is taken then. Else the next one.
-fn on_or_next<N: Naming, P: NamedSide, H: Hook, R: Wait, G: Gate>(
-    rt: &R,
-    ground: &Ground<'_, N, P, H, G>,
-    hall: &mut Hall<N, P, H>,
-    shift: &mut Shift<'_>,
-    on: Option<Run<N, P>>,
-) -> Option<Run<N, P>>
-    requires ready { IfSome on (IsReady P.side P.table P.mark P.note_of N.plans N.words N.books) }
-    ensures ready { IfSome result (IsReady P.side P.table P.mark P.note_of N.plans N.words N.books) }
-    ensures same { IfSome on (λ run. result ≡ Some run) }
-{
-    match on {
-        Some(run) => Some(run),
-        None => next(rt, ground, hall, shift),
-    }
 }
 
 // Whether the journal has more finishes of a stream than before. Where it has, or where the stream is lost:
@@ -123,7 +113,7 @@ fn advance<N: Naming, P: NamedSide, H: Hook, R: Wait, G: Gate>(
         let before = (hall.finishes(stream), hall.greatest(stream));
         hall.finish(run, own);
         let finished = show_end(rt, &mut hall, stream, before, shift);
-        let next = next(rt, ground, &mut hall, shift);
+        let next = next(rt, ground, &mut hall, shift, None);
         MutexGuard::unlock(hall);
         shift.ring();
         tell_finish(ground.gate, finished, stream, order);
@@ -142,30 +132,11 @@ fn advance<N: Naming, P: NamedSide, H: Hook, R: Wait, G: Gate>(
         }
     };
     let finished = show_end(rt, &mut hall, stream, before, shift);
-    let next = on_or_next(rt, ground, &mut hall, shift, on);
+    let next = next(rt, ground, &mut hall, shift, on);
     MutexGuard::unlock(hall);
     shift.ring();
     tell_finish(ground.gate, finished, stream, order);
     next
-}
-
-// A run goes on until it is at home again, and then the next one, until the thread takes no more.
-fn run_on<N: Naming, P: NamedSide, H: Hook, R: Wait, G: Gate>(
-    rt: &R,
-    ground: &Ground<'_, N, P, H, G>,
-    shift: &mut Shift<'_>,
-    run: Run<N, P>,
-)
-    requires { IsReady P.side P.table P.mark P.note_of N.plans N.words N.books run }
-{
-    let mut out = run;
-    for _ in rt.forever() {
-        match advance(rt, ground, shift, out) {
-            Some(on) => out = on,
-            None => return,
-        }
-    }
-    unreachable!()
 }
 
 /// Serves turns, one after the other, until the thread has enough or nothing is runnable:
@@ -181,11 +152,14 @@ pub(crate) fn serve_on<N: Naming, P: NamedSide, H: Hook, R: Wait, G: Gate>(
     let mut shift = shift;
     shift.begin();
     let mut guard = ground.hall.lock(rt);
-    let first = next(rt, ground, &mut guard, &mut shift);
+    let mut out = next(rt, ground, &mut guard, &mut shift, None);
     MutexGuard::unlock(guard);
     shift.ring();
-    if let Some(run) = first {
-        run_on(rt, ground, &mut shift, run);
+    for _ in rt.forever() {
+        match out {
+            Some(run) => out = advance(rt, ground, &mut shift, run),
+            None => return shift.end(),
+        }
     }
-    shift.end()
+    unreachable!()
 }
