@@ -1,6 +1,4 @@
 //! What each thread of a run does.
-ghost use Rattle.std.specs.Prelude.{length};
-ghost use Rattle.sync_core.specs.Standing.{IsKnown};
 ghost use Rattle.gpu_threads.specs.Clients.{IsClientOf, IsSameClient, AreClientsOf};
 
 use crate::chain::serve_on;
@@ -36,27 +34,6 @@ fn wait<N: Naming, H: Hook, R: Wait, G: Gate>(
     leave
 }
 
-// A client that could not go on says what it needs, and must try again. Where it still can't go on then, it waits, unless its stream is
-// lost or closed: the answer says so.
-fn pause<N: Naming, H: Hook, R: Wait, G: Gate>(
-    rt: &R,
-    ground: &Ground<'_, N, FullPass, H, G>,
-    stream: u32,
-    needs: u64,
-    pace: &mut Pace<'_>,
-) -> bool
-    requires { IsKnown (length N.plans.plans) stream }
-{
-    if pace.asks(needs) {
-        return false;
-    }
-    if pace.may_be_over() && is_ended(rt, ground, stream) {
-        return true;
-    }
-    wait(rt, ground, pace);
-    false
-}
-
 // What a client needs that could not go on: room in its queue, its flushes finished, or these or a token.
 fn needs_of(client: &Client, act: Act) -> u64 {
     let finishes = u64::from(client.flushed());
@@ -67,7 +44,10 @@ fn needs_of(client: &Client, act: Act) -> u64 {
     }
 }
 
-/// The client of a stream has turns until it has come to its end. While it waits it serves, so that it comes to its end alone.
+/// The client of a stream has turns until it has come to its end:
+/// - where it could not go on, it says what it needs and tries again
+/// - where it still cannot go on then, its stream may be lost or closed
+/// - else it waits, and meanwhile it serves, so that it comes to its end alone
 pub(crate) fn play<N: Naming, H: Hook, R: Wait, G: Gate>(
     rt: &R,
     ground: &Ground<'_, N, FullPass, H, G>,
@@ -90,10 +70,13 @@ pub(crate) fn play<N: Naming, H: Hook, R: Wait, G: Gate>(
                 return;
             }
             act => {
-                let needs = needs_of(client, act);
-                if pause(rt, ground, stream, needs, &mut pace) {
+                if pace.asks(needs_of(client, act)) {
+                    continue;
+                }
+                if pace.may_be_over() && is_ended(rt, ground, stream) {
                     return;
                 }
+                wait(rt, ground, &mut pace);
             }
         }
     }
