@@ -166,23 +166,17 @@ fn run_all<N: Naming + Send + Sync, H: Hook + Send, G: Gate + Sync, R: Threads +
     served
 }
 
-// Runs the crew and the workers, plays and serves what is then left, and shows the viewers the whole journal.
-fn run_over<N: Naming + Send + Sync, H: Hook + Send, G: Gate + Sync, R: Threads + Wait + Sync>(
+// Plays and serves what the threads of a run left, and shows the viewers the whole journal.
+fn finish<N: Naming, H: Hook, R: Wait, G: Gate>(
     rt: &R,
     alloc: Global,
     ground: Ground<'_, N, FullPass, H, G>,
-    signals: &Signals,
     crew: Crew,
 ) -> Result<ThreadedRun, Memory>
     requires clients { AreClientsOf N.plans N.words N.result_words N.queues crew.clients.items }
-    requires watches { All (HasWatched N.view 0) crew.watches.items }
+    requires watches { All (HasWatched N.view 16) crew.watches.items }
     ensures { IfOk result (IsThreadedRun N.plans N.base (length crew.watches.items)) }
 {
-    let mut crew = crew;
-    if run_all(rt, alloc, &ground, signals, &mut crew).is_err() {
-        ground.into_hall().end(rt);
-        return Err(Memory);
-    }
     let words = ground.words;
     let Crew { clients, watches } = crew;
     let mut clients = clients;
@@ -200,7 +194,8 @@ fn run_over<N: Naming + Send + Sync, H: Hook + Send, G: Gate + Sync, R: Threads 
     })
 }
 
-// Runs the hall over a setup of which N names the plans, the base, the tables and the view.
+// Runs the hall over a setup of which N names the plans, the base, the tables and the view: the clients, the workers and the viewers on
+// threads, and then what these left.
 fn run_named<N: Naming + Send + Sync, H: Hook + Send, G: Gate + Sync, R: Threads + Wait + Sync>(
     rt: &R,
     alloc: Global,
@@ -237,7 +232,12 @@ fn run_named<N: Naming + Send + Sync, H: Hook + Send, G: Gate + Sync, R: Threads
         return Err(Memory);
     };
     let ground = Ground::new(Hall::make(house, takers, writer), &words, &queues, gate);
-    run_over(rt, alloc, ground, signals, Crew { clients, watches })
+    let mut crew = Crew { clients, watches };
+    if run_all(rt, alloc, &ground, signals, &mut crew).is_err() {
+        ground.into_hall().end(rt);
+        return Err(Memory);
+    }
+    finish(rt, alloc, ground, crew)
 }
 
 /// Runs a script on threads: one for the client of each stream, one for each of 1 to 8 workers, and one for each of up to 4

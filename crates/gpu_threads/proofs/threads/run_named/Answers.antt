@@ -18,8 +18,8 @@ new-ground-requires g c =
     (subst (λ (queues : List TableId). AreShared of_tables N.plans N.words N.result_words N.queues parts.words.items queues) (sym c.deref-2.ensures.value)
     (shared_named N.words N.result_words N.books N.queues parts c.requires.named N.plans c.requires.fresh))
 
-pub run_over-requires-clause-clients : goal.run_over-requires-clause-clients
-run_over-requires-clause-clients g c κs within =
+pub run_all-requires-clause-clients : goal.run_all-requires-clause-clients
+run_all-requires-clause-clients g c κs within =
     let N = g.N.Naming in
     let parts = c.args.setup.parts in
     clients_fit N.plans N.words N.result_words N.queues parts.clients.items (clients_named N.words N.result_words N.books N.queues parts c.requires.named N.plans.plans c.requires.fresh)

@@ -1,4 +1,4 @@
-use Rattle.std.proofs.Common.{◌≡◌, ℕ, List, length, drop, sym, ap, subst, ◌∙◌, arith}
+use Rattle.std.proofs.Common.{◌≡◌, List, length, drop, sym, ap, subst, ◌∙◌, arith}
 use Rattle.std.specs.List.{All}
 use Rattle.gpu_journal.specs.declared.event.Event.{Event}
 use Rattle.gpu_journal.specs.Legal.{IsLegal}
@@ -9,25 +9,25 @@ use Rattle.gpu_threads.specs.Clients.{AreClientsOf}
 use Rattle.gpu_threads.specs.Dumps.{IsThrough, AreAllRead}
 use Rattle.gpu_threads.specs.Views.{AreAllLooks}
 use Rattle.gpu_threads.proofs.Crew.{whole}
-use Rattle.gpu_threads.proofs.threads.run_over.Goals as goal
+use Rattle.gpu_threads.proofs.threads.finish.Goals as goal
 
 pub all_read-requires-clause-clients : goal.all_read-requires-clause-clients
 all_read-requires-clause-clients g c =
     let N = g.N.Naming in
-    let crew = c.run_all.new.crew in
+    let crew = c.args.crew in
     let new = c.play_left-hall.new.clients in
     let many = c.play_left-hall.ensures.clients.many in
-    let was = c.run_all.ensures.clients.many in
+    let was = c.requires.clients.many in
     let long = crew.clients.ok in
     subst (AreClientsOf N.plans N.words N.result_words N.queues) (sym (whole crew.clients.len new (drop (length new) crew.clients.items) (omega (arith, many, was, long)))) c.play_left-hall.ensures.clients
 
 pub all_read-requires-clause-through : goal.all_read-requires-clause-through
 all_read-requires-clause-through g c =
     let N = g.N.Naming in
-    let crew = c.run_all.new.crew in
+    let crew = c.args.crew in
     let new = c.play_left-hall.new.clients in
     let many = c.play_left-hall.ensures.clients.many in
-    let was = c.run_all.ensures.clients.many in
+    let was = c.requires.clients.many in
     let long = crew.clients.ok in
     subst (All (IsThrough N.plans c.play_left-hall.result.past)) (sym (whole crew.clients.len new (drop (length new) crew.clients.items) (omega (arith, many, was, long)))) c.play_left-hall.ensures.through
 
@@ -43,7 +43,6 @@ returns g c =
       based = ended.base;
       legal = subst (IsLegal p) (sym past) c.holds.ensures.legal;
       complete = subst (IsComplete p) (sym past) left.ensures.complete;
-      looks = subst (λ (h : List Event). AreAllLooks p h (length c.args.crew.watches.items) looks) (sym ended.past)
-          (subst (λ (n : ℕ). AreAllLooks p c.all_read.new.hall.past n looks) c.run_all.ensures.many ended.looks);
+      looks = subst (λ (h : List Event). AreAllLooks p h (length c.args.crew.watches.items) looks) (sym ended.past) ended.looks;
       dumps = subst (λ (h : List Event). AreAllRead p h (streams_of p) c.in-Ok.dumps.items) (sym past) c.in-Ok.ensures.read;
     }
