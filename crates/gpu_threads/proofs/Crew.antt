@@ -3,7 +3,8 @@ use Rattle.std.proofs.Common.{◌≡◌, ℕ, suc, ◌+◌, List, ◌∷◌, ◌
 use Rattle.std.proofs.Math.Seq.{take-append_seam}
 use Rattle.atomic_table.specs.Seated.{TableId}
 use Rattle.gpu_plan.specs.Plans.{PlansData}
-use Rattle.gpu_threads.specs.Clients.{ClientData, IsClientAt, AreClientsFrom}
+use Rattle.thread_parts.specs.Clients.{ClientData}
+use Rattle.gpu_threads.specs.Clients.{IsClientAt, AreClientsFrom}
 
 -- what a vector has once its items were changed in place
 pub whole : {X : Type 0} (n : ℕ) (new rest : List X) → length new ≡ n → take n (new ++ rest) ≡ new

@@ -1,5 +1,3 @@
-pub mod Planned
-pub mod Going
 pub mod Shared
 pub mod Made
 pub mod Complete

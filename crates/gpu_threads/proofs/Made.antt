@@ -21,7 +21,8 @@ use Rattle.gpu_house.specs.Names.{table_at}
 use Rattle.gpu_house.specs.Making.{AreFreshResults}
 use Rattle.gpu_threads.specs.declared.full_pass.FullPass.{FullPass}
 use Rattle.gpu_threads.specs.declared.parts.Parts.{Parts}
-use Rattle.gpu_threads.specs.Clients.{ClientData, AreClientsFrom, AreClientsOf}
+use Rattle.thread_parts.specs.Clients.{ClientData}
+use Rattle.gpu_threads.specs.Clients.{AreClientsFrom, AreClientsOf}
 use Rattle.gpu_threads.specs.Making.{AreNumbered, AreClients, AreFreshWriters, AreFreshFor, AreNamed}
 use Rattle.gpu_threads.specs.Rows.{AreShared, shared_in, results_in}
 use Rattle.gpu_threads.specs.Words.{of_tables}

@@ -15,7 +15,7 @@ use Rattle.gpu_house.specs.declared.answers.Doing.{Doing}
 use Rattle.gpu_house.specs.declared.answers.Doing.TheVariants.{Open, Lost, AllDone, Closed}
 use Rattle.gpu_house.specs.Ending.{doing_of}
 use Rattle.gpu_hall.specs.Settling.{AreSettled}
-use Rattle.gpu_threads.specs.Clients.{dump_of, read_for}
+use Rattle.thread_parts.specs.Clients.{dump_of, read_for}
 use Rattle.gpu_threads.specs.Dumps.{AreRead, AreAllRead}
 use Rattle.gpu_threads.proofs.Cutting.{may_be_told}
 

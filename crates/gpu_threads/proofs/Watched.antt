@@ -17,7 +17,8 @@ use Rattle.live_view.proofs.Prefixes.{prefix_length}
 use Rattle.gpu_hall.specs.Views.{ShownData}
 use Rattle.gpu_hall.specs.Looks.{IsLookOf, AreViewerLooks}
 use Rattle.gpu_hall.proofs.Looked.{look_is_of, last_look}
-use Rattle.gpu_threads.specs.Views.{HasLooked, SawTold}
+use Rattle.thread_parts.specs.Watches.{HasLooked}
+use Rattle.gpu_threads.specs.Views.{SawTold}
 
 -- ---- the looks of one viewer
 

@@ -4,7 +4,7 @@ use Rattle.gpu_plan.specs.Plans.{PlansData}
 use Rattle.gpu_journal.specs.declared.event.Event.{Event}
 use Rattle.gpu_journal.specs.Waits.{standing_of}
 use Rattle.gpu_journal.specs.Dumps.{MayDump, dumps_of}
-use Rattle.gpu_threads.specs.Clients.{ClientData, IsWhole}
+use Rattle.thread_parts.specs.Clients.{ClientData, IsWhole}
 
 -- this was read of a dump of stream s: the dump's action place and result place, and a value that may be told of it
 pub record IsRead (p : PlansData) (h : List Event) (s : ℕ) (dump : ℕ × ℕ) (read : ℕ × ℕ × ℕ) : Type 0 where

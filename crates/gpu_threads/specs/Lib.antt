@@ -1,7 +1,6 @@
 pub mod Words
 pub mod Rows
 pub mod Clients
-pub mod Acts
 pub mod Turns
 pub mod Making
 pub mod Over

@@ -11,7 +11,7 @@ use Rattle.gpu_house.specs.Making.{AreFreshSides}
 use Rattle.gpu_hall.specs.Takers.{AreFreshTakers}
 use Rattle.gpu_threads.specs.declared.full_pass.FullPass.{FullPass}
 use Rattle.gpu_threads.specs.declared.parts.Parts.{Parts}
-use Rattle.gpu_threads.specs.Clients.{ClientData}
+use Rattle.thread_parts.specs.Clients.{ClientData}
 use Rattle.gpu_threads.specs.Rows.{shared_in, results_in}
 
 -- the clients are of the streams from s on, in order

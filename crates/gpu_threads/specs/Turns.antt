@@ -1,12 +1,12 @@
 -- What a turn of a client comes to.
 use Rattle.std.specs.Prelude.{◌⊎◌}
 use Rattle.shm_words.specs.declared.client.Acted.TheVariants.{NotYet, AtClose, End}
-use Rattle.gpu_threads.specs.declared.client.Act.{Act}
-use Rattle.gpu_threads.specs.declared.client.Act.TheVariants as act
+use Rattle.thread_parts.specs.declared.client.Act.{Act}
+use Rattle.thread_parts.specs.declared.client.Act.TheVariants as act
 use Rattle.gpu_threads.specs.declared.turns.ClientTurn.{ClientTurn}
 use Rattle.gpu_threads.specs.declared.turns.ClientTurn.TheVariants.{Went, Waiting, Ended}
-use Rattle.gpu_threads.specs.Clients.{ClientData, IsSameClient}
-use Rattle.gpu_threads.specs.Acts.{HasGone, IsFull, IsUnread, HasTried}
+use Rattle.thread_parts.specs.Clients.{ClientData, IsSameClient}
+use Rattle.thread_parts.specs.Acts.{HasGone, IsFull, IsUnread, HasTried}
 
 -- the client could not go on: its await does not pass, its queue did not take a note, the dump that is due could not be read, or it
 -- stands at its Close

@@ -5,11 +5,11 @@ ghost use Rattle.gpu_hall.specs.Ready.{IsReady};
 
 use crate::ground::Ground;
 use crate::over::{all_over, is_lost};
-use crate::shift::{Leave, Shift};
 use gpu_hall::{Hall, NamedSide};
 use gpu_house::{Naming, Run};
 use gpu_io::{Gate, Place};
 use std::sync::{MutexGuard, Wait};
+use thread_parts::{Leave, Shift};
 use wait_hooks::Hook;
 
 // Orders the flushes that were posted, of each stream whose earlier flushes are finished: later ones could not run yet.

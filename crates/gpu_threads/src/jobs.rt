@@ -1,13 +1,10 @@
 //! What each thread of a run does.
-ghost use Rattle.gpu_threads.specs.Clients.{IsClientOf, IsSameClient, AreClientsOf};
+ghost use Rattle.thread_parts.specs.Clients.{IsSameClient};
+ghost use Rattle.gpu_threads.specs.Clients.{IsClientOf, AreClientsOf};
 
 use crate::chain::serve_on;
-use crate::client::{Act, Client};
 use crate::full_pass::FullPass;
 use crate::ground::Ground;
-use crate::pace::Pace;
-use crate::shift::Leave;
-use crate::signals::{OR_TOKEN, ROOM, Signals};
 use crate::turns::{is_ended, turn};
 use gpu_house::Naming;
 use gpu_io::Gate;
@@ -16,6 +13,7 @@ use std::alloc::Global;
 use std::sync::Wait;
 use std::thread;
 use std::thread::Threads;
+use thread_parts::{Act, Client, Leave, OR_TOKEN, Pace, ROOM, Signals};
 use wait_hooks::Hook;
 
 // A thread that waits serves where fewer threads do than are wanted, or where it has waited for long. Then it sleeps until its bell is

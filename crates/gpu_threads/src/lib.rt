@@ -50,30 +50,24 @@
 //! - No clause says which number of a flush the gate hears: a gate changes nothing of a run.
 #![tactic(auto)]
 
-mod bell;
 mod chain;
-mod client;
 mod full_pass;
 mod ground;
 mod jobs;
 mod over;
-mod pace;
 mod parts;
 mod reading;
 mod rows;
 mod serving;
-mod shift;
-mod signals;
 mod threaded_run;
 mod threads;
 mod turns;
 mod views;
-mod watch;
 
-pub use client::Client;
 pub use full_pass::FullPass;
 pub use ground::Ground;
 pub use serving::{Turn, serve_turn};
+pub use thread_parts::Client;
 pub use threaded_run::ThreadedRun;
 pub use threads::{Team, run_threads};
 pub use turns::{ClientTurn, client_turn};

@@ -3,7 +3,6 @@ ghost use Rattle.gpu_cmd.specs.Spans.{words_in};
 ghost use Rattle.gpu_plan.specs.Plans.{PlanData};
 ghost use Rattle.gpu_threads.specs.Making.{AreFreshFor};
 
-use crate::client::Client;
 use crate::full_pass::FullPass;
 use flush_queue::{FlushQueue, Taker};
 use gpu_books::{Book, Half};
@@ -14,6 +13,7 @@ use result_words::{ResultWords, ResultWriter};
 use shm_words::SharedWords;
 use std::alloc::Global;
 use std::sync::Wait;
+use thread_parts::Client;
 
 /// What a run on threads is made of. Of each stream, in order: the words and the result words that it shares with its client, the client,
 /// the service's side of the words, the writer of its results, its book, the queue of its flushes, and the end at which they are taken.

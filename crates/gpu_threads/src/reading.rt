@@ -9,7 +9,6 @@ ghost use Rattle.gpu_threads.specs.Dumps.{AreRead, AreAllRead, IsThrough};
 ghost use Rattle.gpu_threads.specs.Rows.{AreWordsOf};
 ghost use Rattle.gpu_threads.specs.Words.{of_tables};
 
-use crate::client::Client;
 use crate::full_pass::FullPass;
 use crate::over::is_lost;
 use crate::rows::words_of;
@@ -20,6 +19,7 @@ use gpu_word::Memory;
 use result_words::ResultWords;
 use shm_words::SharedWords;
 use std::alloc::Global;
+use thread_parts::Client;
 use wait_hooks::Hook;
 
 // Whether a client has read all its dumps, or its stream is lost.

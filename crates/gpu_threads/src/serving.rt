@@ -1,11 +1,11 @@
 //! One turn of a worker.
 use crate::chain::serve_on;
 use crate::ground::Ground;
-use crate::shift::{Leave, Shift};
 use gpu_hall::NamedSide;
 use gpu_house::Naming;
 use gpu_io::Gate;
 use std::sync::Wait;
+use thread_parts::{Leave, Shift};
 use wait_hooks::Hook;
 
 /// What a turn of a worker came to.

@@ -7,9 +7,8 @@ ghost use Rattle.gpu_threads.specs.Dumps.{IsThrough};
 ghost use Rattle.gpu_threads.specs.Clients.{AreClientsOf};
 ghost use Rattle.gpu_threads.specs.Making.{AreFreshFor, AreNamed};
 ghost use Rattle.gpu_threads.specs.Runs.{IsThreadedRun};
-ghost use Rattle.gpu_threads.specs.Views.{HasNotLooked, HasWatched, HaveWatched};
+ghost use Rattle.thread_parts.specs.Watches.{HasNotLooked, HasWatched, HaveWatched};
 
-use crate::client::Client;
 use crate::full_pass::FullPass;
 use crate::ground::Ground;
 use crate::jobs::{play_all, serve_all};
@@ -17,11 +16,9 @@ use crate::over::all_over;
 use crate::parts::Parts;
 use crate::reading::{all_read, all_through};
 use crate::serving::serve_turn;
-use crate::signals::Signals;
 use crate::threaded_run::ThreadedRun;
 use crate::turns::turn;
 use crate::views::{Views, end_writer, show_all, watch_all};
-use crate::watch::Watch;
 use gpu_hall::Hall;
 use gpu_house::{House, Naming};
 use gpu_io::Gate;
@@ -32,6 +29,7 @@ use std::marker::Brand;
 use std::sync::Wait;
 use std::thread;
 use std::thread::Threads;
+use thread_parts::{Client, Signals, Watch};
 use wait_hooks::Hook;
 
 /// How many threads serve in a run, and how many look.

@@ -3,11 +3,11 @@ ghost use Rattle.std.specs.Prelude.{◌≡◌, length, true};
 ghost use Rattle.gpu_plan.specs.Plans.{plan_of, is_closed};
 ghost use Rattle.sync_core.specs.Standing.{IsKnown};
 ghost use Rattle.gpu_house.specs.Names.{table_at};
-ghost use Rattle.gpu_threads.specs.Clients.{IsClientOf, IsSameClient};
+ghost use Rattle.thread_parts.specs.Clients.{IsSameClient};
+ghost use Rattle.gpu_threads.specs.Clients.{IsClientOf};
 ghost use Rattle.gpu_threads.specs.Turns.{Turns, TurnsSo};
 ghost use Rattle.gpu_threads.specs.Words.{of_tables};
 
-use crate::client::{Act, Client};
 use crate::ground::Ground;
 use crate::over::is_gone;
 use gpu_hall::NamedSide;
@@ -16,6 +16,7 @@ use gpu_io::Gate;
 use result_words::ResultWords;
 use shm_words::SharedWords;
 use std::sync::{MutexGuard, Wait};
+use thread_parts::{Act, Client};
 use wait_hooks::Hook;
 
 /// What a turn of a client came to.

@@ -4,9 +4,9 @@ ghost use Rattle.std.specs.List.{All};
 ghost use mathlib.Core.List.{IsPrefix};
 ghost use Rattle.gpu_threads.specs.Viewers.{AreFreshViews};
 ghost use Rattle.gpu_hall.specs.Looks.{AreViewerLooks};
-ghost use Rattle.gpu_threads.specs.Views.{AreAllLooks, HasNotLooked, HasWatched, HaveWatched, IsTold, SawTold};
+ghost use Rattle.thread_parts.specs.Watches.{HasNotLooked, HasWatched, HaveWatched};
+ghost use Rattle.gpu_threads.specs.Views.{AreAllLooks, IsTold, SawTold};
 
-use crate::watch::Watch;
 use gpu_hall::{Hall, NamedSide, Shown};
 use gpu_house::{Naming, Report};
 use gpu_io::Gate;
@@ -16,6 +16,7 @@ use std::alloc::Global;
 use std::sync::Wait;
 use std::thread;
 use std::thread::Threads;
+use thread_parts::Watch;
 use wait_hooks::Hook;
 
 /// The viewers of a run, and the writer of the view that they look at. Where there is no viewer, there is no writer.

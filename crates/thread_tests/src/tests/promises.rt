@@ -12,8 +12,9 @@ ghost use Rattle.gpu_house.specs.Stuck.{IsNotStuck};
 ghost use Rattle.gpu_hall.specs.Outs.{NoneIsPaused};
 ghost use Rattle.gpu_hall.specs.Laws.{GrowsBy};
 ghost use Rattle.gpu_hall.specs.Ready.{IsReady};
-ghost use Rattle.gpu_threads.specs.Clients.{ClientData, IsClientOf, IsSameClient};
-ghost use Rattle.gpu_threads.specs.Acts.{HasGone, HasTried};
+ghost use Rattle.thread_parts.specs.Clients.{ClientData, IsSameClient};
+ghost use Rattle.gpu_threads.specs.Clients.{IsClientOf};
+ghost use Rattle.thread_parts.specs.Acts.{HasGone, HasTried};
 ghost use Rattle.gpu_threads.specs.Turns.{HasStopped};
 ghost use Rattle.gpu_threads.specs.Words.{of_tables};
 

@@ -1,5 +1,6 @@
 use Rattle.gpu_house.specs.Names.{table_at}
-use Rattle.gpu_threads.specs.Clients.{IsClientOf, IsSameClient}
+use Rattle.thread_parts.specs.Clients.{IsSameClient}
+use Rattle.gpu_threads.specs.Clients.{IsClientOf}
 use Rattle.gpu_threads.specs.Words.{of_tables}
 use Rattle.gpu_threads.proofs.jobs.play.Given as goal
 

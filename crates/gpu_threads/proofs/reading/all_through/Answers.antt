@@ -1,6 +1,6 @@
 use Rattle.std.proofs.Common.{length, sym, subst, arith}
 use Rattle.sync_core.specs.Standing.{IsKnown}
-use Rattle.gpu_threads.specs.Clients.{ClientData}
+use Rattle.thread_parts.specs.Clients.{ClientData}
 use Rattle.gpu_threads.proofs.reading.all_through.Goals as goal
 
 pub is_through-requires : goal.is_through-requires

@@ -1,6 +1,6 @@
 use Rattle.std.proofs.Common.{◌≡◌, true, false, map, sym, ap, ◌∙◌}
 use Rattle.gpu_journal.specs.Waits.{standing_of}
-use Rattle.gpu_threads.specs.Clients.{dump_of, read_for}
+use Rattle.thread_parts.specs.Clients.{dump_of, read_for}
 use Rattle.gpu_threads.proofs.Told.{none_read, whole_read, settled_so}
 use Rattle.gpu_threads.proofs.reading.read_of.Goals as goal
 

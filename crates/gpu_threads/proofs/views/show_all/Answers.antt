@@ -9,7 +9,7 @@ use Rattle.gpu_journal.specs.declared.event.Event.{Event}
 use Rattle.live_view.specs.declared.look.Look.{Look}
 use Rattle.gpu_hall.specs.Views.{ShownData}
 use Rattle.gpu_hall.specs.Looks.{AreViewerLooks}
-use Rattle.gpu_threads.specs.Views.{HasWatched}
+use Rattle.thread_parts.specs.Watches.{HasWatched}
 use Rattle.gpu_threads.proofs.views.show_all.Goals as goal
 
 pub loop-watch-init : goal.loop-watch-init

@@ -2,7 +2,7 @@ use Rattle.std.proofs.Common.{◌≡◌, ◌+◌, ◌≤◌, length}
 use Rattle.std.specs.Prelude.{IfSome, vec_capacity}
 use Rattle.std.specs.List.{All}
 use Rattle.gpu_hall.specs.Looks.{AreViewerLooks}
-use Rattle.gpu_threads.specs.Views.{HasWatched}
+use Rattle.thread_parts.specs.Watches.{HasWatched}
 use Rattle.gpu_threads.proofs.views.show_all.Given as goal
 
 -- the viewers up to here have seen all

@@ -9,7 +9,7 @@ use Rattle.gpu_cmd.specs.declared.areas.Span.{Span}
 use Rattle.gpu_plan.specs.declared.plan.Action.{Action}
 use Rattle.gpu_plan.specs.declared.plan.Action.TheVariants.{Finish}
 use Rattle.gpu_plan.specs.Plans.{IsDump, RiseFrom}
-use Rattle.gpu_threads.specs.Clients.{dumps_to, due_in}
+use Rattle.thread_parts.specs.Clients.{dumps_to, due_in}
 
 -- none of them is before the first
 pub none_before : (r k : ℕ) (dumps : List (ℕ × ℕ)) → RiseFrom r dumps → k ≤ r → dumps_to k dumps ≡ []

@@ -3,7 +3,7 @@ use crate::signals::Signals;
 
 /// How a thread came to serve no longer.
 #[derive(Clone, Copy, Debug, PartialEq, Eq)]
-pub(crate) enum Leave {
+pub enum Leave {
     /// It has taken the one run that it was to take.
     Enough,
     /// No stream at home could run.
@@ -15,7 +15,7 @@ pub(crate) enum Leave {
 /// What a thread keeps in mind while it serves: whom it tells of what it does, how many runs it takes, whose bells must be
 /// rung once the lock is free, and how it came to leave.
 #[derive(Drop)]
-pub(crate) struct Shift<'a> {
+pub struct Shift<'a> {
     // None where it serves one turn, and tells nobody.
     signals: Option<&'a Signals>,
     is_worker: bool,
@@ -42,7 +42,7 @@ impl<'a> Shift<'a> {
     }
 
     /// Of one turn, for which all queues are collected.
-    pub(crate) fn of_one_turn() -> Shift<'a> {
+    pub fn of_one_turn() -> Shift<'a> {
         Shift {
             signals: None,
             is_worker: true,
@@ -54,7 +54,7 @@ impl<'a> Shift<'a> {
     }
 
     /// The thread begins to serve.
-    pub(crate) fn begin(&mut self) {
+    pub fn begin(&mut self) {
         if let Some(signals) = self.signals {
             self.once = signals.begin();
         }
@@ -63,7 +63,7 @@ impl<'a> Shift<'a> {
     /// It serves no longer. It says how it came to leave:
     /// - where it leaves something undone, a worker is called; a worker looks again by itself
     /// - where all is over, all of them are
-    pub(crate) fn end(&self) -> Leave {
+    pub fn end(&self) -> Leave {
         if let Some(signals) = self.signals {
             signals.end();
             match self.leave {
@@ -77,12 +77,12 @@ impl<'a> Shift<'a> {
     }
 
     /// It must leave.
-    pub(crate) fn stop(&mut self, leave: Leave) {
+    pub fn stop(&mut self, leave: Leave) {
         self.leave = leave;
     }
 
     /// Whether a queue may hold something that may be collected. From now on none does before something more is posted or finished.
-    pub(crate) fn takes_posted(&self) -> bool {
+    pub fn takes_posted(&self) -> bool {
         match self.signals {
             Some(signals) => signals.take_posted(),
             None => true,
@@ -90,7 +90,7 @@ impl<'a> Shift<'a> {
     }
 
     /// Whether the queue of this stream must be collected: it may hold something, and what was taken from it is finished.
-    pub(crate) fn may_collect(&self, stream: u32, finishes: u32) -> bool {
+    pub fn may_collect(&self, stream: u32, finishes: u32) -> bool {
         match self.signals {
             Some(signals) => signals.may_collect(stream, finishes),
             None => true,
@@ -98,7 +98,7 @@ impl<'a> Shift<'a> {
     }
 
     /// A given number of flushes was taken from the queue of a stream, so that it has room.
-    pub(crate) fn note_taken(&mut self, stream: u32, count: u32) {
+    pub fn note_taken(&mut self, stream: u32, count: u32) {
         if let Some(signals) = self.signals {
             if signals.note_taken(stream, count) {
                 self.owe(stream);
@@ -107,7 +107,7 @@ impl<'a> Shift<'a> {
     }
 
     /// A stream has this number of finishes, a new token or none, and is lost or not.
-    pub(crate) fn note_end(&mut self, stream: u32, finishes: u32, has_token: bool, lost: bool) {
+    pub fn note_end(&mut self, stream: u32, finishes: u32, has_token: bool, lost: bool) {
         if let Some(signals) = self.signals {
             if lost {
                 signals.note_lost(stream);
@@ -124,17 +124,17 @@ impl<'a> Shift<'a> {
     }
 
     /// Whether the thread takes no more runs.
-    pub(crate) fn has_enough(&self) -> bool {
+    pub fn has_enough(&self) -> bool {
         self.once && self.ran
     }
 
     /// The thread takes a run.
-    pub(crate) fn note_run(&mut self) {
+    pub fn note_run(&mut self) {
         self.ran = true;
     }
 
     /// Rings the bells that must be rung. No lock is held.
-    pub(crate) fn ring(&mut self) {
+    pub fn ring(&mut self) {
         let Some(signals) = self.signals else {
             return;
         };

@@ -1,9 +1,9 @@
 use Rattle.std.proofs.Common.{◌≡◌, length, sym, ap, subst, arith}
 use Rattle.std.proofs.lemmas.List.{length-map}
 use Rattle.std.proofs.lemmas.Bool.Decides.{nat_tests}
-use Rattle.gpu_threads.specs.Clients.{ClientData, IsWhole, dump_of}
-use Rattle.gpu_threads.proofs.Going.{is_whole}
-use Rattle.gpu_threads.proofs.client.Client.is_whole.Goals as goal
+use Rattle.thread_parts.specs.Clients.{ClientData, IsWhole, dump_of}
+use Rattle.thread_parts.proofs.Going.{is_whole}
+use Rattle.thread_parts.proofs.client.Client.is_whole.Goals as goal
 
 pub returns : goal.returns
 returns c =

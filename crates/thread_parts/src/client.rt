@@ -5,8 +5,8 @@ ghost use Rattle.gpu_plan.specs.Plans.{is_closed};
 ghost use Rattle.gpu_plan.specs.Passes.{flushes};
 ghost use Rattle.flush_queue.specs.Seen.{fresh_end, one_more, note_of, AreLatest};
 ghost use Rattle.shm_words.specs.Seen.{client_at};
-ghost use Rattle.gpu_threads.specs.Clients.{IsSameClient, IsWhole, due_in, read_for};
-ghost use Rattle.gpu_threads.specs.Acts.{ActsAs};
+ghost use Rattle.thread_parts.specs.Clients.{IsSameClient, IsWhole, due_in, read_for};
+ghost use Rattle.thread_parts.specs.Acts.{ActsAs};
 
 use flush_queue::{FlushQueue, Poster};
 use gpu_io::{Gate, Place};
@@ -38,7 +38,7 @@ pub struct Client {
 }
 
 impl Model for Client {
-    ghost use Rattle.gpu_threads.specs.Clients.{ClientData, IsClient};
+    ghost use Rattle.thread_parts.specs.Clients.{ClientData, IsClient};
 
     ghost Value = { ClientData };
 
@@ -67,7 +67,7 @@ impl Model for Client {
 
 /// How one action of a client went.
 #[derive(Clone, Copy, Debug, PartialEq, Eq)]
-pub(crate) enum Act {
+pub enum Act {
     /// It did an action, posted the flush that it held, or read the dump that was due.
     Went,
     /// Its queue did not take the note.
@@ -133,7 +133,7 @@ impl Client {
     /// # Errors
     ///
     /// `Memory`: for the list of the dumps, 20 bytes each.
-    pub(crate) fn make(
+    pub fn make(
         alloc: Global,
         stream: u32,
         plan: &Plan,
@@ -181,12 +181,12 @@ impl Client {
     }
 
     /// How many flushes it has made.
-    pub(crate) fn flushed(&self) -> u32 {
+    pub fn flushed(&self) -> u32 {
         self.flushed
     }
 
     /// How many of them it has posted.
-    pub(crate) fn posted(&self) -> u32 {
+    pub fn posted(&self) -> u32 {
         if self.held.is_some() {
             self.flushed.saturating_sub(1)
         } else {
@@ -195,19 +195,19 @@ impl Client {
     }
 
     /// Whether its next action is an await of a token.
-    pub(crate) fn awaits_token(&self) -> bool {
+    pub fn awaits_token(&self) -> bool {
         self.pass.awaits_token()
     }
 
     /// Whether it has read all dumps of its plan.
-    pub(crate) fn is_whole(&self) -> bool
+    pub fn is_whole(&self) -> bool
         ensures { IsTrue result ↔ IsWhole self.now }
     {
         self.dumps.len() == self.planned.len()
     }
 
     /// Its reader, and the dumps that it has read.
-    pub(crate) fn into_parts(self) -> (ResultReader, Vec<(u32, u32, u32)>)
+    pub fn into_parts(self) -> (ResultReader, Vec<(u32, u32, u32)>)
         ensures reader { result.0 ≡ self.reader }
         ensures dumps { result.1.items ≡ self.dumps }
         ensures reads { result.0.reads ≡ map (read_for self.pass.plan) result.1.items }
@@ -295,7 +295,7 @@ impl Client {
 
     /// One action, with no lock: a note that is held is posted, a dump that is due is read, or else the next action is
     /// done. At most one of the first two is due, since no action comes before it.
-    pub(crate) fn act<R: Wait, G: Gate>(
+    pub fn act<R: Wait, G: Gate>(
         &mut self,
         rt: &R,
         words: &(SharedWords, ResultWords),

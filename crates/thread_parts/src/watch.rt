@@ -2,7 +2,7 @@ ghost use Rattle.std.specs.Prelude.{◌≡◌, ◌<◌, [], length, map, IfOk, I
 ghost use Rattle.std.specs.List.{All};
 ghost use mathlib.Core.List.{IsPrefix};
 ghost use Rattle.live_view.specs.Looks.{IsOf, AreLooks};
-ghost use Rattle.gpu_threads.specs.Views.{HasNotLooked, HasWatched, HasLooked};
+ghost use Rattle.thread_parts.specs.Watches.{HasNotLooked, HasWatched, HasLooked};
 
 use gpu_io::{Gate, Place};
 use gpu_word::Memory;
@@ -21,7 +21,7 @@ const ALL_LOOKS: usize = 17;
 ///
 /// Seen as its viewer.
 #[derive(Drop)]
-pub(crate) struct Watch {
+pub struct Watch {
     number: u32,
     viewer: Viewer,
     seen: Vec<Look>,
@@ -30,7 +30,7 @@ pub(crate) struct Watch {
 impl Model for Watch {
     ghost use Rattle.std.specs.Prelude.{vec_capacity};
     ghost use Rattle.live_view.specs.Seen.{ViewerData};
-    ghost use Rattle.gpu_threads.specs.Views.{IsWatch};
+    ghost use Rattle.thread_parts.specs.Watches.{IsWatch};
 
     ghost Value = { ViewerData };
 
@@ -41,7 +41,11 @@ impl Model for Watch {
 
 impl Watch {
     /// A viewer that has not looked, with room for what it will see.
-    pub(crate) fn make(alloc: Global, number: u32, viewer: Viewer) -> Result<Watch, Memory>
+    ///
+    /// # Errors
+    ///
+    /// `Memory`: for this room.
+    pub fn make(alloc: Global, number: u32, viewer: Viewer) -> Result<Watch, Memory>
         requires { viewer.looks ≡ [] }
         ensures { IfOk result (λ watch. watch ≡ viewer) }
     {
@@ -53,7 +57,7 @@ impl Watch {
     }
 
     /// Looks once.
-    pub(crate) fn look<R: Wait>(&mut self, rt: &R)
+    pub fn look<R: Wait>(&mut self, rt: &R)
         requires { length self.old.looks < 17 }
         ensures { HasLooked self.old self.new }
     {
@@ -74,7 +78,7 @@ impl Watch {
     }
 
     /// All looks that are done while the run goes on.
-    pub(crate) fn watch<R: Wait, G: Gate>(&mut self, rt: &R, gate: &G)
+    pub fn watch<R: Wait, G: Gate>(&mut self, rt: &R, gate: &G)
         requires { HasNotLooked self.old }
         ensures { HasWatched self.old.view 16 self.new }
     {
@@ -84,7 +88,7 @@ impl Watch {
     }
 
     /// Takes in what the writer told, and says whether all looks were at versions that were reported.
-    pub(crate) fn learn<R: Wait>(&mut self, rt: &R, told: Told) -> bool
+    pub fn learn<R: Wait>(&mut self, rt: &R, told: Told) -> bool
         requires { told.view ≡ self.old.view }
         ensures view { self.new.view ≡ self.old.view }
         ensures told { IsPrefix told.versions self.new.versions }
@@ -95,7 +99,7 @@ impl Watch {
     }
 
     /// What it saw.
-    pub(crate) fn into_seen(self) -> Vec<Look>
+    pub fn into_seen(self) -> Vec<Look>
         ensures seen { result.items ≡ map (λ sight. sight.look) self.looks }
         ensures kept { AreLooks self.versions self.looks }
     {

@@ -1,5 +1,5 @@
 -- What a client keeps while it acts.
-use Rattle.std.proofs.Common.{◌≡◌, ℕ, zero, suc, ◌+◌, ◌<◌, ◌≤◌, Bool, true, false, cond, Option, Some, None, List, [], ◌∷◌, ◌++◌, length, map, refl, sym, ap, subst, ◌∙◌, arith}
+use Rattle.std.proofs.Common.{◌≡◌, ℕ, zero, suc, ◌+◌, ◌<◌, ◌≤◌, Bool, true, false, cond, Option, Some, None, List, [], ◌∷◌, ◌++◌, length, map, take, refl, sym, ap, subst, ◌∙◌, arith}
 use Rattle.std.specs.Prelude.{nat_lt, slice_get, IfSome, IfNone, OnSome, IsTrue, option_to_list}
 use Rattle.std.specs.Option.{IsSomeAnd}
 use Rattle.std.specs.List.{All}
@@ -19,10 +19,10 @@ use Rattle.flush_queue.specs.Seen.{EndData, fresh_end, one_more}
 use Rattle.flush_queue.specs.Clients.{HasPostedAll}
 use Rattle.flush_queue.proofs.Posting as posting
 use Rattle.result_words.specs.Seen.{ReaderData}
-use Rattle.gpu_run.specs.Clients.{flushes_to}
-use Rattle.gpu_threads.specs.Clients.{IsHeld, ArePosted, dump_of, dumps_to, due_in, read_for, ClientData, HasRead, IsCounted, IsClient}
-use Rattle.gpu_threads.proofs.Planned.{none_before, next_dumps, due_is}
-use Rattle.gpu_threads.proofs.Planned as dues
+use Rattle.gpu_plan.specs.Passes.{flushes}
+use Rattle.thread_parts.specs.Clients.{IsHeld, ArePosted, dump_of, dumps_to, due_in, read_for, ClientData, HasRead, IsCounted, IsClient}
+use Rattle.thread_parts.proofs.Planned.{none_before, next_dumps, due_is}
+use Rattle.thread_parts.proofs.Planned as dues
 
 -- ---- what the next action is, by how it went
 
@@ -164,7 +164,7 @@ module _ (c : ClientData) (planned : List (ℕ × ℕ)) (position flushed room :
           few = is.counted.few;
           place = omega (arith, one, place);
           count = is.counted.count ∙ sym all_posted.count ∙ posted.count ∙ ap flushes_before acts.becomes;
-          due_asks = if_map due (λ dump its. is.counted.count ∙ ap (flushes_to c.pass.plan) (sym (its.0 ∙ place))) dump;
+          due_asks = if_map due (λ dump its. is.counted.count ∙ ap (λ (k : ℕ). flushes (take k c.pass.plan.actions)) (sym (its.0 ∙ place))) dump;
           due_there = if_map due (λ dump its. its.1.1) dump;
           room_is = is.counted.room_is;
         };
@@ -231,7 +231,7 @@ module _ (c : ClientData) (planned : List (ℕ × ℕ)) (position flushed room :
           few = is.counted.few;
           place = omega (arith, place);
           count = omega (arith, count, before, after);
-          due_asks = subst (λ (due : Option (ℕ × ℕ)). IfSome due (λ dump. flushed + 1 ≡ flushes_to c.pass.plan dump.0)) (sym none_due) tt;
+          due_asks = subst (λ (due : Option (ℕ × ℕ)). IfSome due (λ dump. flushed + 1 ≡ flushes (take dump.0 c.pass.plan.actions))) (sym none_due) tt;
           due_there = is.counted.due_there;
           room_is = is.counted.room_is;
         };

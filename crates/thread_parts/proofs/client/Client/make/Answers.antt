@@ -2,8 +2,8 @@ use Rattle.std.proofs.Common.{◌≡◌, ◌≤◌, List, length, subst, ◌∙�
 use Rattle.std.specs.List.{All}
 use Rattle.gpu_plan.specs.declared.plan.Action.{Action}
 use Rattle.gpu_plan.specs.Plans.{IsDump, RiseFrom}
-use Rattle.gpu_threads.proofs.Going.{made}
-use Rattle.gpu_threads.proofs.client.Client.make.Goals as goal
+use Rattle.thread_parts.proofs.Going.{made}
+use Rattle.thread_parts.proofs.client.Client.make.Goals as goal
 
 pub invariant_of-result : goal.invariant_of-result
 invariant_of-result c =

@@ -16,7 +16,7 @@ const SPINS: u32 = 16;
 
 /// What a client keeps in mind from one action to the next, and a worker from one rest to the next.
 #[derive(Drop)]
-pub(crate) struct Pace<'a> {
+pub struct Pace<'a> {
     signals: &'a Signals,
     // The stream of a client, or 0.
     stream: u32,
@@ -33,7 +33,7 @@ pub(crate) struct Pace<'a> {
 
 impl<'a> Pace<'a> {
     /// Of the client of a stream.
-    pub(crate) fn of_client(signals: &'a Signals, stream: u32) -> Pace<'a> {
+    pub fn of_client(signals: &'a Signals, stream: u32) -> Pace<'a> {
         Pace {
             signals,
             stream,
@@ -46,7 +46,7 @@ impl<'a> Pace<'a> {
     }
 
     /// Of a worker. Workers are counted from 0.
-    pub(crate) fn of_worker(signals: &'a Signals, worker: usize) -> Pace<'a> {
+    pub fn of_worker(signals: &'a Signals, worker: usize) -> Pace<'a> {
         Pace {
             signals,
             stream: 0,
@@ -59,13 +59,13 @@ impl<'a> Pace<'a> {
     }
 
     /// The thread is about to look at what it waits for: a ring from now on does not let it sleep.
-    pub(crate) fn listen(&mut self) {
+    pub fn listen(&mut self) {
         self.heard = self.signals.heard(self.bell);
     }
 
     /// The client did an action, by which it may have posted a flush. Of one posted before a worker hears, since the client goes on and
     /// does not serve itself.
-    pub(crate) fn go(&mut self, has_posted: bool) {
+    pub fn go(&mut self, has_posted: bool) {
         if self.untold {
             self.signals.call();
         }
@@ -81,13 +81,13 @@ impl<'a> Pace<'a> {
     }
 
     /// The client has come to its end. A worker hears of what it posted.
-    pub(crate) fn end(&self) {
+    pub fn end(&self) {
         self.signals.call();
     }
 
     /// The client cannot go on before its stream has this number of finishes, or its queue room. It says whether the
     /// client must try again: it has only now told what it needs, and a finish before that rang no bell.
-    pub(crate) fn asks(&mut self, needs: u64) -> bool {
+    pub fn asks(&mut self, needs: u64) -> bool {
         if self.asked {
             return false;
         }
@@ -103,22 +103,22 @@ impl<'a> Pace<'a> {
     }
 
     /// Whether the stream of the client may be lost or closed.
-    pub(crate) fn may_be_over(&self) -> bool {
+    pub fn may_be_over(&self) -> bool {
         self.has_waited_long() || self.signals.is_lost(self.stream)
     }
 
     /// Whether the thread must serve.
-    pub(crate) fn may_serve(&self) -> bool {
+    pub fn may_serve(&self) -> bool {
         self.has_waited_long() || self.signals.is_short()
     }
 
     /// What the thread keeps in mind when it serves.
-    pub(crate) fn shift(&self) -> Shift<'a> {
+    pub fn shift(&self) -> Shift<'a> {
         Shift::new(self.signals, self.stream == 0)
     }
 
     /// The thread sleeps until its bell is rung, but not where a thread that serves is wanted. A client first looks for a while.
-    pub(crate) fn sleep<R: Wait>(&mut self, rt: &R) {
+    pub fn sleep<R: Wait>(&mut self, rt: &R) {
         let Some(bell) = self.signals.bell(self.bell) else {
             return;
         };

@@ -1,6 +1,6 @@
 use Rattle.std.proofs.Common.{arith}
-use Rattle.gpu_threads.proofs.Going.{has_room}
-use Rattle.gpu_threads.proofs.client.Client.read_due.Goals as goal
+use Rattle.thread_parts.proofs.Going.{has_room}
+use Rattle.thread_parts.proofs.client.Client.read_due.Goals as goal
 
 pub push_reserved-requires : goal.push_reserved-requires
 push_reserved-requires c =

@@ -13,10 +13,10 @@ use std::sync::atomic::{AtomicU64, Ordering};
 const MOST_SERVERS: u64 = 1;
 
 /// What a client needs that waits for room in its queue: more finishes than there can be.
-pub(crate) const ROOM: u64 = 1 << 32;
+pub const ROOM: u64 = 1 << 32;
 
 /// What is added to the finishes that a client needs, where a token serves it as well.
-pub(crate) const OR_TOKEN: u64 = 1 << 33;
+pub const OR_TOKEN: u64 = 1 << 33;
 
 /// The signals of one stream.
 #[derive(Drop)]
@@ -53,7 +53,7 @@ impl StreamSignals {
 /// What the threads of a run tell each other. Streams and bells are counted from 1: the bell of a stream, on which its client
 /// sleeps, has the number of the stream, and after them come the bells of the workers.
 #[derive(Drop)]
-pub(crate) struct Signals {
+pub struct Signals {
     streams: Vec<CachePadded<StreamSignals>>,
     bells: Vec<CachePadded<Bell>>,
     // 1 where a queue that may be collected may hold something.
@@ -70,7 +70,7 @@ impl Signals {
     /// # Errors
     ///
     /// `Memory`: for the lists.
-    pub(crate) fn make(alloc: Global, streams: u32, workers: u32) -> Result<Signals, Memory> {
+    pub fn make(alloc: Global, streams: u32, workers: u32) -> Result<Signals, Memory> {
         let mut list = Vec::with_capacity(alloc, streams as usize)?;
         for _ in 0..streams {
             list.push(CachePadded::new(StreamSignals::new()))?;
@@ -102,7 +102,7 @@ impl Signals {
     }
 
     /// How many workers there are.
-    pub(crate) fn workers(&self) -> usize {
+    pub fn workers(&self) -> usize {
         self.bells.len().saturating_sub(self.streams.len())
     }
 

@@ -1,9 +1,9 @@
 use Rattle.std.proofs.Common.{◌≡◌, ℕ, List, length, ap, ◌∙◌, arith}
 use Rattle.std.specs.Prelude.{slice_get}
 use Rattle.shm_words.specs.Acts.{counts}
-use Rattle.gpu_threads.specs.Clients.{ClientData, due_in}
-use Rattle.gpu_threads.proofs.Going.{was_left, flush_left, went, put, tried, held, flushed_one, position_fits, flushed_fits, stands_at_close}
-use Rattle.gpu_threads.proofs.client.Client.go.Goals as goal
+use Rattle.thread_parts.specs.Clients.{ClientData, due_in}
+use Rattle.thread_parts.proofs.Going.{was_left, flush_left, went, put, tried, held, flushed_one, position_fits, flushed_fits, stands_at_close}
+use Rattle.thread_parts.proofs.client.Client.go.Goals as goal
 
 pub invariant_of-self : goal.invariant_of-self
 invariant_of-self g c =

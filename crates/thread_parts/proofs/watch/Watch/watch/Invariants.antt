@@ -1,5 +1,5 @@
-use Rattle.gpu_threads.specs.Views.{HasWatched}
-use Rattle.gpu_threads.proofs.watch.Watch.watch.Given as goal
+use Rattle.thread_parts.specs.Watches.{HasWatched}
+use Rattle.thread_parts.proofs.watch.Watch.watch.Given as goal
 
 -- a given number of looks is done
 abbrev pub invariant-loop-done : goal.invariant-loop-done

@@ -1,15 +1,15 @@
 -- What one action of a client comes to.
-use Rattle.std.specs.Prelude.{◌≡◌, ◌⊎◌, ℕ, ◌+◌, [], ◌∷◌, ◌++◌, Some, None, IsSome}
+use Rattle.std.specs.Prelude.{◌≡◌, ◌⊎◌, ℕ, ◌+◌, [], ◌∷◌, ◌++◌, take, Some, None, IsSome}
 use Rattle.crossbeam_queue.specs.Fifo.{Held}
+use Rattle.gpu_plan.specs.Passes.{flushes}
 use Rattle.shm_words.specs.declared.client.Acted.{Acted}
 use Rattle.shm_words.specs.declared.client.Acted.TheVariants as acted
 use Rattle.shm_words.specs.Acts.{Acts}
 use Rattle.flush_queue.specs.Seen.{one_more, AreLatest}
 use Rattle.result_words.specs.Seen.{Answers}
-use Rattle.gpu_threads.specs.declared.client.Act.{Act}
-use Rattle.gpu_threads.specs.declared.client.Act.TheVariants.{Went, Full, NotYet, Unread, AtClose, End}
-use Rattle.gpu_run.specs.Clients.{flushes_to}
-use Rattle.gpu_threads.specs.Clients.{ClientData}
+use Rattle.thread_parts.specs.declared.client.Act.{Act}
+use Rattle.thread_parts.specs.declared.client.Act.TheVariants.{Went, Full, NotYet, Unread, AtClose, End}
+use Rattle.thread_parts.specs.Clients.{ClientData}
 
 -- the note that was held is posted, and nothing else has changed
 pub record HasPosted (old new : ClientData) : Type 0 where
@@ -39,7 +39,7 @@ pub record IsFull (new : ClientData) : Type 0 where
 pub record IsUnread (old new : ClientData) : Type 0 where
   pub dump : ℕ × ℕ
   pub due : old.due ≡ Some dump
-  pub too_few : Answers old.reader.counts new.reader.counts (flushes_to old.pass.plan dump.0) None
+  pub too_few : Answers old.reader.counts new.reader.counts (flushes (take dump.0 old.pass.plan.actions)) None
   pub becomes : new ≡ record old { reader = new.reader }
 
 -- no note is held and no dump is due, and the pass was asked for its next action, which came to this; nothing else has changed
