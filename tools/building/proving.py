@@ -6,6 +6,7 @@ import errno
 import os
 import signal
 import subprocess
+import sys
 import time
 from collections.abc import Mapping
 from dataclasses import dataclass
@@ -20,6 +21,7 @@ from .telling import Teller, clock, minutes
 TICK = 0.05
 FULL = 50_000_000  # bytes: with fewer left, a proof that broke off did so for want of disk
 NO_SPACE = os.strerror(errno.ENOSPC)
+RT_ONCE = Path(__file__).with_name("rt_once.py")
 
 
 class Refusal(Exception):
@@ -114,7 +116,8 @@ class Build:
         room = Room(self.sources.top, crate)
         log = room.home / "build.log"
         room.home.mkdir(exist_ok=True)
-        words = ["rt", "run" if crate == PROGRAM else "lib", "--jobs", str(jobs)]
+        verb = "run" if crate == PROGRAM else "lib"
+        words = [sys.executable, str(RT_ONCE), verb, "--jobs", str(jobs)]
         try:
             room.furnish(self.sources.room_of(crate))
             with log.open("wb") as file:
