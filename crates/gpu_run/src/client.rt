@@ -7,10 +7,10 @@ ghost use Rattle.stream_state.specs.State.{result_of};
 ghost use Rattle.gpu_run.specs.Clients.{fresh_client, flushes_to};
 ghost use Rattle.gpu_run.specs.Reading.{read_with};
 
-use crate::dumps::Dumps;
 use gpu_fetch::{PlainNote, PlainPass, PlainWords};
 use gpu_plan::{Action, Plan};
 use gpu_word::Memory;
+use result_words::Dumps;
 use std::alloc::Global;
 use std::marker::Model;
 use stream_state::StreamState;

@@ -6,10 +6,10 @@ ghost use Rattle.gpu_run.specs.Dumps.{dumps_read, all_dumps};
 ghost use Rattle.gpu_run.specs.Reading.{read_left, HasRead, HaveRead};
 
 use crate::client::Client;
-use crate::dumps::Dumps;
 use gpu_fetch::PlainPass;
 use gpu_house::{House, Naming};
 use gpu_word::Memory;
+use result_words::Dumps;
 use std::alloc::Global;
 use stream_state::StreamState;
 use wait_hooks::Hook;

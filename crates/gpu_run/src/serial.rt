@@ -6,7 +6,6 @@ ghost use Rattle.serial_laws.specs.Scripts.{AreLawfulPlans};
 ghost use Rattle.gpu_run.specs.Dumps.{all_dumps};
 ghost use Rattle.gpu_run.specs.Making.{AreFreshFor};
 
-use crate::dumps::Dumps;
 use crate::parts::Parts;
 use crate::reading::all_dumps;
 use crate::rounds::play;
@@ -14,6 +13,7 @@ use gpu_fetch::PlainPass;
 use gpu_house::{House, Naming, Report};
 use gpu_plan::Plans;
 use gpu_word::Memory;
+use result_words::Dumps;
 use serial_laws::plans_are_lawful;
 use std::alloc::Global;
 use std::marker::Brand;

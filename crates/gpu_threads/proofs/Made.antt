@@ -1,9 +1,9 @@
 -- What a run on threads is made of is as the house, the hall and the clients want it.
 use Rattle.std.proofs.Common.{◌≡◌, ℕ, zero, suc, ◌+◌, ◌-◌, ◌<◌, true, Some, None, List, [], ◌∷◌, ◌++◌, length, get_or, map, take, sym, ap, subst, ◌∙◌, arith}
 use Rattle.std.proofs.lemmas.Bool.Decides.{nat_tests}
-use Rattle.std.proofs.lemmas.List.{length-map, get_or-map, length-take-le, map_push, length_push}
+use Rattle.std.proofs.lemmas.List.{length-map, get_or-map, length-take-le, map_push, length_push, take_more}
 use Rattle.std.proofs.lemmas.List.Elements.{All-push}
-use Rattle.std.proofs.lemmas.Option.{slice_get_within}
+use Rattle.std.proofs.lemmas.Option.{get_or_from_slice_get, slice_get_within}
 use Rattle.std.specs.Prelude.{nat_lt, slice_get}
 use Rattle.std.specs.List.{All}
 use Rattle.atomic_table.specs.Seated.{TableId}
@@ -206,3 +206,10 @@ module _ (words results books queues : List TableId) (parts : Parts) (named : Ar
         queues_are = named.queues_are;
         queue_count = omega (arith, many, e, f, q);
       }
+
+-- the plans up to that of one stream more
+pub take_plan : (plans : List PlanData) (k : ℕ) (plan : PlanData) → slice_get plans (k + 1 - 1) ≡ Some plan → take k plans ++ plan ∷ [] ≡ take (k + 1) plans
+take_plan plans k plan e =
+    let same : k + 1 - 1 ≡ k = omega arith in
+    let there : slice_get plans k ≡ Some plan = ap (slice_get plans) (sym same) ∙ e in
+    ap (λ (x : PlanData). take k plans ++ x ∷ []) (sym (get_or_from_slice_get plans k plan plan there)) ∙ sym (take_more plans k plan (slice_get_within plans k plan there))

@@ -1,6 +1,6 @@
 use gpu_house::Report;
-use gpu_run::Dumps;
 use live_view::Look;
+use result_words::Dumps;
 
 /// What a run on threads leaves:
 /// - the report, with the journal

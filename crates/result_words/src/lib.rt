@@ -13,7 +13,8 @@
 //! - `settle` takes the reader back and gives the writer that sentence. Each value that the reader got is the last one
 //!   written to its place, or 0, in a prefix of the writer's list. That prefix has at least as many finishes as the reader
 //!   asked for.
-//! - No call ever blocks: none takes a Wait. Only `make` takes memory.
+//! - `Dumps` is a list of what a client has read: of each dump its action place, its result place and its value.
+//! - No call ever blocks: none takes a Wait. Only `make` and `Dumps::push` take memory.
 //!
 //! Notes:
 //! - A read that answers None loads no result, and is not in the list of reads.
@@ -23,6 +24,7 @@
 //!   may cross threads.
 #![tactic(auto)]
 
+mod dumps;
 mod maker;
 mod plays;
 mod reader;
@@ -30,6 +32,7 @@ mod view;
 mod words;
 mod writer;
 
+pub use dumps::Dumps;
 pub use maker::make;
 pub use reader::ResultReader;
 pub use words::ResultWords;

@@ -5,10 +5,10 @@ ghost use Rattle.run_output.specs.Parts.{HasRoom};
 
 use gpu_house::Report;
 use gpu_journal::End;
-use gpu_run::Dumps;
 use gpu_word::Memory;
 use journal_verify::ends_of;
 use live_view::Look;
+use result_words::Dumps;
 use serial_laws::plans_are_lawful;
 use std::alloc::Global;
 use std::marker::Model;

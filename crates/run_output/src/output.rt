@@ -17,9 +17,9 @@ use crate::page::Page;
 use crate::stream_lines::StreamLines;
 use gpu_io::{Failed, Sink};
 use gpu_plan::Plans;
-use gpu_run::Dumps;
 use gpu_store::Images;
 use live_view::Look;
+use result_words::Dumps;
 
 /// The sections of the output of a run.
 #[derive(Clone, Copy, Debug)]

@@ -1,8 +1,7 @@
 use Rattle.std.proofs.Common.{List, take, subst}
 use Rattle.gpu_plan.specs.Plans.{PlanData}
 use Rattle.gpu_threads.specs.Making.{AreFreshFor}
-use Rattle.gpu_run.proofs.Starting.{take_plan}
-use Rattle.gpu_threads.proofs.Made.{take_number}
+use Rattle.gpu_threads.proofs.Made.{take_number, take_plan}
 use Rattle.gpu_threads.proofs.parts.Parts.make.Goals as goal
 
 pub loop-done-preserved : goal.loop-done-preserved
