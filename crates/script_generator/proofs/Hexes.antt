@@ -1,9 +1,27 @@
 -- Hexadecimal digits written from the last one on.
-use Rattle.std.proofs.Common.{◌≡◌, ℕ, zero, suc, ◌+◌, ◌*◌, ◌/◌, ◌%◌, ◌^◌, ◌<◌, ◌≤◌, false, List, [], ◌∷◌, length, drop, set, refl, sym, ap, ◌∙◌, arith}
+use Rattle.std.proofs.Common.{◌≡◌, ℕ, zero, suc, ◌+◌, ◌-◌, ◌*◌, ◌/◌, ◌%◌, ◌^◌, ◌<◌, ◌≤◌, Bool, true, false, ◌&&◌, T, eqb, List, [], ◌∷◌, length, get_or, drop, set, inl, inr, refl, sym, ap, ◌∙◌, arith, eq-zero-or-pos, eqb→eq}
 use Rattle.std.specs.Fmt.{digits, digits_onto, digit_glyph}
 use native.Mathlib.Numerals.{unary_clauses}
 use Rattle.std.proofs.lemmas.Bool.{ne_eqb}
 use Rattle.std.proofs.lemmas.List.{drop-set}
+use lib.Ieee.Fits.{and_l, and_r}
+use Rattle.script_generator.specs.declared.digits.TheConstants.{DIGITS}
+
+-- the table has the digit of each number below this one
+abbrev are_glyphs : ℕ → Bool
+are_glyphs zero = true
+are_glyphs (suc d) = eqb (get_or DIGITS d 0) (digit_glyph false d) && are_glyphs d
+
+below : (n d : ℕ) → T (are_glyphs n) → d < n → get_or DIGITS d 0 ≡ digit_glyph false d
+below zero d t lt = absurd (omega arith)
+below (suc n) d t lt =
+    elim (eq-zero-or-pos (n - d)) [
+      | inl z ↦ let e : d ≡ n = omega arith in rw e (eqb→eq _ _ (and_l _ (are_glyphs n) t))
+      | inr g ↦ below n d (and_r _ (are_glyphs n) t) (omega arith)
+    ]
+
+pub glyph_at : (d : ℕ) → d < 16 → get_or DIGITS d 0 ≡ digit_glyph false d
+glyph_at d lt = below 16 d tt lt
 
 step : (k n : ℕ) (acc : List ℕ) → 16 ≤ n → digits_onto (suc k) 16 false n acc ≡ digits_onto k 16 false (n / 16) (digit_glyph false (n % 16) ∷ acc)
 step k n acc large = rw (ne_eqb (n / 16) 0 (omega arith)) refl

@@ -7,27 +7,19 @@ use itoa::Buffer;
 use std::alloc::AllocError;
 
 /// The most bytes of a value: a space and eight digits.
-const VALUE: usize = 9;
+pub(crate) const VALUE: usize = 9;
 
-// Appends bytes in room that is there, one by one: they are few, and a call for all of them costs more.
+/// Appends bytes in room that is there, one by one: they are few, and a call for all of them costs more.
 #[inline(always)]
-fn put_text(out: &mut Vec<u8>, text: &[u8])
+pub(crate) fn put_text(out: &mut Vec<u8>, text: &[u8])
     requires { vec_len out.old + length text.now ≤ vec_capacity out.old }
-    ensures { out.new.items ≡ out.old.items ++ text.now }
+    ensures items { out.new.items ≡ out.old.items ++ text.now }
+    ensures few { vec_len out.new ≤ vec_len out.old + length text.now }
+    ensures room { vec_capacity out.old ≤ vec_capacity out.new }
 {
     for byte in text {
         out.push_reserved(*byte);
     }
-}
-
-/// Appends a text of a few bytes.
-#[inline(always)]
-pub(crate) fn push_text(out: &mut Vec<u8>, text: &[u8]) -> Result<(), AllocError>
-    ensures { OnOk result (out.new.items ≡ out.old.items ++ text.now) }
-{
-    out.reserve(text.len())?;
-    put_text(out, text);
-    Ok(())
 }
 
 /// Appends a space and a number in decimal digits.
@@ -39,16 +31,16 @@ pub(crate) fn push_number(out: &mut Vec<u8>, number: u32) -> Result<(), AllocErr
     out.extend_from_slice(buffer.format(u64::from(number)).as_bytes())
 }
 
+// The digits below 16, in lower case.
+static DIGITS: [u8; 16] = *b"0123456789abcdef";
+
 // A digit below 16, in lower case.
+#[inline(always)]
 fn hex_digit(digit: u32) -> u8
     requires { digit < 16 }
     ensures { result ≡ digit_glyph false digit }
 {
-    if digit < 10 {
-        b'0' + digit as u8
-    } else {
-        b'a' + (digit - 10) as u8
-    }
+    DIGITS[digit as usize]
 }
 
 // A value in hexadecimal digits, without leading zeros: the digits stand from this place on.
@@ -69,10 +61,12 @@ fn hex_text(value: u32) -> ([u8; 8], usize)
 }
 
 // Appends a value of two digits or more.
-#[inline(never)]
+#[inline(always)]
 fn put_long(out: &mut Vec<u8>, value: u32)
     requires { vec_len out.old + 8 ≤ vec_capacity out.old }
-    ensures { out.new.items ≡ out.old.items ++ digits 16 false value }
+    ensures items { out.new.items ≡ out.old.items ++ digits 16 false value }
+    ensures few { vec_len out.new ≤ vec_len out.old + 8 }
+    ensures room { vec_capacity out.old ≤ vec_capacity out.new }
 {
     let (text, at) = hex_text(value);
     let (_, written) = text.split_at(at);
@@ -83,7 +77,9 @@ fn put_long(out: &mut Vec<u8>, value: u32)
 #[inline(always)]
 fn put_hex(out: &mut Vec<u8>, value: u32)
     requires { vec_len out.old + 8 ≤ vec_capacity out.old }
-    ensures { out.new.items ≡ out.old.items ++ digits 16 false value }
+    ensures items { out.new.items ≡ out.old.items ++ digits 16 false value }
+    ensures few { vec_len out.new ≤ vec_len out.old + 8 }
+    ensures room { vec_capacity out.old ≤ vec_capacity out.new }
 {
     if value < 16 {
         out.push_reserved(hex_digit(value));
@@ -92,15 +88,16 @@ fn put_hex(out: &mut Vec<u8>, value: u32)
     }
 }
 
-/// Appends a space and a value in hexadecimal digits.
+/// Appends a space and a value in hexadecimal digits, in room that is there.
 #[inline(always)]
-pub(crate) fn push_value(out: &mut Vec<u8>, value: u32) -> Result<(), AllocError>
-    ensures { OnOk result (out.new.items ≡ out.old.items ++ value_text value) }
+pub(crate) fn put_value(out: &mut Vec<u8>, value: u32)
+    requires { vec_len out.old + VALUE ≤ vec_capacity out.old }
+    ensures items { out.new.items ≡ out.old.items ++ value_text value }
+    ensures few { vec_len out.new ≤ vec_len out.old + VALUE }
+    ensures room { vec_capacity out.old ≤ vec_capacity out.new }
 {
-    out.reserve(VALUE)?;
     out.push_reserved(b' ');
     put_hex(out, value);
-    Ok(())
 }
 
 /// Appends each value after a space.
@@ -108,7 +105,8 @@ pub(crate) fn push_values(out: &mut Vec<u8>, values: &[u32]) -> Result<(), Alloc
     ensures { OnOk result (out.new.items ≡ out.old.items ++ flat_map value_text values.now) }
 {
     for value in values {
-        push_value(out, *value)?;
+        out.reserve(VALUE)?;
+        put_value(out, *value);
     }
     Ok(())
 }

@@ -1,86 +1,104 @@
-ghost use Rattle.std.specs.Prelude.{◌≡◌, ◌+◌, ◌*◌, ◌≤◌, ◌++◌, IfOk, OnOk};
+ghost use Rattle.std.specs.Prelude.{◌≡◌, ◌+◌, ◌*◌, ◌≤◌, ◌++◌, vec_len, vec_capacity, IfOk, OnOk};
 ghost use Rattle.std.specs.List.{flat_map};
 ghost use Rattle.script_generator.specs.Draws.{after_draws};
 ghost use Rattle.script_generator.specs.Generator.{number_text, value_text, wait_words, clear_words, copy_words, upload_words, fence_words, block, round_text, rounds, start_text, stream_lines, generated};
 
-use crate::digits::{push_number, push_text, push_value, push_values};
+use crate::digits::{push_number, push_values, put_text, put_value};
 use crate::draws::{below, drawn};
 use gpu_word::Memory;
 use std::alloc::{AllocError, Global};
+use std::mem;
+
+/// The most bytes of the lines of a round.
+const ROUND: usize = 224;
 
 // Appends the words of a WaitToken.
 #[inline(always)]
-fn push_wait(out: &mut Vec<u8>, other: u32, round: u32) -> Result<(), AllocError>
-    ensures { OnOk result (out.new.items
-        ≡ out.old.items ++ flat_map value_text (wait_words other round)) }
+fn put_wait(out: &mut Vec<u8>, other: u32, round: u32)
+    requires within { vec_len out.old + 29 ≤ vec_capacity out.old }
+    ensures text { out.new.items
+        ≡ out.old.items ++ flat_map value_text (wait_words other round) }
+    ensures few { vec_len out.new ≤ vec_len out.old + 29 }
+    ensures room { vec_capacity out.old ≤ vec_capacity out.new }
 {
-    push_text(out, b" 20200004")?;
-    push_value(out, other)?;
-    push_value(out, round)?;
-    push_text(out, b" 0")?;
-    Ok(())
+    put_text(out, b" 20200004");
+    put_value(out, other);
+    put_value(out, round);
+    put_text(out, b" 0");
 }
 
 // Appends the words of a ClearRect of one texel.
 #[inline(always)]
-fn push_clear(out: &mut Vec<u8>, stream: u32, x: u32, y: u32, texel: u32) -> Result<(), AllocError>
-    ensures { OnOk result (out.new.items
-        ≡ out.old.items ++ flat_map value_text (clear_words stream x y texel)) }
+fn put_clear(out: &mut Vec<u8>, stream: u32, x: u32, y: u32, texel: u32)
+    requires within { vec_len out.old + 49 ≤ vec_capacity out.old }
+    ensures text { out.new.items
+        ≡ out.old.items ++ flat_map value_text (clear_words stream x y texel) }
+    ensures few { vec_len out.new ≤ vec_len out.old + 49 }
+    ensures room { vec_capacity out.old ≤ vec_capacity out.new }
 {
-    push_text(out, b" 20800007")?;
-    push_value(out, stream)?;
-    push_value(out, x)?;
-    push_value(out, y)?;
-    push_text(out, b" 1 1")?;
-    push_value(out, texel)?;
-    Ok(())
+    put_text(out, b" 20800007");
+    put_value(out, stream);
+    put_value(out, x);
+    put_value(out, y);
+    put_text(out, b" 1 1");
+    put_value(out, texel);
 }
 
 // Appends the words of a CopyRect of sixteen texels.
 #[inline(always)]
-fn push_copy(out: &mut Vec<u8>, other: u32, stream: u32) -> Result<(), AllocError>
-    ensures { OnOk result (out.new.items
-        ≡ out.old.items ++ flat_map value_text (copy_words other stream)) }
+fn put_copy(out: &mut Vec<u8>, other: u32, stream: u32)
+    requires within { vec_len out.old + 39 ≤ vec_capacity out.old }
+    ensures text { out.new.items
+        ≡ out.old.items ++ flat_map value_text (copy_words other stream) }
+    ensures few { vec_len out.new ≤ vec_len out.old + 39 }
+    ensures room { vec_capacity out.old ≤ vec_capacity out.new }
 {
-    push_text(out, b" 20a00009")?;
-    push_value(out, other)?;
-    push_text(out, b" 0 0")?;
-    push_value(out, stream)?;
-    push_text(out, b" 8 8 4 4")?;
-    Ok(())
+    put_text(out, b" 20a00009");
+    put_value(out, other);
+    put_text(out, b" 0 0");
+    put_value(out, stream);
+    put_text(out, b" 8 8 4 4");
 }
 
 // Appends the words of an UploadRect of one texel.
 #[inline(always)]
-fn push_upload(out: &mut Vec<u8>, stream: u32, x: u32, y: u32) -> Result<(), AllocError>
-    ensures { OnOk result (out.new.items
-        ≡ out.old.items ++ flat_map value_text (upload_words stream x y)) }
+fn put_upload(out: &mut Vec<u8>, stream: u32, x: u32, y: u32)
+    requires within { vec_len out.old + 46 ≤ vec_capacity out.old }
+    ensures text { out.new.items
+        ≡ out.old.items ++ flat_map value_text (upload_words stream x y) }
+    ensures few { vec_len out.new ≤ vec_len out.old + 46 }
+    ensures room { vec_capacity out.old ≤ vec_capacity out.new }
 {
-    push_text(out, b" 20c00009")?;
-    push_value(out, stream)?;
-    push_value(out, x)?;
-    push_value(out, y)?;
-    push_text(out, b" 1 1 1 0 0")?;
-    Ok(())
+    put_text(out, b" 20c00009");
+    put_value(out, stream);
+    put_value(out, x);
+    put_value(out, y);
+    put_text(out, b" 1 1 1 0 0");
 }
 
 // Appends the words of an InsertFence.
 #[inline(always)]
-fn push_fence(out: &mut Vec<u8>, round: u32) -> Result<(), AllocError>
-    ensures { OnOk result (out.new.items
-        ≡ out.old.items ++ flat_map value_text (fence_words round)) }
+fn put_fence(out: &mut Vec<u8>, round: u32)
+    requires within { vec_len out.old + 20 ≤ vec_capacity out.old }
+    ensures text { out.new.items
+        ≡ out.old.items ++ flat_map value_text (fence_words round) }
+    ensures few { vec_len out.new ≤ vec_len out.old + 20 }
+    ensures room { vec_capacity out.old ≤ vec_capacity out.new }
 {
-    push_text(out, b" 20000003")?;
-    push_value(out, round)?;
-    push_text(out, b" 0")?;
-    Ok(())
+    put_text(out, b" 20000003");
+    put_value(out, round);
+    put_text(out, b" 0");
 }
 
 // Appends the block of a round, and answers the state after its draws.
-fn push_block(out: &mut Vec<u8>, stream: u32, round: u32, state: u32) -> Result<u32, AllocError>
-    ensures text { OnOk result (out.new.items
-        ≡ out.old.items ++ flat_map value_text (block stream round state)) }
-    ensures state { IfOk result (λ next. next ≡ after_draws 6 state) }
+#[inline(always)]
+fn put_block(out: &mut Vec<u8>, stream: u32, round: u32, state: u32) -> u32
+    requires within { vec_len out.old + 183 ≤ vec_capacity out.old }
+    ensures text { out.new.items
+        ≡ out.old.items ++ flat_map value_text (block stream round state) }
+    ensures state { result ≡ after_draws 6 state }
+    ensures few { vec_len out.new ≤ vec_len out.old + 183 }
+    ensures room { vec_capacity out.old ≤ vec_capacity out.new }
 {
     let d1 = drawn(state);
     let d2 = drawn(d1);
@@ -89,48 +107,62 @@ fn push_block(out: &mut Vec<u8>, stream: u32, round: u32, state: u32) -> Result<
     let d5 = drawn(d4);
     let d6 = drawn(d5);
     let other = 1 + below(4, d1);
-    push_wait(out, other, round)?;
-    push_clear(out, stream, below(16, d2), below(16, d3), d4)?;
-    push_copy(out, other, stream)?;
-    push_upload(out, stream, below(16, d5), below(16, d6))?;
-    push_fence(out, round)?;
-    Ok(d6)
+    put_wait(out, other, round);
+    put_clear(out, stream, below(16, d2), below(16, d3), d4);
+    put_copy(out, other, stream);
+    put_upload(out, stream, below(16, d5), below(16, d6));
+    put_fence(out, round);
+    d6
 }
 
 // Appends the number of a half of the ring: 0 or 32.
 #[inline(always)]
-fn push_half(out: &mut Vec<u8>, half: u32) -> Result<(), AllocError>
-    requires { half ≤ 1 }
-    ensures { OnOk result (out.new.items ≡ out.old.items ++ number_text (32 * half)) }
+fn put_half(out: &mut Vec<u8>, half: u32)
+    requires within { vec_len out.old + 3 ≤ vec_capacity out.old }
+    requires half { half ≤ 1 }
+    ensures text { out.new.items ≡ out.old.items ++ number_text (32 * half) }
+    ensures few { vec_len out.new ≤ vec_len out.old + 3 }
+    ensures room { vec_capacity out.old ≤ vec_capacity out.new }
 {
     if half == 0 {
-        push_text(out, b" 0")?;
+        put_text(out, b" 0");
     } else {
-        push_text(out, b" 32")?;
+        put_text(out, b" 32");
     }
-    Ok(())
 }
 
 // Appends the lines of a round, and answers the state after its draws. The block is put into one half of the ring, and the
 // flush ends at the other.
-fn push_round(out: &mut Vec<u8>, stream: u32, round: u32, state: u32) -> Result<u32, AllocError>
-    ensures text { OnOk result (out.new.items ≡ out.old.items ++ round_text stream round state) }
-    ensures state { IfOk result (λ next. next ≡ after_draws 7 state) }
+#[inline(always)]
+fn put_round(out: &mut Vec<u8>, stream: u32, round: u32, state: u32) -> u32
+    requires within { vec_len out.old + ROUND ≤ vec_capacity out.old }
+    ensures text { out.new.items ≡ out.old.items ++ round_text stream round state }
+    ensures state { result ≡ after_draws 7 state }
+    ensures few { vec_len out.new ≤ vec_len out.old + ROUND }
+    ensures room { vec_capacity out.old ≤ vec_capacity out.new }
 {
     let half = round % 2;
-    push_text(out, b"put")?;
-    push_half(out, half)?;
-    let uploaded = drawn(push_block(out, stream, round, state)?);
-    push_text(out, b"\nfill 0 0")?;
-    push_value(out, uploaded)?;
-    push_text(out, b"\nflush")?;
-    push_half(out, 1 - half)?;
-    push_text(out, b"\nfinish\n")?;
-    Ok(uploaded)
+    put_text(out, b"put");
+    put_half(out, half);
+    let uploaded = drawn(put_block(out, stream, round, state));
+    put_text(out, b"\nfill 0 0");
+    put_value(out, uploaded);
+    put_text(out, b"\nflush");
+    put_half(out, 1 - half);
+    put_text(out, b"\nfinish\n");
+    uploaded
 }
 
 // Appends the lines of a given number of rounds, and answers the state after them.
-fn push_rounds(out: &mut Vec<u8>, size: u32, stream: u32, state: u32) -> Result<u32, AllocError>
+//
+// Room for a round is taken at once, and the text is held by value while a round is put down: then its length stays in a register.
+fn push_rounds(
+    alloc: Global,
+    out: &mut Vec<u8>,
+    size: u32,
+    stream: u32,
+    state: u32,
+) -> Result<u32, AllocError>
     requires { size ≤ 2000 }
     ensures text { OnOk result (out.new.items ≡ out.old.items ++ rounds size stream 1 state) }
     ensures state { IfOk result (λ next. next ≡ after_draws (7 * size) state) }
@@ -138,7 +170,10 @@ fn push_rounds(out: &mut Vec<u8>, size: u32, stream: u32, state: u32) -> Result<
     let mut next = state;
     let mut round = 1;
     while round <= size {
-        next = push_round(out, stream, round, next)?;
+        out.reserve(ROUND)?;
+        let mut text = mem::replace(out, Vec::new(alloc));
+        next = put_round(&mut text, stream, round, next);
+        *out = text;
         round += 1;
     }
     Ok(next)
@@ -160,6 +195,7 @@ fn push_start(out: &mut Vec<u8>, priority: &[u8], stream: u32) -> Result<(), All
 
 // Appends the lines of a stream, and answers the state after them.
 fn push_stream(
+    alloc: Global,
     out: &mut Vec<u8>,
     priority: &[u8],
     size: u32,
@@ -172,7 +208,7 @@ fn push_stream(
     ensures state { IfOk result (λ next. next ≡ after_draws (7 * size) state) }
 {
     push_start(out, priority, stream)?;
-    push_rounds(out, size, stream, state)
+    push_rounds(alloc, out, size, stream, state)
 }
 
 /// The script of a size and a seed: four streams, each of which makes an image, and then waits, clears, copies and uploads
@@ -185,9 +221,9 @@ pub fn generate(alloc: Global, size: u32, seed: u32) -> Result<Vec<u8>, Memory>
 {
     let mut out = Vec::new(alloc);
     out.extend_from_slice(b"gpu-script 1\n")?;
-    let state = push_stream(&mut out, b"low", size, 1, seed)?;
-    let state = push_stream(&mut out, b"low", size, 2, state)?;
-    let state = push_stream(&mut out, b"normal", size, 3, state)?;
-    push_stream(&mut out, b"high", size, 4, state)?;
+    let state = push_stream(alloc, &mut out, b"low", size, 1, seed)?;
+    let state = push_stream(alloc, &mut out, b"low", size, 2, state)?;
+    let state = push_stream(alloc, &mut out, b"normal", size, 3, state)?;
+    push_stream(alloc, &mut out, b"high", size, 4, state)?;
     Ok(out)
 }

@@ -1,11 +1,11 @@
 use Rattle.script_generator.proofs.Joining.{block_said}
-use Rattle.script_generator.proofs.script.push_block.Goals as goal
+use Rattle.script_generator.proofs.script.put_block.Goals as goal
 
 pub returns-clause-text : goal.returns-clause-text
 returns-clause-text c =
-    block_said c.args.out.now.items c.push_wait.new.out.items c.push_clear.new.out.items c.push_copy.new.out.items c.push_upload.new.out.items c.push_fence.new.out.items
+    block_said c.args.out.now.items c.put_wait.new.out.items c.put_clear.new.out.items c.put_copy.new.out.items c.put_upload.new.out.items c.put_fence.new.out.items
     c.args.stream c.args.round c.args.state c.drawn-d1.result c.drawn-d2.result c.drawn-d3.result c.drawn-d4.result c.drawn-d5.result c.drawn-d6.result
     c.below-other.result c.below.result c.below-2.result c.below-3.result c.below-4.result
     c.drawn-d1.ensures c.drawn-d2.ensures c.drawn-d3.ensures c.drawn-d4.ensures c.drawn-d5.ensures c.drawn-d6.ensures
     c.below-other.ensures.drawn c.below.ensures.drawn c.below-2.ensures.drawn c.below-3.ensures.drawn c.below-4.ensures.drawn
-    c.in_ok-push_wait.ensures c.in_ok-push_clear.ensures c.in_ok-push_copy.ensures c.in_ok-push_upload.ensures c.in_ok-push_fence.ensures
+    c.put_wait.ensures.text c.put_clear.ensures.text c.put_copy.ensures.text c.put_upload.ensures.text c.put_fence.ensures.text

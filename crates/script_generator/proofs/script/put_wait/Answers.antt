@@ -2,10 +2,10 @@ use Rattle.std.specs.Prelude.{codes}
 use Rattle.std.specs.Fmt.{digits}
 use Rattle.script_generator.specs.Generator.{value_text}
 use Rattle.gpu_word.proofs.Pieces.{four_pieces}
-use Rattle.script_generator.proofs.script.push_wait.Goals as goal
+use Rattle.script_generator.proofs.script.put_wait.Goals as goal
 
-pub returns : goal.returns
+pub returns-clause-text : goal.returns-clause-text
 unfolding digits
-returns c =
-    rw (c.in_ok-push_text-2.ensures, c.in_ok-push_value-2.ensures, c.in_ok-push_value.ensures, c.in_ok-push_text.ensures)
+returns-clause-text c =
+    rw (c.put_text-2.ensures.items, c.put_value-2.ensures.items, c.put_value.ensures.items, c.put_text.ensures.items)
     (four_pieces c.args.out.now.items (codes " 20200004") (value_text c.args.other) (value_text c.args.round) (codes " 0"))

@@ -2,10 +2,10 @@ use Rattle.std.specs.Prelude.{codes}
 use Rattle.std.specs.Fmt.{digits}
 use Rattle.script_generator.specs.Generator.{value_text}
 use Rattle.gpu_word.proofs.Pieces.{three_pieces}
-use Rattle.script_generator.proofs.script.push_fence.Goals as goal
+use Rattle.script_generator.proofs.script.put_fence.Goals as goal
 
-pub returns : goal.returns
+pub returns-clause-text : goal.returns-clause-text
 unfolding digits
-returns c =
-    rw (c.in_ok-push_text-2.ensures, c.in_ok-push_value.ensures, c.in_ok-push_text.ensures)
+returns-clause-text c =
+    rw (c.put_text-2.ensures.items, c.put_value.ensures.items, c.put_text.ensures.items)
     (three_pieces c.args.out.now.items (codes " 20000003") (value_text c.args.round) (codes " 0"))
