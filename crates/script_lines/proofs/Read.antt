@@ -14,7 +14,7 @@ use Rattle.script_lines.specs.Text.{is_blank, is_empty, words_of}
 use Rattle.script_lines.specs.Numbers.{number_of, decimal_of, hex_of}
 use Rattle.script_lines.specs.Reading.{IsFirstRead, IsShortNumber}
 use Rattle.script_lines.proofs.Cuts.{found_at, found_nowhere, words_found, words_last, words_none}
-use Rattle.script_lines.proofs.Digits.{value_below}
+use Rattle.script_lines.proofs.Digits.{value_below, digits_step, value_step}
 
 -- ---- the end of the first word
 
@@ -123,6 +123,26 @@ module _ (line front : List ℕ) (count : ℕ) (first : front ≡ take 8 line) (
         begins = begins;
         says = short_says radix value (take count line) (omega (arith, length-take count line)) (omega (arith, length-take count line)) all_of (is ∙ ap (digits_value radix) same_of) (omega arith);
       }
+
+-- a line that begins with one digit
+module _ (line : List ℕ) (digit : ℕ) (some : 0 < length line) (is : digit ≡ digit_value (get_or line 0 0)) (small : digit < 16) where
+  front_some : 0 < length (take 8 line)
+  front_some = omega (arith, length-take 8 line)
+
+  first_of : get_or line 0 0 ≡ get_or (take 8 line) 0 0
+  first_of = sym (get_or-take 8 line 0 0 (omega arith))
+
+  one_all : list_all (λ c. is_digit c 16) (take 1 (take 8 line)) ≡ true
+  one_all = digits_step 16 (take 8 line) 0 (get_or line 0 0) front_some first_of (subst (λ (d : ℕ). d < 16) is small) refl
+
+  one_is : digit ≡ digits_value 16 (take 1 (take 8 line))
+  one_is = let plain : digit ≡ 0 * 16 + digit = omega arith in plain ∙ value_step 16 (take 8 line) 0 (get_or line 0 0) 0 digit front_some first_of is refl
+
+  pub one_unbroken : list_all (λ byte. not (is_blank byte)) (take 1 line) ≡ true
+  one_unbroken = front_unbroken line (take 8 line) 1 refl front_some 16 (omega arith) one_all
+
+  pub one_read : (rest : List ℕ) → words_of line ≡ take 1 line ∷ words_of rest → IsShortNumber 16 line digit rest
+  one_read rest begins = short_read line (take 8 line) 1 refl front_some 16 digit rest (omega arith) (omega arith) one_all one_is begins
 
 -- a number of up to eight digits is one of up to ten
 longer : (radix limit value : ℕ) (word : List ℕ) → Some value ≡ number_of radix 8 limit word → Some value ≡ number_of radix 10 limit word

@@ -109,11 +109,32 @@ pub fn first_decimal(line: &[u8]) -> Option<(Option<u32>, &[u8])>
     }
 }
 
+// The value of one digit that a line begins with, and what stands after the space that follows it.
+//
+// Most values of a script have one digit. They are read without a loop.
+#[inline(always)]
+fn one_digit(line: &[u8]) -> Option<(u32, &[u8])>
+    ensures { IfSome result (λ read. IsShortNumber 16 line.now read.0 read.1.now) }
+{
+    if line.len() < 2 || line[1] != b' ' {
+        return None;
+    }
+    let digit = digit_of(line[0]);
+    if digit >= 16 {
+        return None;
+    }
+    let rest = behind_word(line, 1)?;
+    Some((digit, rest))
+}
+
 /// What the first word of a line says as a value, and what stands after that word.
-#[inline]
+#[inline(always)]
 pub fn first_value(line: &[u8]) -> Option<(Option<u32>, &[u8])>
     ensures { ReadsFirst hex_of line.now result }
 {
+    if let Some((digit, rest)) = one_digit(line) {
+        return Some((Some(digit), rest));
+    }
     match short_number(line, 16) {
         Some((value, rest)) => Some((Some(value), rest)),
         None => first_value_word(line),
@@ -140,7 +161,7 @@ impl<'a> Iterator for Values<'a> {
     ghost remaining = { item_count (λ s. map hex_of (words_of s.rest.now)) };
 
     #[tactic(auto, using(crate::proofs::Read::read_on))]
-    #[inline]
+    #[inline(always)]
     fn next(&mut self) -> Option<Option<u32>> {
         let (value, rest) = first_value(self.rest)?;
         self.rest = rest;
