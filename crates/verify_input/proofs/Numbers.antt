@@ -1,18 +1,18 @@
 -- Which words are the own digits of a number.
-use Rattle.std.proofs.Common.{◌≡◌, ℕ, zero, suc, ◌+◌, ◌*◌, ◌/◌, ◌%◌, ◌^◌, ◌<◌, ◌≤◌, Bool, true, false, cond, ltb, leb, eqb, Option, Some, None, List, [], ◌∷◌, ◌++◌, length, take, get_or, lit<, refl, sym, ap, subst, ◌∙◌, append_assoc, inl, inr, arith, eq-zero-or-pos}
+use Rattle.std.proofs.Common.{◌≡◌, ℕ, zero, suc, ◌+◌, ◌*◌, ◌/◌, ◌%◌, ◌^◌, ◌<◌, ◌≤◌, Bool, true, false, cond, ltb, leb, eqb, Option, Some, None, List, [], ◌∷◌, ◌++◌, length, take, get_or, lit<, refl, sym, ap, subst, ◌∙◌, append_assoc, ◌⊎◌, inl, inr, arith, eq-zero-or-pos}
+use native.Mathlib.Numerals.{unary_clauses}
 use Rattle.std.specs.Prelude.{◌&&◌, slice_index}
 use Rattle.std.specs.List.{list_all}
 use Rattle.std.specs.Char.{is_digit, digit_value, digit_char}
 use Rattle.std.specs.Fmt.{decimal}
 use Rattle.std.specs.Str.Parse.{digits_value, digits_value_after, AllDigits}
 use Rattle.std.proofs.lemmas.List.{append-nil}
-use Rattle.std.proofs.lemmas.Bool.{ltb-true, lt-ltb, leb-true, and_parts, and_from}
+use Rattle.std.proofs.lemmas.Bool.{cases_lt, ltb-true, lt-ltb, leb-true, and_parts, and_from}
 use Rattle.std.proofs.lemmas.Bool.Decides.{nat_tests}
 use Rattle.std.proofs.lemmas.Str.{digit_value-digit_char}
 use Rattle.std.proofs.lemmas.Str.Parse.{IsNumeralModel}
 use Rattle.std.proofs.lemmas.Fmt.{decimal_is_IsNumeral, length-decimal-le, first_decimal, decimal_digit, decimal-digits_value}
 use Rattle.std.proofs.lemmas.Int.Digits.{digits_value-lt, digits_value_more}
-use Rattle.std.proofs.lemmas.List.{length-take}
 use Rattle.std.proofs.lemmas.List.Folds.{list_all-append, list_all_at, list_all_more}
 use Rattle.std.proofs.Math.Nat.{pow-le-pow_right}
 use Rattle.script_lines.specs.Numbers.{number_of, decimal_of, hex_of}
@@ -180,16 +180,6 @@ pub record IsValueOf (word : List ℕ) (value : ℕ) : Type 0 where
 pub no_digits : IsValueOf [] 0
 no_digits = record { small = refl; digits = refl; is = refl }
 
--- at most seven digits leave room for one more
-pub value_room : (word : List ℕ) (value i : ℕ) → i ≤ 7 → IsValueOf (take i word) value → value < 2 ^ 28
-value_room word value i short is =
-    let below = digits_value-lt 16 (take i word) (all_digits 16 (take i word) is.digits) in
-    let n = length (take i word) in
-    let most : n ≤ 7 = omega (arith, length-take i word) in
-    let far : 16 ^ n ≤ 16 ^ 7 = pow-le-pow_right (lit< tt) most in
-    let same = is.is in
-    omega arith
-
 pub value_more : (word : List ℕ) (value i digit : ℕ) → i < length word → digit ≡ small_digit (get_or word i 0) → digit < 16 → IsValueOf (take i word) value → IsValueOf (take (i + 1) word) (value * 16 + digit)
 value_more word value i digit lt e less is = by (is_small (get_or word i 0)) (is_digit (get_or word i 0) 16) refl refl e
   where
@@ -207,6 +197,50 @@ unfolding own_value
 value_whole word value some short low is =
     let number : IsNumber 16 8 (2 ^ 32) word value = record { some = some; short = short; digits = is.digits; small = subst (λ n. n < 2 ^ 32) is.is low; is = sym is.is } in
     rw (is.small) (sym (number_there 16 8 (2 ^ 32) word value number))
+
+-- the digits so far and their value; or a worth that no value has, where one is no digit
+abbrev pub IsWorth : List ℕ → List ℕ → ℕ → Type 0
+IsWorth word front worth = IsValueOf front worth ⊎ ((own_value word ≡ None) × (2 ^ 32 ≤ worth))
+
+pub worth_more : (word : List ℕ) (worth i more : ℕ) → i < length word
+    → (small_digit (get_or word i 0) < 16 → more ≡ small_digit (get_or word i 0))
+    → (16 ≤ small_digit (get_or word i 0) → more ≡ 2 ^ 32)
+    → IsWorth word (take i word) worth → IsWorth word (take (i + 1) word) (worth * 16 + more)
+worth_more word worth i more lt digit none (inr other) = inr (other.0, (let far = other.1 in omega arith))
+worth_more word worth i more lt digit none (inl is) = elim (cases_lt (small_digit (get_or word i 0)) 16) [
+  | inl small ↦ (let e = digit small in inl (value_more word worth i more lt e (subst (λ d. d < 16) (sym e) small) is))
+  | inr high ↦ (let e = none high in inr (no_value_other word i lt high, omega arith))
+]
+
+-- eight digits at most have a value of 32 bits
+value_low : (word : List ℕ) (value : ℕ) → length word ≤ 8 → IsValueOf word value → value < 2 ^ 32
+value_low word value short is =
+    let below = digits_value-lt 16 word (all_digits 16 word is.digits) in
+    let far : 16 ^ length word ≤ 16 ^ 8 = pow-le-pow_right (lit< tt) short in
+    let same = is.is in
+    omega arith
+
+pub worth_told : (word : List ℕ) (worth : ℕ) → 0 < length word → length word ≤ 8 → IsWorth word word worth → worth < 2 ^ 32 → Some worth ≡ own_value word
+worth_told word worth some short (inl is) low = value_whole word worth some short low is
+worth_told word worth some short (inr other) low = absurd (let far = other.1 in omega arith)
+
+pub worth_over : (word : List ℕ) (worth : ℕ) → length word ≤ 8 → IsWorth word word worth → 2 ^ 32 ≤ worth → None ≡ own_value word
+worth_over word worth short (inl is) high = absurd (let low = value_low word worth short is in omega arith)
+worth_over word worth short (inr other) high = sym other.0
+
+power_one : (n : ℕ) → 16 ^ (n + 1) ≡ 16 ^ n * 16
+power_one n = simp unary_clauses
+
+-- at most seven bytes leave room for one more
+pub worth_room : (worth i : ℕ) → i ≤ 7 → worth + 2 ^ 32 ≤ 2 ^ 32 * 16 ^ i → worth + 2 ^ 32 ≤ 2 ^ 60
+worth_room worth i short most =
+    let far : 16 ^ i ≤ 16 ^ 7 = pow-le-pow_right (lit< tt) short in
+    omega arith
+
+pub worth_most : (worth i more : ℕ) → more ≤ 2 ^ 32 → worth + 2 ^ 32 ≤ 2 ^ 32 * 16 ^ i → worth * 16 + more + 2 ^ 32 ≤ 2 ^ 32 * 16 ^ (i + 1)
+worth_most worth i more few most =
+    let power = power_one i in
+    omega arith
 
 -- what digits are written
 record AreHex (ds : List ℕ) : Type 0 where

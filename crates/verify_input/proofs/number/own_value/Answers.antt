@@ -1,7 +1,7 @@
-use Rattle.std.proofs.Common.{◌≡◌, ◌≤◌, List, ℕ, length, sym, subst, arith}
+use Rattle.std.proofs.Common.{◌≡◌, ◌^◌, ◌<◌, ◌≤◌, List, ℕ, Some, length, take, inl, sym, subst, ap, ◌∙◌, arith}
 use Rattle.std.proofs.lemmas.Bool.Decides.{nat_tests}
 use Rattle.std.proofs.lemmas.List.{take_all}
-use Rattle.verify_input.proofs.Numbers.{no_value_empty, no_value_long, no_value_other, IsValueOf, no_digits, value_room, value_more, value_whole}
+use Rattle.verify_input.proofs.Numbers.{no_value_empty, no_value_long, IsWorth, no_digits, worth_more, worth_most, worth_room, worth_told, worth_over}
 use Rattle.verify_input.proofs.number.own_value.Goals as goal
 use Rattle.verify_input.proofs.number.own_value.Goals.{then-is_empty-via-then-is_empty, then-is_empty-via-else-is_empty+then-word-gt8}
 
@@ -15,28 +15,40 @@ returns-then-is_empty c = elim c.then-is_empty.branch [
 ]
 
 pub loop-byte-init : goal.loop-byte-init
-loop-byte-init c = no_digits
-
-pub returns-then-digit-ge16 : goal.returns-then-digit-ge16
-returns-then-digit-ge16 c = sym (no_value_other c.args.word.now c.loop-byte.byte-index c.loop-byte-test.true (subst (λ digit. 16 ≤ digit) c.small_digit-digit.ensures c.if-digit-ge16.true))
+loop-byte-init c = record { worth = inl no_digits; most = omega arith }
 
 pub overflow_mul-value : goal.overflow_mul-value
 overflow_mul-value c =
-    let small = value_room c.args.word.now c.loop-byte.value c.loop-byte.byte-index (omega arith) c.loop-byte.invariant in
+    let small = worth_room c.loop-byte.value c.loop-byte.byte-index (omega arith) c.loop-byte.invariant.most in
     omega arith
 
 pub overflow_add-value : goal.overflow_add-value
 overflow_add-value c =
-    let small = value_room c.args.word.now c.loop-byte.value c.loop-byte.byte-index (omega arith) c.loop-byte.invariant in
+    let small = worth_room c.loop-byte.value c.loop-byte.byte-index (omega arith) c.loop-byte.invariant.most in
+    let few = c.worth.ensures.most in
     omega arith
 
 pub loop-byte-preserved : goal.loop-byte-preserved
-loop-byte-preserved c = value_more c.args.word.now c.loop-byte.value c.loop-byte.byte-index c.small_digit-digit.result c.loop-byte-test.true c.small_digit-digit.ensures c.if-digit-ge16.false c.loop-byte.invariant
+loop-byte-preserved c = record {
+  worth = worth_more c.args.word.now c.loop-byte.value c.loop-byte.byte-index c.worth.result c.loop-byte-test.true c.worth.ensures.digit c.worth.ensures.none c.loop-byte.invariant.worth;
+  most = worth_most c.loop-byte.value c.loop-byte.byte-index c.worth.result c.worth.ensures.most c.loop-byte.invariant.most;
+}
+
+whole : (word : List ℕ) (index value : ℕ) → length word ≤ index → IsWorth word (take index word) value → IsWorth word word value
+whole word index value end worth = subst (λ (front : List ℕ). IsWorth word front value) (take_all index word end) worth
+
+pub returns-then-value-from : goal.returns-then-value-from
+returns-then-value-from c =
+    let word = c.args.word.now in
+    let worth = whole word c.loop-byte.byte-index c.loop-byte.value (omega arith) c.loop-byte.invariant.worth in
+    let high : 2 ^ 32 ≤ c.loop-byte.value = omega arith in
+    worth_over word c.loop-byte.value c.if-word-gt8.false worth high
 
 pub returns : goal.returns
 returns c =
     let word = c.args.word.now in
-    let whole : IsValueOf word c.loop-byte.value = subst (λ (digits : List ℕ). IsValueOf digits c.loop-byte.value) (take_all c.loop-byte.byte-index word (omega arith)) c.loop-byte.invariant in
     let e = c.is_empty.ensures in
     let t = c.if-is_empty.false in
-    value_whole word c.loop-byte.value (grind (arith, nat_tests)) c.if-word-gt8.false (omega (arith, c.loop-byte.auto.value-fits)) whole
+    let worth = whole word c.loop-byte.byte-index c.loop-byte.value (omega arith) c.loop-byte.invariant.worth in
+    let low : c.loop-byte.value < 2 ^ 32 = omega arith in
+    ap Some {y = c.loop-byte.value} (omega arith) ∙ worth_told word c.loop-byte.value (grind (arith, nat_tests)) c.if-word-gt8.false worth low
