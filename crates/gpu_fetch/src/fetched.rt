@@ -57,6 +57,14 @@ impl Fetched {
         self.words.as_slice()
     }
 
+    /// Shows that the words are those of the command, each once, and that `get` was not `put`. It changes nothing.
+    pub fn shows_copy(&self)
+        ensures copy { IsCopy self.now.words self.now.facts self.now.verdict }
+        ensures more { self.now.facts.get ≢ self.now.facts.put }
+    {
+        let _ = &self.words;
+    }
+
     /// The words fetched, which take no memory anew.
     pub fn into_words(self) -> Words
         ensures value { result ≡ self.words }

@@ -59,7 +59,7 @@ impl<N: Naming, P: NamedSide, H: Hook> Hall<N, P, H> {
         if house.is_lost(stream) {
             return true;
         }
-        let _ = house.journal();
+        house.shows_legal();
         order_or_lose(house, stream, note);
         true
     }

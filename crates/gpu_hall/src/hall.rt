@@ -116,7 +116,7 @@ impl<N: Naming, P: NamedSide, H: Hook> Hall<N, P, H> {
         ensures stuck { IsNotStuck N.plans self.now.past self.now.outs }
         ensures going { NoneIsPaused self.now.outs }
     {
-        let _ = self.house.journal();
+        self.house.shows_legal();
         self.house.holds();
     }
 }

@@ -117,6 +117,13 @@ impl<N: Naming, P: ServiceSide, H: Hook> House<N, P, H> {
         self.core.journal()
     }
 
+    /// Shows that the journal is legal. It changes nothing.
+    pub fn shows_legal(&self)
+        ensures { IsLegal N.plans self.now.core.past }
+    {
+        self.core.shows_legal();
+    }
+
     /// The images: what the journal's steps drew.
     pub fn images(&self) -> &Images
         ensures { result.now ≡ replay N.plans self.now.core.past }

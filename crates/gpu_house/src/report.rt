@@ -74,6 +74,13 @@ impl Report {
         self.core.journal()
     }
 
+    /// Shows that the journal is legal. It changes nothing.
+    pub fn shows_legal(&self)
+        ensures { IsLegal self.now.plans self.now.past }
+    {
+        self.core.shows_legal();
+    }
+
     /// The images: what the journal's steps drew.
     pub fn images(&self) -> &Images
         ensures { result.now ≡ replay self.now.plans self.now.past }

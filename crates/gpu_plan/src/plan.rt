@@ -133,6 +133,14 @@ impl Plan {
     {
         &self.dumps
     }
+
+    /// Shows what each plan keeps: its actions are lawful beside its areas, and its dumps beside both. It changes nothing.
+    pub fn shows_lawful(&self)
+        ensures actions { IsLawfulPlan self.now.areas self.now.actions }
+        ensures dumps { All (IsDump self.now.areas.results self.now.actions) self.now.dumps }
+    {
+        let _ = &self.actions;
+    }
 }
 
 /// The plans of one script, of version 1 or 2, at most 16, in the order of their stream lines. No two streams have the same
@@ -171,6 +179,13 @@ impl Plans {
         ensures known { IsVersion result }
     {
         self.version
+    }
+
+    /// Shows that the version is 1 or 2. It changes nothing.
+    pub fn shows_version(&self)
+        ensures { IsVersion self.now.version }
+    {
+        let _ = &self.plans;
     }
 
     /// How many streams there are. They and their names are lawful.

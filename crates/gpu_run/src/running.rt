@@ -37,7 +37,7 @@ fn turn<N: Naming, H: Hook>(
 {
     let words = clients[run.stream() as usize - 1].words();
     let fetched = run.fetch(words)?;
-    let _ = fetched.words();
+    fetched.shows_copy();
     match house.step(run, words, fetched)?.into_next() {
         Next::More => Ok(true),
         Next::FlushEnd => Ok(true),

@@ -116,6 +116,13 @@ impl Core {
         &self.journal
     }
 
+    /// Shows that the journal is legal. It changes nothing.
+    pub fn shows_legal(&self)
+        ensures { IsLegal self.now.plans self.now.past }
+    {
+        let _ = &self.journal;
+    }
+
     /// The law of each core: what contracts see of it is seen of parts that keep the core's invariant. It does nothing.
     pub fn holds(&self)
         ensures { IsCore self.now }

@@ -106,6 +106,13 @@ impl Viewer {
         self.looks
     }
 
+    /// Shows that each look was at a version, and none at one before that of the look before. It changes nothing.
+    pub fn shows_looks(&self)
+        ensures { AreLooks self.now.versions self.now.looks }
+    {
+        let _ = &self.seat;
+    }
+
     /// Takes in what the writer told, so that each later look is at the last version told or at a later one.
     ///
     /// It answers whether every look before was at a version that was reported. It enters once, which is no look, and

@@ -29,7 +29,7 @@ fn lines_have_room(report: &Report)
     ensures few { length report.now.plans.plans ≤ 16 }
 {
     plans_are_lawful(report.plans());
-    report.journal();
+    report.shows_legal();
 }
 
 /// What is written of a run: the run, the dumps that its clients have read, and the looks of its viewers. How each stream ended

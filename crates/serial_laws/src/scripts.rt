@@ -6,8 +6,7 @@ use gpu_plan::{Plan, Plans};
 fn plan_is_lawful(plan: &Plan)
     ensures { IsScriptPlan plan.now }
 {
-    plan.actions();
-    plan.dumps();
+    plan.shows_lawful();
 }
 
 /// The plans of a script are lawful, so that the laws hold of them. It looks at each plan, at most 16, once.
@@ -21,5 +20,5 @@ pub fn plans_are_lawful(plans: &Plans)
         looked += 1;
         plan_is_lawful(plans.plan(looked));
     }
-    plans.version();
+    plans.shows_version();
 }

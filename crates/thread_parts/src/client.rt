@@ -156,7 +156,7 @@ impl Client {
               dumps = [];
             }) }
     {
-        plan.actions();
+        plan.shows_lawful();
         let planned = copied(alloc, plan.dumps())?;
         let dumps = Vec::with_capacity(alloc, planned.len())?;
         Ok(Client {

@@ -104,7 +104,7 @@ impl Watch {
         ensures kept { AreLooks self.versions self.looks }
     {
         let Watch { viewer, seen, .. } = self;
-        let _ = viewer.looks();
+        viewer.shows_looks();
         seen
     }
 }

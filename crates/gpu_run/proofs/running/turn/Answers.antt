@@ -1,4 +1,4 @@
-use Rattle.std.proofs.Common.{◌≡◌, Bool, true, false, sym, ap, ◌∙◌}
+use Rattle.std.proofs.Common.{◌≡◌, Bool, true, false, refl, sym, ap, ◌∙◌}
 use Rattle.gpu_house.proofs.Going.{goes_further, stops}
 use Rattle.gpu_run.specs.Turning.{HasStepped}
 use Rattle.gpu_run.proofs.RunTurns.{words_are, fetched_with, stepped_with}
@@ -16,7 +16,7 @@ stepped g c more answer =
     let e = c.in_ok-fetched.ensures in
     let t = c.in_ok-step.ensures in
     let its_words = words_are p c.args.clients.now run.run.stream c.stream.result c.index-clients-stream.result w q.out.is_known q.out.many.as_clients c.stream.ensures c.index-clients-stream.is c.words-words.ensures in
-    let has = fetched_with p c.args.house.now c.args.clients.now run c.fetch.new.self c.in_ok-fetched.fetched.words c.words.result.now c.in_ok-fetched.fetched.facts c.in_ok-fetched.fetched.verdict w q.out q.there its_words q.more e.keeps e.fetches.grows e.fetches.found c.words.ensures.value e.facts c.words.ensures.copy in
+    let has = fetched_with p c.args.house.now c.args.clients.now run c.fetch.new.self c.in_ok-fetched.fetched.words c.in_ok-fetched.fetched.words c.in_ok-fetched.fetched.facts c.in_ok-fetched.fetched.verdict w q.out q.there its_words q.more e.keeps e.fetches.grows e.fetches.found refl e.facts c.shows_copy.ensures.copy in
     stepped_with p c.args.house.now c.step.new.self c.args.clients.now run c.fetch.new.self c.step.new.run c.in_ok-fetched.fetched.words w c.in_ok-step.field-0.next more q.lawful q.played q.runs has e.keeps.run e.keeps.met its_words _ _ t.steps.steps t.keeps.slots t.keeps.still t.keeps.list answer
 
 pub returns-in-More : goal.returns-in-More

@@ -9,7 +9,7 @@ order_or_lose-requires-clause-open g c =
     let N = g.N.Naming in
     let some = c.in-Some.ensures in
     open_taken N.plans N.words N.queues c.self.inside.house.core.past c.self.inside.takers.items c.args.stream c.index_mut.result.now c.take_next.new.taker c.requires.known c.index_mut.ensures.value c.self.invariant.fits.queues
-    some.taken some.flush (sym c.is_lost.ensures ∙ c.if-is_lost.false) c.journal.ensures.legal
+    some.taken some.flush (sym c.is_lost.ensures ∙ c.if-is_lost.false) c.shows_legal.ensures
 
 pub invariant_of-self-2 : goal.invariant_of-self-2
 invariant_of-self-2 g c =
