@@ -30,7 +30,7 @@ COMMAND = re.compile(
 )
 ROW = re.compile(r"^ +(?:∷ )?(exactly|at_least) (\d+) (\d+) \(λ a\. (\w+)", re.MULTILINE)
 STATUS = re.compile(r"^\| (\w+) \| (\d+) \|", re.MULTILINE)
-CODE = re.compile(r"^code_of \(?status\.(\w+)[^=]*= (\d+)$", re.MULTILINE)
+CODE = re.compile(r"^status_code \(?status\.(\w+)[^=]*= (\d+)$", re.MULTILINE)
 RULE = re.compile(r"^  pub rule_(\d+) :", re.MULTILINE)
 CHECK = re.compile(r"^\| (\d+) \| [^|]+ \| \w+ \|$", re.MULTILINE)
 TEST = re.compile(r"`([a-z]+(?:_[a-z0-9]+)+|race)`")

@@ -180,8 +180,8 @@ FACTS = (
     Fact(r"x \+ # modulo", found(DRAWS, r"state \+ (\d+)\)")),
     Fact(r"gives x / #", found(DRAWS, r"draw / (\d+)")),
     Fact(r"small draws below #", found(GENERATOR, r"below (16)")),
-    Fact(r"\| number \| 1 to #", found(NUMBERS, r"^decimal_of word = number_of 10 (\d+)")),
-    Fact(r"long number \| 1 to #", found(NUMBERS, r"^long_decimal_of word = number_of 10 (\d+)")),
+    Fact(r"\| number \| 1 to #", found(NUMBERS, r"^decimal_of word = number_said 10 (\d+)")),
+    Fact(r"long number \| 1 to #", found(NUMBERS, r"^long_decimal_of word = number_said 10 (\d+)")),
     Fact(
         r"alpha is #|becomes c\s+# /", found("crates/gpu_store/specs/Conversion.antt", r"\b(255)\b")
     ),

@@ -10,8 +10,8 @@ use Rattle.gpu_plan.specs.Passes.{flushes}
 use Rattle.shm_words.specs.Seen.{ClientData}
 use Rattle.flush_queue.specs.declared.view.View.{View}
 use Rattle.flush_queue.specs.declared.view.View.TheVariants.{Fresh, Told, Whole, Poster, Taker}
-use Rattle.flush_queue.specs.Views.{Item, note_at, pass_of, count_of, next_note, HasNext, tells, learns, poster_part, taker_part, posts, takes}
-use Rattle.flush_queue.specs.Rule.{AreFlushes, AreWhole, AreBetween, Keeps, AreLatestOf, AreNextOf}
+use Rattle.flush_queue.specs.Views.{Item, note_at, pass_of, count_of, next_note, HasNext, tells, learns, poster_part, taker_part, posts, takes_note}
+use Rattle.flush_queue.specs.Rule.{AreFlushes, AreWhole, AreBetween, KeepsQueue, AreLatestOf, AreNextOf}
 
 -- ---- what the rule says of the queue at which an end with this view stands
 
@@ -39,7 +39,7 @@ module _ (items : List Item) (one other : View) (are : AreBetween items one othe
   taker : Stands items (one ∷ other ∷ []) 1 other
   taker = subst (Stands items (one ∷ other ∷ []) 1) (sym are.taker) (refl, are.posted, both, are.between)
 
-stands : (items : List Item) (views : List View) (id : ℕ) (v : View) → Keeps items views → get_elem? views id ≡ some v → Stands items views id v
+stands : (items : List Item) (views : List View) (id : ℕ) (v : View) → KeepsQueue items views → get_elem? views id ≡ some v → Stands items views id v
 stands items [] id v keeps at = absurd keeps
 stands items (one ∷ []) zero v keeps at = subst (Stands items (one ∷ []) 0) (some-injective _ _ at) (whole items one keeps)
 stands items (one ∷ []) (suc id) v keeps at = absurd (some-ne-none v (sym at))
@@ -49,23 +49,23 @@ stands items (one ∷ other ∷ []) (suc (suc id)) v keeps at = absurd (some-ne-
 stands items (one ∷ other ∷ more ∷ views) id v keeps at = absurd keeps
 
 -- the rule holds where one view of a known list was changed
-moved : (items : List Item) (views known : List View) (id at : ℕ) (w : View) → id ≡ at → views ≡ known → Keeps items (set known at w) → Keeps items (set views id w)
-moved items views known id at w same are keeps = subst (λ (y : ℕ × List View). Keeps items (set y.1 y.0 w)) (λ i. (sym same i, sym are i)) keeps
+moved : (items : List Item) (views known : List View) (id at : ℕ) (w : View) → id ≡ at → views ≡ known → KeepsQueue items (set known at w) → KeepsQueue items (set views id w)
+moved items views known id at w same are keeps = subst (λ (y : ℕ × List View). KeepsQueue items (set y.1 y.0 w)) (λ i. (sym same i, sym are i)) keeps
 
 -- ---- the pass goes through the queue
 
-pub begins : Keeps [] (Fresh ∷ [])
+pub begins : KeepsQueue [] (Fresh ∷ [])
 begins = refl
 
-pub told : (n id : ℕ) (v : View) (pass : ClientData) → v ≡ Fresh → Pushes Keeps n id v (Err pass) (tells v (Err pass))
+pub told : (n id : ℕ) (v : View) (pass : ClientData) → v ≡ Fresh → Pushes KeepsQueue n id v (Err pass) (tells v (Err pass))
 told n id v pass is items views room keeps at =
     let s = subst (Stands items views id) is (stands items views id v keeps at) in
     (Told pass, moved (items ++ Err pass ∷ []) views (Fresh ∷ []) id 0 (Told pass) s.0 s.1 (ap (λ (l : List Item). l ++ Err pass ∷ []) s.2), refl)
 
-pub is_empty : (id : ℕ) (v : View) → v ≡ Fresh → Learns Keeps id v (λ items. items ≡ [])
+pub is_empty : (id : ℕ) (v : View) → v ≡ Fresh → Learns KeepsQueue id v (λ items. items ≡ [])
 is_empty id v is items views keeps at = (subst (Stands items views id) is (stands items views id v keeps at)).2
 
-pub learnt : (id : ℕ) (v : View) → v ≡ Told (pass_of v) → Pops Keeps id v (learns v)
+pub learnt : (id : ℕ) (v : View) → v ≡ Told (pass_of v) → Pops KeepsQueue id v (learns v)
 learnt id v is item items views keeps at =
     let s = subst (Stands (item ∷ items) views id) is (stands (item ∷ items) views id v keeps at) in
     (Whole (pass_of v), moved items views (Told (pass_of v) ∷ []) id 0 (Whole (pass_of v)) s.0 s.1 (rest item (Err (pass_of v)) items s.2), (refl, first item (Err (pass_of v)) items s.2))
@@ -76,14 +76,14 @@ learnt id v is item items views keeps at =
     rest : (x y : Item) (xs : List Item) → x ∷ xs ≡ y ∷ [] → xs ≡ []
     rest x y xs e = cc
 
-pub is_one : (id : ℕ) (v : View) → v ≡ Told (pass_of v) → Learns Keeps id v (λ items. length items ≡ 1)
+pub is_one : (id : ℕ) (v : View) → v ≡ Told (pass_of v) → Learns KeepsQueue id v (λ items. length items ≡ 1)
 is_one id v is items views keeps at = ap length (subst (Stands items views id) is (stands items views id v keeps at)).2
 
-pub parted : (id : ℕ) (v : View) → v ≡ Whole (pass_of v) → Forks Keeps id v (poster_part v) (taker_part v)
+pub parted : (id : ℕ) (v : View) → v ≡ Whole (pass_of v) → Forks KeepsQueue id v (poster_part v) (taker_part v)
 parted id v is items views keeps at =
     let s = subst (Stands items views id) is (stands items views id v keeps at) in
     let pass = pass_of v in
-    subst (λ (y : ℕ × List View). Keeps items (set y.1 y.0 (poster_part v) ++ taker_part v ∷ [])) (λ i. (sym s.0 i, sym s.1 i)) record {
+    subst (λ (y : ℕ × List View). KeepsQueue items (set y.1 y.0 (poster_part v) ++ taker_part v ∷ [])) (λ i. (sym s.0 i, sym s.1 i)) record {
       pass = pass;
       posted = 0;
       taken = 0;
@@ -99,7 +99,7 @@ next_behind : (words : TableId) (plan : PlanData) (taken posted : ℕ) (items : 
 next_behind words plan taken posted [] are there = (ap (λ (n : ℕ). Ok (note_at words plan n)) (sym are), subst (λ (n : ℕ). n < flushes plan.actions) (sym are) there, ap (λ (n : ℕ). n + 1) are)
 next_behind words plan taken posted (item ∷ items) are there = (are.0, are.1, next_behind words plan (taken + 1) posted items are.2 there)
 
-pub posted : (n id : ℕ) (v : View) (item : Item) → v ≡ Poster (pass_of v) (count_of v) → item ≡ Ok (next_note v) → HasNext v → Pushes Keeps n id v item (posts v item)
+pub posted : (n id : ℕ) (v : View) (item : Item) → v ≡ Poster (pass_of v) (count_of v) → item ≡ Ok (next_note v) → HasNext v → Pushes KeepsQueue n id v item (posts v item)
 posted n id v item is note there items views room keeps at =
     let s = subst (Stands items views id) is (stands items views id v keeps at) in
     let pass = pass_of v in
@@ -116,10 +116,10 @@ posted n id v item is note there items views room keeps at =
       refl,
     )
 
-pub are_latest : (id : ℕ) (v : View) → v ≡ Poster (pass_of v) (count_of v) → Learns Keeps id v (AreLatestOf v)
+pub are_latest : (id : ℕ) (v : View) → v ≡ Poster (pass_of v) (count_of v) → Learns KeepsQueue id v (AreLatestOf v)
 are_latest id v is items views keeps at = let s = subst (Stands items views id) is (stands items views id v keeps at) in (s.1, s.3)
 
-pub taken : (id : ℕ) (v : View) → v ≡ Taker (pass_of v) (count_of v) → Pops Keeps id v (takes v)
+pub taken : (id : ℕ) (v : View) → v ≡ Taker (pass_of v) (count_of v) → Pops KeepsQueue id v (takes_note v)
 taken id v is item items views keeps at =
     let s = subst (Stands (item ∷ items) views id) is (stands (item ∷ items) views id v keeps at) in
     let pass = pass_of v in
@@ -136,5 +136,5 @@ taken id v is item items views keeps at =
       (refl, s.3.0, s.3.1),
     )
 
-pub are_next : (id : ℕ) (v : View) → v ≡ Taker (pass_of v) (count_of v) → Learns Keeps id v (AreNextOf v)
+pub are_next : (id : ℕ) (v : View) → v ≡ Taker (pass_of v) (count_of v) → Learns KeepsQueue id v (AreNextOf v)
 are_next id v is items views keeps at = let s = subst (Stands items views id) is (stands items views id v keeps at) in (s.1, s.3)

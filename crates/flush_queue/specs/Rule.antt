@@ -31,11 +31,11 @@ pub record AreBetween (items : List Item) (one other : View) : Type 0 where
   pub between : AreFlushes pass.table pass.plan taken items posted
 
 -- the rule of a queue: of what it holds, the oldest first, and of what its ends know
-abbrev pub Keeps : List Item → List View → Type 0
-Keeps items [] = ⊥
-Keeps items (one ∷ []) = AreWhole items one
-Keeps items (one ∷ other ∷ []) = AreBetween items one other
-Keeps items (one ∷ other ∷ more ∷ views) = ⊥
+abbrev pub KeepsQueue : List Item → List View → Type 0
+KeepsQueue items [] = ⊥
+KeepsQueue items (one ∷ []) = AreWhole items one
+KeepsQueue items (one ∷ other ∷ []) = AreBetween items one other
+KeepsQueue items (one ∷ other ∷ more ∷ views) = ⊥
 
 -- what a poster knows of the items: they are the latest flushes that were posted
 abbrev pub AreLatestOf : View → List Item → Type 0

@@ -48,17 +48,17 @@ abbrev pub IsQueue : {Q A : Type 0} → Ring Q A → Type 0
 IsQueue ring = ruled_capacity ring ≡ 16
 
 -- what the pass of an end tells
-abbrev pub end_of : Pass Item View → EndData
-end_of pass = record { queue = pass.table_id; words = (pass_of (view pass)).table; plan = (pass_of (view pass)).plan; count = count_of (view pass) }
+abbrev pub end_told : Pass Item View → EndData
+end_told pass = record { queue = pass.table_id; words = (pass_of (view pass)).table; plan = (pass_of (view pass)).plan; count = count_of (view pass) }
 
 -- what a seat at a queue has
-abbrev pub Sat : Type 0
-Sat = Me (Option Item) (Doing Item View)
+abbrev pub QueueSeat : Type 0
+QueueSeat = Me (Option Item) (Doing Item View)
 
 -- the seat is a poster's, and no slot is out with it
-abbrev pub IsPoster : Sat → Type 0
+abbrev pub IsPoster : QueueSeat → Type 0
 IsPoster seat = (seat.0.client ≡ Poster (pass_of seat.0.client) (count_of seat.0.client)) × (seat.1 ≡ [])
 
 -- the seat is a taker's
-abbrev pub IsTaker : Sat → Type 0
+abbrev pub IsTaker : QueueSeat → Type 0
 IsTaker seat = (seat.0.client ≡ Taker (pass_of seat.0.client) (count_of seat.0.client)) × (seat.1 ≡ [])

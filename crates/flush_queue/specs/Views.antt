@@ -50,15 +50,15 @@ abbrev pub HasNext : View → Type 0
 HasNext view = count_of view < flushes (pass_of view).plan.actions
 
 -- what a step tells: of the view before, the item, and the view after
-abbrev Tells : Type 1
-Tells = View → Item → View → Type 0
+abbrev QueueTelling : Type 1
+QueueTelling = View → Item → View → Type 0
 
 -- the pass is put into the queue
-abbrev pub tells : Tells
+abbrev pub tells : QueueTelling
 tells before item after = after ≡ Told (pass_in item)
 
 -- the pass comes out again, the very one that was put in
-abbrev pub learns : Tells
+abbrev pub learns : QueueTelling
 learns before item after = (after ≡ Whole (pass_of before)) × (item ≡ Err (pass_of before))
 
 -- the end becomes the poster's
@@ -70,9 +70,9 @@ abbrev pub taker_part : View → View
 taker_part view = Taker (pass_of view) 0
 
 -- one flush more is posted
-abbrev pub posts : Tells
+abbrev pub posts : QueueTelling
 posts before item after = after ≡ Poster (pass_of before) (count_of before + 1)
 
 -- one flush more is taken, and what came out is its note
-abbrev pub takes : Tells
-takes before item after = (after ≡ Taker (pass_of before) (count_of before + 1)) × (item ≡ Ok (next_note before)) × HasNext before
+abbrev pub takes_note : QueueTelling
+takes_note before item after = (after ≡ Taker (pass_of before) (count_of before + 1)) × (item ≡ Ok (next_note before)) × HasNext before

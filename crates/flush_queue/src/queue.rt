@@ -42,11 +42,11 @@ pub struct Poster {
 }
 
 impl Model for Poster {
-    ghost use Rattle.flush_queue.specs.Seen.{EndData, end_of, IsPoster};
+    ghost use Rattle.flush_queue.specs.Seen.{EndData, end_told, IsPoster};
 
     ghost Value = { EndData };
 
-    ghost view = { λ p. end_of p.pass };
+    ghost view = { λ p. end_told p.pass };
 
     ghost invariant = { λ p. IsPoster p.pass.me };
 }
@@ -60,11 +60,11 @@ pub struct Taker {
 }
 
 impl Model for Taker {
-    ghost use Rattle.flush_queue.specs.Seen.{EndData, end_of, IsTaker};
+    ghost use Rattle.flush_queue.specs.Seen.{EndData, end_told, IsTaker};
 
     ghost Value = { EndData };
 
-    ghost view = { λ t. end_of t.pass };
+    ghost view = { λ t. end_told t.pass };
 
     ghost invariant = { λ t. IsTaker t.pass.me };
 }

@@ -1,8 +1,8 @@
 //! The rule of a queue, and its kinds of step.
 ghost use Rattle.std.specs.Prelude.{◌≡◌, [], length};
 ghost use Rattle.flush_queue.specs.declared.view.View.TheVariants.{Fresh};
-ghost use Rattle.flush_queue.specs.Views.{tells, learns, poster_part, taker_part, posts, takes};
-ghost use Rattle.flush_queue.specs.Rule.{Keeps, AreLatestOf, AreNextOf};
+ghost use Rattle.flush_queue.specs.Views.{tells, learns, poster_part, taker_part, posts, takes_note};
+ghost use Rattle.flush_queue.specs.Rule.{KeepsQueue, AreLatestOf, AreNextOf};
 
 use crate::view::View;
 use crossbeam_queue::protocol::{Lesson, Outcome, Protocol, Split};
@@ -15,7 +15,7 @@ pub type Item = Result<Note, ClientPass>;
 pub struct InOrder;
 
 impl Protocol<Item, View> for InOrder {
-    ghost holds = { Keeps };
+    ghost holds = { KeepsQueue };
 
     ghost first = { Fresh };
 }
@@ -66,7 +66,7 @@ impl Lesson<Item, View> for Posts {
 pub(crate) struct Takes;
 
 impl Outcome<Item, View> for Takes {
-    ghost then = { takes };
+    ghost then = { takes_note };
 }
 
 impl Lesson<Item, View> for Takes {

@@ -7,19 +7,19 @@ use Rattle.atomic_table.proofs.Lists.{at_set, at_snoc, set_else, set_again}
 use Rattle.atomic_table.specs.Table.{step, keeps, opening, Allows, Splits, Joins}
 use Rattle.gpu_books.specs.declared.table.View.{View}
 use Rattle.gpu_books.specs.declared.table.View.TheVariants.{Full, Joined, Halved, Spent}
-use Rattle.gpu_books.specs.Views.{Sat, weight, numbers_of, joined_of, six_zeros, opened, halved, compares, renumbers}
-use Rattle.gpu_books.specs.Rule.{weights, HasOnly, Keeps}
+use Rattle.gpu_books.specs.Views.{BookSeat, weight, half_numbers, joined_of, six_zeros, opened, halved, compares, renumbers}
+use Rattle.gpu_books.specs.Rule.{weights, HasOnly, KeepsBook}
 use Rattle.gpu_books.proofs.Weights.{weights-set, weights-snoc, two_at}
 
 -- a view with the book's numbers has the same ones twice
-has_same : (numbers : List ℕ) (v : View) → HasOnly numbers v → numbers_of v ≡ joined_of v
+has_same : (numbers : List ℕ) (v : View) → HasOnly numbers v → half_numbers v ≡ joined_of v
 has_same numbers (Full n) h = refl
 has_same numbers (Joined n m) h = h.0 ∙ sym h.1
 has_same numbers (Halved n) h = refl
 has_same numbers Spent h = refl
 
 -- a full view has the book's numbers
-full_has : (numbers : List ℕ) (v : View) → weight v ≡ 2 → HasOnly numbers v → numbers_of v ≡ numbers
+full_has : (numbers : List ℕ) (v : View) → weight v ≡ 2 → HasOnly numbers v → half_numbers v ≡ numbers
 full_has numbers (Full n) w h = h
 full_has numbers (Joined n m) w h = h.0
 full_has numbers (Halved n) w h = h
@@ -33,7 +33,7 @@ spent_has numbers (Halved n) w = absurd (omega arith)
 spent_has numbers Spent w = tt
 
 -- a new book keeps the rule
-pub opens : Keeps (opening {S = Unit {0}} (0 ∷ []) [] opened)
+pub opens : KeepsBook (opening {S = Unit {0}} (0 ∷ []) [] opened)
 opens = record { two_halves = refl; numbers = six_zeros; same = only }
   where
     only : (i : ℕ) (v : View) → get_elem? (opened ∷ []) i ≡ some v → HasOnly six_zeros v
@@ -41,7 +41,7 @@ opens = record { two_halves = refl; numbers = six_zeros; same = only }
     only (suc i) v e = absurd (some-ne-none v (sym e))
 
 -- the join of one half into the other
-pub joins : (id : ℕ) (me : Sat) (other : ℕ) (note : Sat) (n m : List ℕ) → me.0 ≡ Halved n → note.0 ≡ Halved m → Joins Keeps id me.0 other note.0 (Joined n m) Spent
+pub joins : (id : ℕ) (me : BookSeat) (other : ℕ) (note : BookSeat) (n m : List ℕ) → me.0 ≡ Halved n → note.0 ≡ Halved m → Joins KeepsBook id me.0 other note.0 (Joined n m) Spent
 joins id me other note n m is is' s kept at ne there =
     let at' : get_elem? s.views id ≡ some (Halved n) = at ∙ ap (λ (v : View). some v) is in
     let there' : get_elem? (set s.views id (Joined n m)) other ≡ some (Halved m) = there ∙ ap (λ (v : View). some v) is' in
@@ -63,17 +63,17 @@ joins id me other note n m is is' s kept at ne there =
     }
 
 -- the full view's load
-pub loads : (slots id : ℕ) (me : Sat) → Allows Keeps slots id me 0 (λ n. n) (compares (step slots 0 0 0 none) me)
+pub loads : (slots id : ℕ) (me : BookSeat) → Allows KeepsBook slots id me 0 (λ n. n) (compares (step slots 0 0 0 none) me)
 loads slots id me s kept _ at _ = (
   me.0,
   keeps,
   tt,
-  subst (λ (z : List ℕ × List View). Keeps (record { words = z.0; homes = s.homes; views = z.1 })) (λ i. (sym (set-get_or s.words 0 0) i, sym (set_again s.views id me.0 at) i)) kept,
+  subst (λ (z : List ℕ × List View). KeepsBook (record { words = z.0; homes = s.homes; views = z.1 })) (λ i. (sym (set-get_or s.words 0 0) i, sym (set_again s.views id me.0 at) i)) kept,
   (refl, has_same kept.numbers me.0 (kept.same id me.0 at)),
 )
 
 -- the full view gets other numbers, which concerns no other view, since all others are spent
-pub renumbered : (slots id : ℕ) (me : Sat) (numbers : List ℕ) → weight me.0 ≡ 2 → Allows Keeps slots id me 0 (λ n. n) (renumbers numbers (step slots 0 0 0 none) me)
+pub renumbered : (slots id : ℕ) (me : BookSeat) (numbers : List ℕ) → weight me.0 ≡ 2 → Allows KeepsBook slots id me 0 (λ n. n) (renumbers numbers (step slots 0 0 0 none) me)
 renumbered slots id me numbers full s kept _ at _ =
     let w : View = Full numbers in
     let sum = kept.two_halves in
@@ -93,7 +93,7 @@ renumbered slots id me numbers full s kept _ at _ =
     )
 
 -- the split of a full view into two halves
-pub splits : (id : ℕ) (me : Sat) → weight me.0 ≡ 2 → Splits Keeps id me.0 (halved me.0) (halved me.0)
+pub splits : (id : ℕ) (me : BookSeat) → weight me.0 ≡ 2 → Splits KeepsBook id me.0 (halved me.0) (halved me.0)
 splits id me full s kept at =
     let h : View = halved me.0 in
     let sum = kept.two_halves in

@@ -8,8 +8,8 @@ use Rattle.gpu_books.specs.declared.table.View.TheVariants.{Full, Joined, Halved
 use Rattle.gpu_books.specs.Views.{weight}
 
 -- the word of a book, and the views of all seats
-abbrev pub Words : Type 0
-Words = State (Unit {0}) View
+abbrev pub BookState : Type 0
+BookState = State (Unit {0}) View
 
 -- the weights of all views together
 abbrev pub weights : List View → ℕ
@@ -25,7 +25,7 @@ HasOnly numbers Spent = Unit {0}
 
 -- the rule of a book: all views together weigh two halves, and the numbers of each are those of the book. The word says
 -- nothing.
-pub record Keeps (s : Words) : Type 0 where
+pub record KeepsBook (s : BookState) : Type 0 where
   pub two_halves : weights s.views ≡ 2
   pub numbers : List ℕ
   pub same : (seat : ℕ) (view : View) → get_elem? s.views seat ≡ some view → HasOnly numbers view

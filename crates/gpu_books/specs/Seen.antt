@@ -5,7 +5,7 @@ use Rattle.atomic_table.specs.Seated.{TableId, table_id_coded}
 use Rattle.atomic_table.specs.declared.shared.Seat.{Seat}
 use Rattle.gpu_books.specs.declared.table.View.{View}
 use Rattle.gpu_books.specs.declared.table.View.TheVariants.{Halved}
-use Rattle.gpu_books.specs.Views.{Sat, weight, numbers_of, six_zeros}
+use Rattle.gpu_books.specs.Views.{BookSeat, weight, half_numbers, six_zeros}
 
 -- the book of a half, and its numbers
 pub record HalfData : Type 0 where
@@ -30,14 +30,14 @@ no_book = record { words = 0; slots = 0; views_name = 0; atom = 0; block = 0; of
 
 -- what the seat of a half tells
 abbrev pub half_of : Option (Seat (Unit {0}) View) → HalfData
-half_of (Some seat) = record { book = seat.table_id; numbers = numbers_of seat.me.0 }
+half_of (Some seat) = record { book = seat.table_id; numbers = half_numbers seat.me.0 }
 half_of None = record { book = no_book; numbers = [] }
 
 -- there is a seat, which has a half
 abbrev pub IsHalf : Option (Seat (Unit {0}) View) → Type 0
-IsHalf (Some seat) = seat.me ≡ (Halved (numbers_of seat.me.0), [])
+IsHalf (Some seat) = seat.me ≡ (Halved (half_numbers seat.me.0), [])
 IsHalf None = ⊥
 
 -- the seat has all of the book
-abbrev pub IsFull : Sat → Type 0
-IsFull seat = (weight seat.0 ≡ 2) × (seat.1 ≡ [])
+abbrev pub HasWholeBook : BookSeat → Type 0
+HasWholeBook seat = (weight seat.0 ≡ 2) × (seat.1 ≡ [])

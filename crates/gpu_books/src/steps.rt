@@ -1,8 +1,8 @@
 // The four kinds of step on a book.
 ghost use Rattle.std.specs.Prelude.{◌≡◌, Some};
 ghost use Rattle.gpu_books.specs.declared.table.View.TheVariants.{Joined};
-ghost use Rattle.gpu_books.specs.Views.{numbers_of, joined_of};
-ghost use Rattle.gpu_books.specs.Seen.{half_of, IsHalf, IsFull};
+ghost use Rattle.gpu_books.specs.Views.{half_numbers, joined_of};
+ghost use Rattle.gpu_books.specs.Seen.{half_of, IsHalf, HasWholeBook};
 
 use crate::table::{Book, Compares, Halves, Numbers, Renumbers, View};
 use atomic_table::Seat;
@@ -17,7 +17,7 @@ pub(crate) fn join(book: &Book, kept: Option<Holder>, out: Option<Holder>) -> Ho
     requires out { (half_of out).book ≡ book.now }
 
     ensures book { result.table_id ≡ book.now }
-    ensures full { IsFull result.me }
+    ensures full { HasWholeBook result.me }
     ensures view { result.me.0 ≡ Joined (half_of kept).numbers (half_of out).numbers }
 {
     let mut full = kept.unwrap();
@@ -29,9 +29,9 @@ pub(crate) fn join(book: &Book, kept: Option<Holder>, out: Option<Holder>) -> Ho
 // Loads the word, which tells that the numbers of both halves were equal.
 pub(crate) fn compare(book: &Book, full: &mut Holder)
     requires book { full.old.table_id ≡ book.now }
-    requires full { IsFull full.old.me }
+    requires full { HasWholeBook full.old.me }
 
-    ensures equal { numbers_of full.old.me.0 ≡ joined_of full.old.me.0 }
+    ensures equal { half_numbers full.old.me.0 ≡ joined_of full.old.me.0 }
     ensures book { full.new.table_id ≡ book.now }
     ensures same { full.new.me ≡ full.old.me }
 {
@@ -41,12 +41,12 @@ pub(crate) fn compare(book: &Book, full: &mut Holder)
 // Gives a full view other numbers, which N names: no code reads the argument.
 pub(crate) fn renumber<N: Numbers>(book: &Book, full: &mut Holder, _numbers: &[u64; 6])
     requires book { full.old.table_id ≡ book.now }
-    requires full { IsFull full.old.me }
+    requires full { HasWholeBook full.old.me }
     requires named { _numbers.now ≡ N.numbers }
 
     ensures book { full.new.table_id ≡ book.now }
-    ensures full { IsFull full.new.me }
-    ensures numbers { numbers_of full.new.me.0 ≡ _numbers.now }
+    ensures full { HasWholeBook full.new.me }
+    ensures numbers { half_numbers full.new.me.0 ≡ _numbers.now }
 {
     book.table.shared.load::<Renumbers<N>>(full, 0);
 }
@@ -54,13 +54,13 @@ pub(crate) fn renumber<N: Numbers>(book: &Book, full: &mut Holder, _numbers: &[u
 // Cuts a full view into two halves.
 pub(crate) fn cut(book: &Book, mut full: Holder) -> (Holder, Holder)
     requires book { full.table_id ≡ book.now }
-    requires full { IsFull full.me }
+    requires full { HasWholeBook full.me }
 
     ensures halves { IsHalf (Some result.0) × IsHalf (Some result.1) }
     ensures kept { half_of (Some result.0)
-        ≡ record { book = book.now; numbers = numbers_of full.me.0 } }
+        ≡ record { book = book.now; numbers = half_numbers full.me.0 } }
     ensures out { half_of (Some result.1)
-        ≡ record { book = book.now; numbers = numbers_of full.me.0 } }
+        ≡ record { book = book.now; numbers = half_numbers full.me.0 } }
 {
     let other = book.table.shared.split_seat::<Halves>(&mut full);
     (full, other)

@@ -21,9 +21,9 @@ pub struct BookRule;
 
 impl TableRule<(), View, ()> for BookRule {
     ghost use Rattle.gpu_books.specs.Views.{opened};
-    ghost use Rattle.gpu_books.specs.Rule.{Keeps};
+    ghost use Rattle.gpu_books.specs.Rule.{KeepsBook};
 
-    ghost holds = { λ _. Keeps };
+    ghost holds = { λ _. KeepsBook };
 
     ghost first = { λ _. opened };
 }
@@ -61,10 +61,10 @@ impl Split<View> for Halves {
 }
 
 impl Join<View> for Halves {
-    ghost use Rattle.gpu_books.specs.Views.{joined};
+    ghost use Rattle.gpu_books.specs.Views.{halves_joined};
     ghost use Rattle.gpu_books.specs.declared.table.View.TheVariants.{Spent};
 
-    ghost both = { joined };
+    ghost both = { halves_joined };
 
     ghost spent = { Spent };
 }

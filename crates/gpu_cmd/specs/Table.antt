@@ -66,10 +66,10 @@ abbrev pub ring_of : List ℕ → List ℕ
 ring_of words = take (ring_words_of (id_of (slice_index words 0)) (size_of (slice_index words 0))) words
 
 -- the command of ring words by a row, where it allows this number
-abbrev pub said_by : Option Row → List ℕ → Option Command
-said_by None ring = None
-said_by (Some row) ring = if fits row (length ring) then Some (row.command (argument ring)) else None
+abbrev pub command_by_row : Option Row → List ℕ → Option Command
+command_by_row None ring = None
+command_by_row (Some row) ring = if fits row (length ring) then Some (row.command (argument ring)) else None
 
 -- the command that words say by the header and the arguments that they begin with
 abbrev pub command_said : List ℕ → Option Command
-command_said words = said_by (row_of (id_of (slice_index words 0))) (ring_of words)
+command_said words = command_by_row (row_of (id_of (slice_index words 0))) (ring_of words)

@@ -6,7 +6,7 @@ use Rattle.std.proofs.lemmas.List.Elements.{All-nil, All-cons, All-append}
 use Rattle.gpu_cmd.specs.Copied.{words_at}
 use Rattle.gpu_cmd.proofs.Copies.{words_at_push}
 use Rattle.gpu_fetch.specs.Side.{SideData, MayFetch, with_words, Fetches}
-use Rattle.gpu_fetch.specs.Fetched.{added, FetchesRow, FetchesRowInPart}
+use Rattle.gpu_fetch.specs.Fetched.{items_since, FetchesRow, FetchesRowInPart}
 
 with_none : (s : SideData) → s ≡ with_words s []
 with_none s = ap (λ (words : List (ℕ × ℕ)). record s { fetched = words }) (sym (append-nil s.fetched))
@@ -58,21 +58,21 @@ none_at_all S list none = subst (All S) (sym none) (All-nil S)
 
 -- ---- what a list has after all that it had
 
-added_append : (list own : List (ℕ × ℕ)) → added list (list ++ own) ≡ own
+added_append : (list own : List (ℕ × ℕ)) → items_since list (list ++ own) ≡ own
 added_append [] own = refl
 added_append (word ∷ list) own = added_append list own
 
-pub added_is : (list own longer : List (ℕ × ℕ)) → longer ≡ list ++ own → added list longer ≡ own
-added_is list own longer is = ap (added list) is ∙ added_append list own
+pub added_is : (list own longer : List (ℕ × ℕ)) → longer ≡ list ++ own → items_since list longer ≡ own
+added_is list own longer is = ap (items_since list) is ∙ added_append list own
 
-pub appends : (list own longer : List (ℕ × ℕ)) → longer ≡ list ++ own → longer ≡ list ++ added list longer
+pub appends : (list own longer : List (ℕ × ℕ)) → longer ≡ list ++ own → longer ≡ list ++ items_since list longer
 appends list own longer is = is ∙ ap (λ (l : List (ℕ × ℕ)). list ++ l) (sym (added_is list own longer is))
 
-pub added_then : (list own pushed more longer : List (ℕ × ℕ)) → pushed ≡ list ++ own → longer ≡ pushed ++ more → added list longer ≡ own ++ more
+pub added_then : (list own pushed more longer : List (ℕ × ℕ)) → pushed ≡ list ++ own → longer ≡ pushed ++ more → items_since list longer ≡ own ++ more
 added_then list own pushed more longer is grows = added_is list (own ++ more) longer (grows ∙ ap (λ (l : List (ℕ × ℕ)). l ++ more) is ∙ append_assoc list own more)
 
 -- a row after words that were added
-pub row_behind : (s t : SideData) (place count : ℕ) (list own pushed longer : List (ℕ × ℕ)) → pushed ≡ list ++ own → FetchesRow s t place count pushed longer → FetchesRow s t place count own (added list longer)
+pub row_behind : (s t : SideData) (place count : ℕ) (list own pushed longer : List (ℕ × ℕ)) → pushed ≡ list ++ own → FetchesRow s t place count pushed longer → FetchesRow s t place count own (items_since list longer)
 row_behind s t place count list own pushed longer is row = record {
   values = row.values;
   all = row.all;
@@ -81,17 +81,17 @@ row_behind s t place count list own pushed longer is row = record {
 }
 
 -- all that was added, after a row
-pub row_appends : (s t : SideData) (place count : ℕ) (list own pushed longer : List (ℕ × ℕ)) → pushed ≡ list ++ own → FetchesRow s t place count pushed longer → longer ≡ list ++ added list longer
+pub row_appends : (s t : SideData) (place count : ℕ) (list own pushed longer : List (ℕ × ℕ)) → pushed ≡ list ++ own → FetchesRow s t place count pushed longer → longer ≡ list ++ items_since list longer
 row_appends s t place count list own pushed longer is row =
     appends list (own ++ words_at place row.values) longer (row.appended ∙ ap (λ (l : List (ℕ × ℕ)). l ++ words_at place row.values) is ∙ append_assoc list own (words_at place row.values))
 
 -- what holds of each word added, after a row of which it holds
-pub row_shown : (S : ℕ × ℕ → Type 0) (s t : SideData) (place count : ℕ) (list own pushed longer : List (ℕ × ℕ)) → pushed ≡ list ++ own → FetchesRow s t place count pushed longer → All S own → All S (added pushed longer) → All S (added list longer)
+pub row_shown : (S : ℕ × ℕ → Type 0) (s t : SideData) (place count : ℕ) (list own pushed longer : List (ℕ × ℕ)) → pushed ≡ list ++ own → FetchesRow s t place count pushed longer → All S own → All S (items_since pushed longer) → All S (items_since list longer)
 row_shown S s t place count list own pushed longer is row all more =
     let words : List (ℕ × ℕ) = words_at place row.values in
     subst (All S) (sym (added_then list own pushed words longer is row.appended)) (All-append S own words all (subst (All S) (added_is pushed words longer row.appended) more))
 
 -- what holds of each word added, and of one word more
-pub added_shown : (S : ℕ × ℕ → Type 0) (s t : SideData) (place count : ℕ) (list longer again : List (ℕ × ℕ)) (word : ℕ × ℕ) → FetchesRow s t place count list longer → again ≡ longer ++ word ∷ [] → All S (added list longer) → S word → All S (added list again)
+pub added_shown : (S : ℕ × ℕ → Type 0) (s t : SideData) (place count : ℕ) (list longer again : List (ℕ × ℕ)) (word : ℕ × ℕ) → FetchesRow s t place count list longer → again ≡ longer ++ word ∷ [] → All S (items_since list longer) → S word → All S (items_since list again)
 added_shown S s t place count list longer again word row push all one =
-    one_more S (added list longer) (added list again) word (added_then list (added list longer) longer (word ∷ []) again (appends list (words_at place row.values) longer row.appended) push) all one
+    one_more S (items_since list longer) (items_since list again) word (added_then list (items_since list longer) longer (word ∷ []) again (appends list (words_at place row.values) longer row.appended) push) all one

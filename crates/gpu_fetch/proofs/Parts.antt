@@ -12,7 +12,7 @@ use Rattle.gpu_cmd.specs.Checks.{headed, decoded}
 use Rattle.gpu_cmd.specs.Copied.{fetched_places, places_decoded, ring_places, value_in, words_at, places_listed, IsCopy}
 use Rattle.gpu_cmd.proofs.Copies.{put_out_of_range, header_refused, entries_refused, command_copied, header_goes_on, same_place, values_at, places_at}
 use Rattle.gpu_fetch.specs.Side.{SideData, MayFetch, with_words, Fetches}
-use Rattle.gpu_fetch.specs.Fetched.{added, FetchesSome, FetchesRow, FetchesRowInPart, FetchesRows}
+use Rattle.gpu_fetch.specs.Fetched.{items_since, FetchesSome, FetchesRow, FetchesRowInPart, FetchesRows}
 use Rattle.gpu_fetch.proofs.Fetching.{fetches_one, fetches_then, row_behind}
 
 -- ---- words at places in a row
@@ -97,14 +97,14 @@ header_onto facts entry were room pushed same push = push ∙ ap (λ (l : List (
 
 -- all ring words after the words that a list had
 pub ring_onto : (s m t : SideData) (facts : StreamFacts) (entry : ℕ) (shape : Shape) (were room pushed longer : List (ℕ × ℕ)) → m ≡ with_words s ((facts.get, entry) ∷ []) → MayFetch s (facts.get, entry) → room ≡ were → pushed ≡ room ++ (facts.get, entry) ∷ []
-    → 1 ≤ shape.ring_words → FetchesRow m t (facts.get + 1) (shape.ring_words - 1) pushed longer → RingFetched s t facts entry shape (added were longer)
+    → 1 ≤ shape.ring_words → FetchesRow m t (facts.get + 1) (shape.ring_words - 1) pushed longer → RingFetched s t facts entry shape (items_since were longer)
 ring_onto s m t facts entry shape were room pushed longer grows may same push some row =
     let one : List (ℕ × ℕ) = (facts.get, entry) ∷ [] in
-    ring_fetched s m t facts entry shape one (added were longer) (fetches_one s m facts.get entry grows may) refl some
+    ring_fetched s m t facts entry shape one (items_since were longer) (fetches_one s m facts.get entry grows may) refl some
     (row_behind m t (facts.get + 1) (shape.ring_words - 1) were one pushed longer (header_onto facts entry were room pushed same push) row)
 
 -- the words after those that a list had, as they are read
-pub added_read : (were list longer : List (ℕ × ℕ)) (from : ℕ) → list ≡ longer → from ≡ length were → slice_range list from (length list) ≡ added were longer
+pub added_read : (were list longer : List (ℕ × ℕ)) (from : ℕ) → list ≡ longer → from ≡ length were → slice_range list from (length list) ≡ items_since were longer
 added_read were list longer from same at =
     take_all (length list - from) (drop from list) (let long = length-drop from list in omega (arith, long)) ∙ ap (λ (n : ℕ). drop n list) at ∙ ap (drop (length were)) same
 

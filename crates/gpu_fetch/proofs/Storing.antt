@@ -6,9 +6,9 @@ use Rattle.gpu_plan.specs.declared.plan.Action.{Action}
 use Rattle.gpu_plan.specs.Plans.{PlanData}
 use Rattle.gpu_plan.specs.Values.{after}
 use Rattle.gpu_plan.proofs.Holding.{value_one_further}
-use Rattle.gpu_fetch.specs.Plain.{IsStored}
+use Rattle.gpu_fetch.specs.Plain.{HoldItsValues}
 
-pub stored_again : (plan given : PlanData) (done : ℕ) (old new : List ℕ) (actions : List Action) (action : Action) → plan ≡ given → actions ≡ given.actions → done < length given.actions → action ≡ get_or actions done action → length new ≡ length old → ((i : ℕ) → slice_index new i ≡ after i (slice_index old i) action) → IsStored plan done old → IsStored plan (done + 1) new
+pub stored_again : (plan given : PlanData) (done : ℕ) (old new : List ℕ) (actions : List Action) (action : Action) → plan ≡ given → actions ≡ given.actions → done < length given.actions → action ≡ get_or actions done action → length new ≡ length old → ((i : ℕ) → slice_index new i ≡ after i (slice_index old i) action) → HoldItsValues plan done old → HoldItsValues plan (done + 1) new
 stored_again plan given done old new actions action same these lt here kept step h =
     let mine : actions ≡ plan.actions = these ∙ ap (λ (q : PlanData). q.actions) (sym same) in
     let few : length actions ≡ length given.actions = ap length these in

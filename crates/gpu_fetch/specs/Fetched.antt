@@ -21,8 +21,8 @@ pub record IsFetched (found : FetchedData) : Type 0 where
   pub copy : IsCopy found.words found.facts found.verdict
 
 -- what a list has after all that it had
-abbrev pub added : List (ℕ × ℕ) → List (ℕ × ℕ) → List (ℕ × ℕ)
-added list longer = drop (length list) longer
+abbrev pub items_since : List (ℕ × ℕ) → List (ℕ × ℕ) → List (ℕ × ℕ)
+items_since list longer = drop (length list) longer
 
 -- the side fetched the first of the places that must be fetched by the words that it had, in order
 pub record FetchesSome (old new : SideData) (facts : StreamFacts) : Type 0 where

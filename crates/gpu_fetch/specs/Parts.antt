@@ -4,9 +4,9 @@ use Rattle.gpu_fetch.specs.declared.sharing.FetchedPart.{FetchedPart}
 use Rattle.gpu_fetch.specs.Fetched.{FetchedData}
 
 -- how many words the commands have
-abbrev pub words_in : List FetchedPart → ℕ
-words_in [] = 0
-words_in (part ∷ more) = part.count + words_in more
+abbrev pub words_of_parts : List FetchedPart → ℕ
+words_of_parts [] = 0
+words_of_parts (part ∷ more) = part.count + words_of_parts more
 
 -- what was fetched of each: the first has the first words of the list, and each further one those after
 abbrev pub parts_of : List (ℕ × ℕ) → List FetchedPart → List FetchedData

@@ -6,7 +6,7 @@ use Rattle.gpu_plan.specs.declared.plan.Action.{Action}
 use Rattle.gpu_plan.specs.declared.plan.Action.TheVariants.{Put, Flush, Finish, Token, Close}
 use Rattle.gpu_plan.specs.Plans.{PlanData}
 use Rattle.gpu_plan.specs.Values.{value_at}
-use Rattle.gpu_fetch.specs.Side.{SideData, reach}
+use Rattle.gpu_fetch.specs.Side.{SideData, side_reach}
 
 -- the plan of the client, and how many of its actions are done
 pub record PlainData : Type 0 where
@@ -51,7 +51,7 @@ IsAwait (Token token) = Unit {0}
 IsAwait Close = ⊥
 
 -- each place has its value after a given number of actions
-pub record IsStored (plan : PlanData) (done : ℕ) (values : List ℕ) : Type 0 where
+pub record HoldItsValues (plan : PlanData) (done : ℕ) (values : List ℕ) : Type 0 where
   pub count : length values ≡ places_of plan.areas
   pub within : done ≤ length plan.actions
   pub each : (place : ℕ) → slice_index values place ≡ value_at plan.actions done place
@@ -60,12 +60,12 @@ pub record IsStored (plan : PlanData) (done : ℕ) (values : List ℕ) : Type 0 
 pub record IsBeside (side : SideData) (words : PlainData) : Type 0 where
   pub plan : side.plan ≡ words.plan
   pub met : side.met ≤ words.done
-  pub within : words.done ≤ reach side
+  pub within : words.done ≤ side_reach side
 
 -- and so is a note, whose flush is done
 abbrev pub IsNoteBeside : SideData → PlainData → ℕ → Type 0
 IsNoteBeside side words mark = IsBeside side words × (mark ≤ words.done)
 
 -- the word is the value of its place after the actions that are done
-abbrev pub IsHeld : PlainData → ℕ × ℕ → Type 0
-IsHeld words word = word.1 ≡ value_at words.plan.actions words.done word.0
+abbrev pub IsValueOfPlace : PlainData → ℕ × ℕ → Type 0
+IsValueOfPlace words word = word.1 ≡ value_at words.plan.actions words.done word.0

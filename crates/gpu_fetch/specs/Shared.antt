@@ -9,9 +9,9 @@ abbrev pub side_of : ServiceData → SideData
 side_of pass = record { plan = pass.plan; fetched = pass.fetched; finished = pass.finished; greatest = pass.greatest; met = pass.met }
 
 -- the pass is one of these words
-abbrev pub IsOf : ServiceData → TableId → Type 0
-IsOf pass words = words ≡ pass.table
+abbrev pub IsPassOf : ServiceData → TableId → Type 0
+IsPassOf pass words = words ≡ pass.table
 
 -- and so is a note
 abbrev pub IsNoteOf : ServiceData → TableId → NoteData → Type 0
-IsNoteOf pass words note = IsOf pass words × (note.table ≡ pass.table)
+IsNoteOf pass words note = IsPassOf pass words × (note.table ≡ pass.table)

@@ -26,12 +26,12 @@ abbrev pub fresh_side : PlanData → SideData
 fresh_side plan = record { plan = plan; fetched = []; finished = 0; greatest = 0; met = 0 }
 
 -- how far the client can be, by the side's own numbers
-abbrev pub reach : SideData → ℕ
-reach side = bound side.plan.actions side.finished (side.greatest ∷ [])
+abbrev pub side_reach : SideData → ℕ
+side_reach side = bound side.plan.actions side.finished (side.greatest ∷ [])
 
 -- the value is one that the client may have put there since the latest flush met
 abbrev pub MayFetch : SideData → ℕ × ℕ → Type 0
-MayFetch side word = MayHold side.plan.actions side.met (reach side) word.0 word.1
+MayFetch side word = MayHold side.plan.actions side.met (side_reach side) word.0 word.1
 
 -- the side with words fetched
 abbrev pub with_words : SideData → List (ℕ × ℕ) → SideData
@@ -42,12 +42,12 @@ abbrev pub with_met : SideData → ℕ → SideData
 with_met side mark = record side { met = max side.met mark }
 
 -- the side with one more flush published as finished
-abbrev pub with_finish : SideData → SideData
-with_finish side = record side { finished = side.finished + 1 }
+abbrev pub finish_published : SideData → SideData
+finish_published side = record side { finished = side.finished + 1 }
 
 -- the side with a token published
-abbrev pub with_token : SideData → ℕ → SideData
-with_token side token = record side { greatest = max side.greatest token }
+abbrev pub token_published : SideData → ℕ → SideData
+token_published side token = record side { greatest = max side.greatest token }
 
 -- the side fetched these words, one after the other, and the client may have put each
 pub record Fetches (old new : SideData) (words : List (ℕ × ℕ)) : Type 0 where

@@ -4,7 +4,7 @@ ghost use Rattle.std.specs.List.Sorted.{IsStrictlyIncreasing};
 ghost use Rattle.gpu_cmd.specs.Copied.{copied, fetched_places, places_listed, IsCopy};
 ghost use Rattle.gpu_cmd.specs.Lawful.{IsLawfulFacts, places_of};
 ghost use Rattle.gpu_fetch.specs.Side.{Fetches};
-ghost use Rattle.gpu_fetch.specs.Fetched.{added, FetchesRow, FetchesRowInPart, FetchesSome, FetchesRows};
+ghost use Rattle.gpu_fetch.specs.Fetched.{items_since, FetchesRow, FetchesRowInPart, FetchesSome, FetchesRows};
 
 use crate::fetched::Fetched;
 use crate::seen_facts::SeenFacts;
@@ -30,7 +30,8 @@ fn fetch_row<P: ServiceSide>(
 
     ensures row { OnOk result
         (FetchesRow (P.side side.old) (P.side side.new) from count list.old.items list.new.items) }
-    ensures shows { OnOk result (All (P.shows words.now) (added list.old.items list.new.items)) }
+    ensures shows { OnOk result
+        (All (P.shows words.now) (items_since list.old.items list.new.items)) }
     ensures whole { IfErr result (λ _. P.wants ⊎ (P.side side.new ≡ P.side side.old)) }
     ensures part { IfErr result
         (λ _. FetchesRowInPart (P.side side.old) (P.side side.new) from count) }
@@ -69,12 +70,13 @@ pub fn fetch_onto<P: ServiceSide>(
     requires areas { facts.now.areas ≡ (P.side side.old).plan.areas }
 
     ensures adds { IfOk result
-        (λ _. list.new.items ≡ list.old.items ++ added list.old.items list.new.items) }
+        (λ _. list.new.items ≡ list.old.items ++ items_since list.old.items list.new.items) }
     ensures fetches { IfOk result
-        (λ _. Fetches (P.side side.old) (P.side side.new) (added list.old.items list.new.items)) }
+        (λ _. Fetches (P.side side.old) (P.side side.new)
+        (items_since list.old.items list.new.items)) }
     ensures shows { IfOk result
-        (λ _. All (P.shows words.now) (added list.old.items list.new.items)) }
-    ensures copy { IfOk result (IsCopy (added list.old.items list.new.items) facts.now) }
+        (λ _. All (P.shows words.now) (items_since list.old.items list.new.items)) }
+    ensures copy { IfOk result (IsCopy (items_since list.old.items list.new.items) facts.now) }
     ensures some { IfErr result (λ _. FetchesSome (P.side side.old) (P.side side.new) facts.now) }
     ensures rows { IfErr result
         (λ _. P.wants ⊎ FetchesRows (P.side side.old) (P.side side.new) facts.now) }

@@ -2,7 +2,7 @@ ghost use Rattle.std.specs.Prelude.{◌≡◌, ◌<◌, [], ◌∷◌, IsOk, IfE
 ghost use Rattle.gpu_cmd.specs.Lawful.{places_of};
 ghost use Rattle.shm_words.specs.Seen.{NoteData};
 ghost use Rattle.gpu_fetch.specs.Side.{MayFetch, with_words};
-ghost use Rattle.gpu_fetch.specs.Shared.{side_of, IsOf, IsNoteOf};
+ghost use Rattle.gpu_fetch.specs.Shared.{side_of, IsPassOf, IsNoteOf};
 
 use crate::side::ServiceSide;
 use gpu_word::Memory;
@@ -27,7 +27,7 @@ impl ServiceSide for ServicePass {
 
     ghost note_of = { λ n t. n.table ≡ t };
 
-    ghost belongs = { IsOf };
+    ghost belongs = { IsPassOf };
 
     ghost note_belongs = { IsNoteOf };
 
@@ -45,7 +45,7 @@ impl ServiceSide for ServicePass {
 
     /// Fetches the word at a place by one load. No memory is needed.
     fn fetch(&mut self, words: &SharedWords, place: u32) -> Result<u32, Memory>
-        requires belongs { IsOf self.old words.now }
+        requires belongs { IsPassOf self.old words.now }
         requires place { place < places_of self.old.plan.areas }
 
         ensures grows { MatchResult result
@@ -53,7 +53,7 @@ impl ServiceSide for ServicePass {
             (λ _. side_of self.new ≡ side_of self.old) }
         ensures may { IfOk result (λ value. MayFetch (side_of self.old) (place, value)) }
         ensures memory { IfErr result (λ _. ⊥) }
-        ensures belongs { IsOf self.new words.now }
+        ensures belongs { IsPassOf self.new words.now }
         ensures notes { (n : NoteData) → IsNoteOf self.old words.now n
             → IsNoteOf self.new words.now n }
         ensures table { self.new.table ≡ self.old.table }

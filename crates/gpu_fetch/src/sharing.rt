@@ -2,7 +2,7 @@
 ghost use Rattle.std.specs.Prelude.{◌≡◌, length, IfOk};
 ghost use Rattle.std.specs.List.{All};
 ghost use Rattle.gpu_fetch.specs.Fetched.{IsFetched};
-ghost use Rattle.gpu_fetch.specs.Parts.{words_in, parts_of};
+ghost use Rattle.gpu_fetch.specs.Parts.{words_of_parts, parts_of};
 
 use crate::fetched::Fetched;
 use crate::seen_facts::SeenFacts;
@@ -32,7 +32,7 @@ pub fn share(
     list: Vec<(u32, u32)>,
     parts: &[FetchedPart],
 ) -> Result<Vec<Fetched>, Memory>
-    requires whole { words_in parts.now ≡ length list.items }
+    requires whole { words_of_parts parts.now ≡ length list.items }
     requires copies { All IsFetched (parts_of list.items parts.now) }
     ensures value { IfOk result (λ all. all.items ≡ parts_of list.items parts.now) }
 {

@@ -2,9 +2,9 @@ ghost use Rattle.std.specs.Prelude.{◌≡◌, ℕ, ◌+◌, ◌<◌, ◌≤◌,
 ghost use Rattle.std.specs.List.{All};
 ghost use Rattle.std.specs.Option.{IfSome};
 ghost use Rattle.atomic_table.specs.Seated.{TableId};
-ghost use Rattle.gpu_word.specs.Results.{Written, Finish, finishes_in, writes_of, Settles};
+ghost use Rattle.gpu_word.specs.Results.{Written, Finish, finishes_in, writes_listed, Settles};
 ghost use Rattle.gpu_cmd.specs.Lawful.{places_of};
-ghost use Rattle.gpu_fetch.specs.Side.{SideData, reach, MayFetch, with_words, with_met, with_finish, with_token, told_more};
+ghost use Rattle.gpu_fetch.specs.Side.{SideData, side_reach, MayFetch, with_words, with_met, finish_published, token_published, told_more};
 
 use gpu_word::Memory;
 
@@ -99,7 +99,7 @@ pub trait ServiceSide: Drop {
         requires flush { 1 ≤ mark note }
 
         ensures met { side self.new ≡ with_met (side self.old) (mark note) }
-        ensures bounded { (side self.new).met ≤ reach (side self.new) }
+        ensures bounded { (side self.new).met ≤ side_reach (side self.new) }
         ensures belongs { belongs self.new words.now }
         ensures notes { (n : Self.Note) → note_belongs self.old words.now n
             → note_belongs self.new words.now n }
@@ -109,7 +109,7 @@ pub trait ServiceSide: Drop {
     fn publish_token(&mut self, words: &Self::Words, token: u32)
         requires belongs { belongs self.old words.now }
 
-        ensures told { side self.new ≡ with_token (side self.old) token }
+        ensures told { side self.new ≡ token_published (side self.old) token }
         ensures belongs { belongs self.new words.now }
         ensures notes { (n : Self.Note) → note_belongs self.old words.now n
             → note_belongs self.new words.now n }
@@ -122,7 +122,7 @@ pub trait ServiceSide: Drop {
             (λ list. finishes_in list ≡ (side self.old).finished + 1) }
         requires room { (side self.old).finished + 1 < 2 ^ 64 }
 
-        ensures finished { side self.new ≡ with_finish (side self.old) }
+        ensures finished { side self.new ≡ finish_published (side self.old) }
         ensures belongs { belongs self.new words.now }
         ensures notes { (n : Self.Note) → note_belongs self.old words.now n
             → note_belongs self.new words.now n }
@@ -134,7 +134,7 @@ pub trait ServiceSide: Drop {
         requires takes { All (λ write. IsTrue (takes results.old write.0)) writes.now }
 
         ensures written { written results.new
-            ≡ told_more (written results.old) (writes_of writes.now) }
+            ≡ told_more (written results.old) (writes_listed writes.now) }
         ensures takes { (place : ℕ) → takes results.new place ≡ takes results.old place }
         ensures named { (t : TableId) → results_of results.old t → results_of results.new t }
         ensures belongs { results_belong words.now results.new };

@@ -17,7 +17,7 @@ use Rattle.house_core.specs.Desks.{RunData}
 use Rattle.gpu_house.specs.declared.answers.Next.{Next}
 use Rattle.gpu_house.specs.declared.answers.Next.TheVariants as next
 use Rattle.gpu_house.specs.House.{OutData}
-use Rattle.gpu_house.specs.Committing.{stepped, Stage, IsStill, AreDone, HaveGone, GoneInPart, LosesAt, Commits, IsOverBy, is_executed}
+use Rattle.gpu_house.specs.Committing.{journal_stepped, Stage, IsStill, AreDone, HaveGone, GoneInPart, LosesAt, Commits, IsOverBy, is_executed}
 use Rattle.gpu_hall.specs.Commits.{Return, WasOver, Waits, Ended, Invalid, Wanted, HasSteps, CameHome}
 
 lost_over : (x : Standing) → x.lost ≡ true → is_open x ≡ false
@@ -35,7 +35,7 @@ is_over p h s next.FlushEnd over = absurd over
 is_over p h s (next.Invalid error) over = absurd over
 
 -- steps leave a stream open
-open_steps : (p : PlansData) (s : ℕ) (ws : List (List (ℕ × ℕ))) (h : List Event) → is_open (standing_of p (stepped s ws h) s) ≡ is_open (standing_of p h s)
+open_steps : (p : PlansData) (s : ℕ) (ws : List (List (ℕ × ℕ))) (h : List Event) → is_open (standing_of p (journal_stepped s ws h) s) ≡ is_open (standing_of p h s)
 open_steps p s [] h = refl
 open_steps p s (words ∷ ws) h = open_steps p s ws (event.Step s words ∷ h) ∙ step_open p h s words
 
@@ -50,7 +50,7 @@ abbrev pub IsKept : (List Event → Type 0) → Type 0
 IsKept F = (e : Event) (h : List Event) → is_order e ≡ false → F h → F (e ∷ h)
 
 -- is kept by steps
-kept_steps : (F : List Event → Type 0) → IsKept F → (s : ℕ) (ws : List (List (ℕ × ℕ))) (h : List Event) → F h → F (stepped s ws h)
+kept_steps : (F : List Event → Type 0) → IsKept F → (s : ℕ) (ws : List (List (ℕ × ℕ))) (h : List Event) → F h → F (journal_stepped s ws h)
 kept_steps F keeps s [] h f = f
 kept_steps F keeps s (words ∷ ws) h f = kept_steps F keeps s ws (event.Step s words ∷ h) (keeps (event.Step s words) h refl f)
 
@@ -66,7 +66,7 @@ module _ {Side Note Results : Type 0} (side : Side → SideData) (mark : Note �
   abbrev Gone : Stage Side Note Results → List (List (ℕ × ℕ)) → Type 0
   Gone mid ws = HaveGone side mark p old mid ws
 
-  past_gone : (mid : Stage Side Note Results) (ws : List (List (ℕ × ℕ))) → Gone mid ws → mid.house.core.past ≡ stepped s ws h
+  past_gone : (mid : Stage Side Note Results) (ws : List (List (ℕ × ℕ))) → Gone mid ws → mid.house.core.past ≡ journal_stepped s ws h
   past_gone mid [] still = still.house.past
   past_gone mid (w ∷ ws) done = done.events
 
@@ -75,10 +75,10 @@ module _ {Side Note Results : Type 0} (side : Side → SideData) (mark : Note �
   stream_gone mid (w ∷ ws) done = done.moved.stream
 
   -- the facts of the stream by the journal after them
-  at_gone : (F : List Event → ℕ → Type 0) (mid : Stage Side Note Results) (ws : List (List (ℕ × ℕ))) → Gone mid ws → F mid.house.core.past mid.out.run.stream → F (stepped s ws h) s
+  at_gone : (F : List Event → ℕ → Type 0) (mid : Stage Side Note Results) (ws : List (List (ℕ × ℕ))) → Gone mid ws → F mid.house.core.past mid.out.run.stream → F (journal_stepped s ws h) s
   at_gone F mid ws gone f = subst (λ (g : List Event). F g s) (past_gone mid ws gone) (subst (F mid.house.core.past) (stream_gone mid ws gone) f)
 
-  steps_gone : (mid : Stage Side Note Results) (ws : List (List (ℕ × ℕ))) → Gone mid ws → is_open (standing_of p (stepped s ws h) s) ≡ true → HasSteps p h (stepped s ws h) s ws false
+  steps_gone : (mid : Stage Side Note Results) (ws : List (List (ℕ × ℕ))) → Gone mid ws → is_open (standing_of p (journal_stepped s ws h) s) ≡ true → HasSteps p h (journal_stepped s ws h) s ws false
   steps_gone mid [] still open' = record { still_open = open'; valid = tt; waits = refl; steps = refl }
   steps_gone mid (w ∷ ws) done open' = record { still_open = done.still_open; valid = done.valid; waits = sym done.kept; steps = refl }
 
@@ -177,9 +177,9 @@ module _ {Side Note Results : Type 0} (side : Side → SideData) (mark : Note �
     -- memory ran out after the steps of the first members
     pub was_wanted : (g : List Event) → GoneInPart side mark p old new members → (OpenStill → g ≡ event.Lost new.out.run.stream Memory [] ∷ new.house.core.past)
         → (is_open (standing_of p new.house.core.past new.out.run.stream) ≡ false → g ≡ new.house.core.past) → Home g
-    was_wanted g part lost over = by part.first part.gone part.those (is_open (standing_of p (stepped s part.first h) s)) refl
+    was_wanted g part lost over = by part.first part.gone part.those (is_open (standing_of p (journal_stepped s part.first h) s)) refl
       where
-        by : (ws : List (List (ℕ × ℕ))) → Gone new ws → members ≡ ws ++ part.rest → (b : Bool) → is_open (standing_of p (stepped s ws h) s) ≡ b → Home g
+        by : (ws : List (List (ℕ × ℕ))) → Gone new ws → members ≡ ws ++ part.rest → (b : Bool) → is_open (standing_of p (journal_stepped s ws h) s) ≡ b → Home g
         by ws gone those true o =
             let still : OpenStill = ap (λ (t : ℕ). is_open (standing_of p new.house.core.past t)) (stream_gone new ws gone) ∙ ap (λ (g : List Event). is_open (standing_of p g s)) (past_gone new ws gone) ∙ o in (
               Wanted,
@@ -194,4 +194,4 @@ module _ {Side Note Results : Type 0} (side : Side → SideData) (mark : Note �
         by [] still those false o =
             let same : is_open (standing_of p new.house.core.past new.out.run.stream) ≡ false = ap (λ (t : ℕ). is_open (standing_of p new.house.core.past t)) (stream_gone new [] still) ∙ ap (λ (g : List Event). is_open (standing_of p g s)) still.house.past ∙ o in
             (WasOver, record { over = o; same = over same ∙ still.house.past })
-        by (w ∷ ws) done those false o = absurd (let open' : is_open (standing_of p (stepped s (w ∷ ws) h) s) ≡ true = open_steps p s (w ∷ ws) h ∙ done.still_open in cc)
+        by (w ∷ ws) done those false o = absurd (let open' : is_open (standing_of p (journal_stepped s (w ∷ ws) h) s) ≡ true = open_steps p s (w ∷ ws) h ∙ done.still_open in cc)

@@ -3,12 +3,12 @@ use Rattle.std.proofs.Common.{◌≡◌, ℕ, ◌+◌, List, [], ◌∷◌, leng
 use Rattle.std.proofs.lemmas.List.{length-append}
 use Rattle.gpu_journal.specs.declared.event.Event.{Event}
 use Rattle.gpu_journal.specs.declared.event.Event.TheVariants as event
-use Rattle.gpu_house.specs.Committing.{stepped}
+use Rattle.gpu_house.specs.Committing.{journal_stepped}
 use Rattle.gpu_hall.specs.Commits.{WasOver, Waits, Ended, Invalid, Wanted}
 use Rattle.gpu_hall.specs.Laws.{StepsGrow, ReturnsGrow}
 
 -- by one for each step
-longer : (s : ℕ) (ws : List (List (ℕ × ℕ))) (h : List Event) → length (stepped s ws h) ≡ length h + length ws
+longer : (s : ℕ) (ws : List (List (ℕ × ℕ))) (h : List Event) → length (journal_stepped s ws h) ≡ length h + length ws
 longer s [] h = omega arith
 longer s (words ∷ ws) h = let more = longer s ws (event.Step s words ∷ h) in omega (arith, more)
 

@@ -9,7 +9,7 @@ use Rattle.gpu_store.specs.declared.op.Op.{Op}
 use Rattle.gpu_store.specs.Images.{Pictures, apply}
 use Rattle.gpu_plan.specs.Plans.{PlansData}
 use Rattle.live_view.specs.declared.version.Version.{Version}
-use Rattle.live_view.specs.Versions.{blank, version, drawn_by, IsLatest}
+use Rattle.live_view.specs.Versions.{blank, version, images_drawn, IsLatest}
 use Rattle.live_view.specs.Rule.{IsLast}
 use Rattle.live_view.specs.Seen.{WriterData, next_version}
 use Rattle.live_view.proofs.Stepping.{last_push}
@@ -18,7 +18,7 @@ use Rattle.gpu_journal.specs.declared.event.Event.TheVariants.{Order, Step, Fini
 use Rattle.gpu_journal.specs.World.{World, replay}
 use Rattle.gpu_journal.proofs.Worlds.{world_none, images_then}
 use Rattle.gpu_house.specs.Committing.{drawn_over, TellsDrawn}
-use Rattle.gpu_hall.specs.Views.{first_events, IsVersionOf, whole_version, ShowAll, ViewFits, IsFreshView, IsSameView, HasRoom, HasNoted, front_of}
+use Rattle.gpu_hall.specs.Views.{first_events, IsVersionOf, whole_version, ShowAll, ViewFits, IsFreshView, IsSameView, ViewHasRoom, HasNoted, view_front}
 
 -- ---- versions, once more events have come
 
@@ -56,11 +56,11 @@ images_same p (Lost s why words) h none = images_then p (Lost s why words) h
 images_same p (Close s) h none = images_then p (Close s) h
 
 -- operations that are applied in order, by the words of the house and by those of the view
-drawn_same : (images : Pictures) (ops : List Op) → drawn_over images ops ≡ drawn_by images ops
+drawn_same : (images : Pictures) (ops : List Op) → drawn_over images ops ≡ images_drawn images ops
 drawn_same images [] = refl
 drawn_same images (op ∷ ops) = drawn_same (apply images op).images ops
 
-drawn_then : (images : Pictures) (first second : List Op) → drawn_by images (first ++ second) ≡ drawn_by (drawn_by images first) second
+drawn_then : (images : Pictures) (first second : List Op) → images_drawn images (first ++ second) ≡ images_drawn (images_drawn images first) second
 drawn_then images [] second = refl
 drawn_then images (op ∷ first) second = drawn_then (apply images op).images first second
 
@@ -101,13 +101,13 @@ module _ (p : PlansData) (view : Book) where
   view_noted h g ops (Some v) (Some w) later told noted fit = subst (ViewFits p view g) (sym noted) record {
     named = fit.named;
     shown = later (v.versions ++ v.tried) fit.shown;
-    follows = drawn_then v.images v.noted ops ∙ ap (λ (images : Pictures). drawn_by images ops) fit.follows ∙ ap (drawn_by (replay p h)) told.told
+    follows = drawn_then v.images v.noted ops ∙ ap (λ (images : Pictures). images_drawn images ops) fit.follows ∙ ap (images_drawn (replay p h)) told.told
         ∙ sym (drawn_same (replay p h) told.ops) ∙ sym told.images;
   }
 
 -- ---- room for operations
 
-pub fewer : (few many : ℕ) (writer : Option WriterData) → few ≤ many → HasRoom many writer → HasRoom few writer
+pub fewer : (few many : ℕ) (writer : Option WriterData) → few ≤ many → ViewHasRoom many writer → ViewHasRoom few writer
 fewer few many None within room = tt
 fewer few many (Some w) within room = omega (arith, within, room)
 
@@ -145,19 +145,19 @@ module _ (p : PlansData) (view : Book) (h : List Event) (n : ℕ) (old new : Wri
   next_of : IsVersionOf p h next
   next_of = record { few = (omega (arith, is)); images = fit.follows ∙ ap (replay p) (sym (first_all n h is)) }
 
-  pub view_published : {T E : Type 0} (r : Result T E) → OnOk r (new.versions ≡ (old.versions ++ old.tried) ++ next ∷ []) → OnOk r (new.images ≡ drawn_by old.images old.noted) → OnOk r ((new.noted ≡ []) × (new.tried ≡ []))
+  pub view_published : {T E : Type 0} (r : Result T E) → OnOk r (new.versions ≡ (old.versions ++ old.tried) ++ next ∷ []) → OnOk r (new.images ≡ images_drawn old.images old.noted) → OnOk r ((new.noted ≡ []) × (new.tried ≡ []))
       → OnErr r ((new.versions ≡ old.versions) × (new.images ≡ old.images) × (new.noted ≡ old.noted)) → OnErr r ((new.tried ≡ old.tried) ⊎ (new.tried ≡ old.tried ++ next ∷ [])) → ViewFits p view h new
   view_published (Ok t) listed images handed kept tried = record {
     named = its ∙ fit.named;
     shown = subst (All (IsVersionOf p h)) (sym (ap (λ (l : List Version). new.versions ++ l) handed.1 ∙ append-nil new.versions ∙ listed)) (All-push (IsVersionOf p h) (old.versions ++ old.tried) next fit.shown next_of);
-    follows = ap (drawn_by new.images) handed.0 ∙ images ∙ fit.follows;
+    follows = ap (images_drawn new.images) handed.0 ∙ images ∙ fit.follows;
   }
   view_published (Err e) listed images handed kept tried = record {
     named = its ∙ fit.named;
     shown = ⊎_elim (λ same. subst (All (IsVersionOf p h)) (sym (ap (λ (l : List Version). new.versions ++ l) same ∙ ap (λ (l : List Version). l ++ old.tried) kept.0)) fit.shown)
         (λ more. subst (All (IsVersionOf p h)) (sym (ap (λ (l : List Version). new.versions ++ l) more ∙ ap (λ (l : List Version). l ++ (old.tried ++ next ∷ [])) kept.0 ∙ sym (append_assoc old.versions old.tried (next ∷ []))))
         (All-push (IsVersionOf p h) (old.versions ++ old.tried) next fit.shown next_of)) tried;
-    follows = ap (λ (l : List Op). drawn_by new.images l) kept.2 ∙ ap (λ (images : Pictures). drawn_by images old.noted) kept.1 ∙ fit.follows;
+    follows = ap (λ (l : List Op). images_drawn new.images l) kept.2 ∙ ap (λ (images : Pictures). images_drawn images old.noted) kept.1 ∙ fit.follows;
   }
 
   pub all_shown : {T E : Type 0} (r : Result T E) → OnOk r (new.versions ≡ (old.versions ++ old.tried) ++ next ∷ []) → OnOk r (ShowAll p h new.versions)
@@ -170,15 +170,15 @@ module _ (p : PlansData) (view : Book) (h : List Event) (n : ℕ) (old new : Wri
 -- ---- what contracts see of the view
 
 -- it is seen as before where it is the same but for its room, or where operations were noted
-pub seen_same : (old new : Option WriterData) → IsSameView old new → option_map front_of new ≡ option_map front_of old
+pub seen_same : (old new : Option WriterData) → IsSameView old new → option_map view_front new ≡ option_map view_front old
 seen_same None None same = refl
-seen_same (Some old) (Some new) same = ap (λ (w : WriterData). Some (front_of w)) same
+seen_same (Some old) (Some new) same = ap (λ (w : WriterData). Some (view_front w)) same
 seen_same None (Some new) same = absurd same
 seen_same (Some old) None same = absurd same
 
-pub seen_noted : (ops : List Op) (old new : Option WriterData) → HasNoted ops old new → option_map front_of new ≡ option_map front_of old
+pub seen_noted : (ops : List Op) (old new : Option WriterData) → HasNoted ops old new → option_map view_front new ≡ option_map view_front old
 seen_noted ops None None noted = refl
-seen_noted ops (Some old) (Some new) noted = ap (λ (w : WriterData). Some (front_of w)) noted
+seen_noted ops (Some old) (Some new) noted = ap (λ (w : WriterData). Some (view_front w)) noted
 seen_noted ops None (Some new) noted = absurd noted
 seen_noted ops (Some old) None noted = absurd noted
 

@@ -8,7 +8,7 @@ use Rattle.gpu_journal.specs.declared.event.Event.TheVariants as event
 use Rattle.gpu_journal.specs.declared.event.Why.TheVariants.{Error, Memory}
 use Rattle.gpu_journal.specs.Waits.{standing_of}
 use Rattle.gpu_journal.specs.Facts.{verdict_at}
-use Rattle.gpu_house.specs.Committing.{stepped, AreValid, keeps_one}
+use Rattle.gpu_house.specs.Committing.{journal_stepped, AreValid, keeps_one}
 
 -- how a run came home: its stream was over before, a wait of its steps was kept, its flush is at its end, a command is invalid, or
 -- memory ran out
@@ -29,12 +29,12 @@ pub record HasSteps (p : PlansData) (old new : List Event) (s : ℕ) (members : 
   pub still_open : is_open (standing_of p old s) ≡ true
   pub valid : AreValid p s members old
   pub waits : keeps_one p s members old ≡ kept
-  pub steps : new ≡ stepped s members old
+  pub steps : new ≡ journal_stepped s members old
 
 -- the journal has the steps of all members, none of which waits, and the finish of their order n
 pub record HasFinish (p : PlansData) (old new : List Event) (s n : ℕ) (members : List (List (ℕ × ℕ))) : Type 0 where
-  pub all : HasSteps p old (stepped s members old) s members false
-  pub finish : new ≡ event.Finish s n ∷ stepped s members old
+  pub all : HasSteps p old (journal_stepped s members old) s members false
+  pub finish : new ≡ event.Finish s n ∷ journal_stepped s members old
 
 -- the journal has the steps of the first members; the next one is no valid command after them, so the stream is lost by this error
 pub record IsLostBy (p : PlansData) (old new : List Event) (s : ℕ) (members : List (List (ℕ × ℕ))) (error : CmdError) : Type 0 where
@@ -42,17 +42,17 @@ pub record IsLostBy (p : PlansData) (old new : List Event) (s : ℕ) (members : 
   pub words : List (ℕ × ℕ)
   pub rest : List (List (ℕ × ℕ))
   pub those : members ≡ first ++ words ∷ rest
-  pub before : HasSteps p old (stepped s first old) s first false
-  pub verdict : verdict_at p (stepped s first old) s words ≡ Err error
-  pub loss : new ≡ event.Lost s (Error error) words ∷ stepped s first old
+  pub before : HasSteps p old (journal_stepped s first old) s first false
+  pub verdict : verdict_at p (journal_stepped s first old) s words ≡ Err error
+  pub loss : new ≡ event.Lost s (Error error) words ∷ journal_stepped s first old
 
 -- the journal has the steps of the first members; after them memory ran out, so the stream is lost for that
 pub record IsLostForMemory (p : PlansData) (old new : List Event) (s : ℕ) (members : List (List (ℕ × ℕ))) : Type 0 where
   pub first : List (List (ℕ × ℕ))
   pub rest : List (List (ℕ × ℕ))
   pub those : members ≡ first ++ rest
-  pub before : HasSteps p old (stepped s first old) s first false
-  pub loss : new ≡ event.Lost s Memory [] ∷ stepped s first old
+  pub before : HasSteps p old (journal_stepped s first old) s first false
+  pub loss : new ≡ event.Lost s Memory [] ∷ journal_stepped s first old
 
 -- what the journal has once a run of stream s and order n, for which these members were fetched, came home
 abbrev pub CameHome : PlansData → List Event → List Event → ℕ → ℕ → List (List (ℕ × ℕ)) → Return → Type 0

@@ -10,7 +10,7 @@ use Rattle.gpu_journal.specs.declared.event.Event.{Event}
 use Rattle.house_core.specs.Core.{CoreData}
 use Rattle.house_core.specs.Desks.{Out}
 use Rattle.gpu_hall.specs.Outs.{NoneIsPaused}
-use Rattle.gpu_hall.specs.Views.{HallFits, front_of}
+use Rattle.gpu_hall.specs.Views.{HallFits, view_front}
 
 -- the journal, of each stream the run that is out, and where there is a view, which one it is and its versions
 pub record HallData : Type 0 where
@@ -19,8 +19,8 @@ pub record HallData : Type 0 where
   pub view : Option FrontData
 
 -- what contracts see of a hall over this core and this view
-abbrev pub seen : CoreData → Option WriterData → HallData
-seen core writer = record { past = core.past; outs = core.outs; view = option_map front_of writer }
+abbrev pub hall_seen : CoreData → Option WriterData → HallData
+hall_seen core writer = record { past = core.past; outs = core.outs; view = option_map view_front writer }
 
 -- all clauses of a hall beside its house: those of the takers and of the view, and that no run that is out is paused
 pub record IsHall (p : PlansData) (words lines : List TableId) (book : Book) (core : CoreData) (takers : List EndData) (writer : Option WriterData) : Type 0 where

@@ -7,7 +7,7 @@ use Rattle.gpu_store.specs.declared.op.Op.{Op}
 use Rattle.gpu_plan.specs.Plans.{PlansData}
 use Rattle.flush_queue.specs.Seen.{EndData}
 use Rattle.live_view.specs.declared.version.Version.{Version}
-use Rattle.live_view.specs.Versions.{version, drawn_by}
+use Rattle.live_view.specs.Versions.{version, images_drawn}
 use Rattle.live_view.specs.Fronts.{FrontData}
 use Rattle.live_view.specs.Rule.{IsLast}
 use Rattle.live_view.specs.Seen.{WriterData, fresh_writer}
@@ -36,8 +36,8 @@ pub record ShowAll (p : PlansData) (h : List Event) (versions : List Version) : 
   pub last : IsLast (whole_version p h) versions
 
 -- which view a writer is of, and its versions
-abbrev pub front_of : WriterData → FrontData
-front_of writer = record { view = writer.view; versions = writer.versions }
+abbrev pub view_front : WriterData → FrontData
+view_front writer = record { view = writer.view; versions = writer.versions }
 
 -- ---- the clause `view`
 
@@ -46,7 +46,7 @@ front_of writer = record { view = writer.view; versions = writer.versions }
 pub record ViewFits (p : PlansData) (view : Book) (h : List Event) (writer : WriterData) : Type 0 where
   pub named : writer.view ≡ view
   pub shown : All (IsVersionOf p h) (writer.versions ++ writer.tried)
-  pub follows : drawn_by writer.images writer.noted ≡ replay p h
+  pub follows : images_drawn writer.images writer.noted ≡ replay p h
 
 -- the writer is of the view that is named, and has published the first version alone
 pub record IsFreshView (view : Book) (writer : WriterData) : Type 0 where
@@ -61,8 +61,8 @@ pub record HallFits (p : PlansData) (words lines : List TableId) (book : Book) (
 -- ---- what a call does to the view
 
 -- where there is a view, it has room for this number of operations more
-abbrev pub HasRoom : ℕ → Option WriterData → Type 0
-HasRoom more writer = IfSome writer (λ it. more ≤ it.spare)
+abbrev pub ViewHasRoom : ℕ → Option WriterData → Type 0
+ViewHasRoom more writer = IfSome writer (λ it. more ≤ it.spare)
 
 -- where there is a view, it is the same but for its room
 abbrev pub IsSameView : Option WriterData → Option WriterData → Type 0

@@ -9,7 +9,7 @@ ghost use Rattle.gpu_house.specs.Waiting.{AreWaitsOf, HaveTargets, FormNoCycle};
 ghost use Rattle.gpu_house.specs.Stuck.{IsNotStuck};
 ghost use Rattle.gpu_hall.specs.Takers.{AreFreshTakers};
 ghost use Rattle.gpu_hall.specs.Outs.{NoneIsPaused};
-ghost use Rattle.gpu_hall.specs.Views.{IsFreshView, front_of};
+ghost use Rattle.gpu_hall.specs.Views.{IsFreshView, view_front};
 
 use crate::side::NamedSide;
 use flush_queue::Taker;
@@ -31,11 +31,11 @@ pub struct Hall<N: Naming, P: NamedSide, H: Hook> {
 }
 
 impl<N: Naming, P: NamedSide, H: Hook> Model for Hall<N, P, H> {
-    ghost use Rattle.gpu_hall.specs.Halls.{HallData, seen, IsHall};
+    ghost use Rattle.gpu_hall.specs.Halls.{HallData, hall_seen, IsHall};
 
     ghost Value = { HallData };
 
-    ghost view = { λ h. seen h.house.core h.view };
+    ghost view = { λ h. hall_seen h.house.core h.view };
 
     ghost invariant = { λ h. IsHall N.plans N.words N.queues N.view h.house.core
         h.takers.items h.view };
@@ -54,7 +54,7 @@ impl<N: Naming, P: NamedSide, H: Hook> Hall<N, P, H> {
         requires view { IfSome view (IsFreshView N.view) }
         ensures past { result.past ≡ [] }
         ensures outs { result.outs ≡ house.core.outs }
-        ensures view { result.view ≡ option_map front_of view }
+        ensures view { result.view ≡ option_map view_front view }
     {
         Hall {
             house,
@@ -109,7 +109,7 @@ impl<N: Naming, P: NamedSide, H: Hook> Hall<N, P, H> {
     /// - `no_cycle`: no waits form a cycle
     /// - `stuck`: where a number is unprocessed, the stream with the least one can run, and is at home or has its run out
     /// - `going`: no run that is out is paused
-    pub fn holds(&self)
+    pub fn shows_laws(&self)
         ensures legal { IsLegal N.plans self.now.past }
         ensures targets { HaveTargets N.plans self.now.past }
         ensures no_cycle { FormNoCycle N.plans self.now.past }
@@ -117,6 +117,6 @@ impl<N: Naming, P: NamedSide, H: Hook> Hall<N, P, H> {
         ensures going { NoneIsPaused self.now.outs }
     {
         self.house.shows_legal();
-        self.house.holds();
+        self.house.shows_laws();
     }
 }

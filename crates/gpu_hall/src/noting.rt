@@ -2,7 +2,7 @@
 ghost use Rattle.std.specs.Prelude.{◌≡◌, ◌++◌, ◌≤◌, length, IsTrue, OnOk, OnErr};
 ghost use Rattle.std.specs.List.{All};
 ghost use Rattle.gpu_store.specs.Images.{HasItsTexels};
-ghost use Rattle.gpu_hall.specs.Views.{HasRoom, IsSameView, HasNoted, ViewFits, ShowAll};
+ghost use Rattle.gpu_hall.specs.Views.{ViewHasRoom, IsSameView, HasNoted, ViewFits, ShowAll};
 
 use crate::side::NamedSide;
 use gpu_house::{House, Naming};
@@ -14,7 +14,7 @@ use wait_hooks::Hook;
 
 /// Makes room for more operations, where there is a view, and says whether there is.
 pub(crate) fn make_room(view: &mut Option<ViewWriter>, more: usize) -> bool
-    ensures room { IsTrue result → HasRoom more view.new }
+    ensures room { IsTrue result → ViewHasRoom more view.new }
     ensures same { IsSameView view.old view.new }
 {
     match view {
@@ -39,7 +39,7 @@ fn note_each(writer: &mut ViewWriter, ops: Vec<Op>)
 
 /// Notes operations that were done, in order, where there is a view.
 pub(crate) fn note_all(view: &mut Option<ViewWriter>, ops: Vec<Op>)
-    requires room { HasRoom (length ops.items) view.old }
+    requires room { ViewHasRoom (length ops.items) view.old }
     requires texels { All HasItsTexels ops.items }
     ensures { HasNoted ops.items view.old view.new }
 {

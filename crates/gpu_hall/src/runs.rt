@@ -10,7 +10,7 @@ ghost use Rattle.house_core.specs.Desks.{at_home};
 ghost use Rattle.shm_words.specs.Seen.{NoteData};
 ghost use Rattle.gpu_house.specs.House.{OutData};
 ghost use Rattle.gpu_house.specs.Names.{table_at};
-ghost use Rattle.gpu_hall.specs.Ready.{IsReady};
+ghost use Rattle.gpu_hall.specs.Ready.{IsReadyRun};
 ghost use Rattle.gpu_house.specs.Batches.{member_words, batch_words, AreChained};
 ghost use Rattle.gpu_hall.specs.Commits.{Return, HasSteps, CameHome};
 
@@ -30,14 +30,14 @@ impl<N: Naming, P: NamedSide, H: Hook> Hall<N, P, H> {
         ensures view { self.new.view ≡ self.old.view }
         ensures run { IfSome result (λ out. IsRunOf N.plans self.old.past out.run) }
         ensures ready { IfSome result
-            (IsReady P.side P.table P.mark P.note_of N.plans N.words N.books) }
+            (IsReadyRun P.side P.table P.mark P.note_of N.plans N.words N.books) }
         ensures outs { IfSome result
             (λ out. self.new.outs
             ≡ with_out self.old.outs out.run.stream
             record { order = out.run.order; paused = false }) }
     {
         let run = self.house.take()?;
-        run.holds();
+        run.shows_fit();
         Some(run)
     }
 
@@ -55,7 +55,7 @@ impl<N: Naming, P: NamedSide, H: Hook> Hall<N, P, H> {
         requires words { P.words_of words.now (table_at N.words run.run.stream)
             (table_at N.result_words run.run.stream) }
         ensures ready { IfSome result
-            (IsReady P.side P.table P.mark P.note_of N.plans N.words N.books) }
+            (IsReadyRun P.side P.table P.mark P.note_of N.plans N.words N.books) }
         ensures same { IfSome result (λ on. on.run.stream ≡ run.run.stream) }
         ensures more { IfSome result
             (λ on. HasSteps N.plans self.old.past self.new.past run.run.stream
@@ -76,8 +76,8 @@ impl<N: Naming, P: NamedSide, H: Hook> Hall<N, P, H> {
             return None;
         }
         let mut drawn = Vec::new(*self.takers.allocator());
-        run.holds();
-        self.house.holds();
+        run.shows_fit();
+        self.house.shows_laws();
         let answer = self.house.step_batch(&mut run, words, batch, &mut drawn);
         note_all(&mut self.view, drawn);
         let Ok(next) = answer else {
@@ -86,11 +86,11 @@ impl<N: Naming, P: NamedSide, H: Hook> Hall<N, P, H> {
         };
         match next {
             Next::More => {
-                run.holds();
+                run.shows_fit();
                 Some(run)
             }
             Next::FlushEnd => {
-                run.holds();
+                run.shows_fit();
                 self.house.finish(run, words);
                 None
             }
@@ -114,8 +114,8 @@ impl<N: Naming, P: NamedSide, H: Hook> Hall<N, P, H> {
         ensures back { self.new.outs ≡ with_out self.old.outs run.run.stream at_home }
         ensures view { self.new.view ≡ self.old.view }
     {
-        run.holds();
-        self.house.holds();
+        run.shows_fit();
+        self.house.shows_laws();
         self.house.finish(run, words);
     }
 

@@ -19,7 +19,7 @@ pub struct Shown {
 
 impl Model for Shown {
     ghost use Rattle.std.specs.Prelude.{option_map, IfSome};
-    ghost use Rattle.gpu_hall.specs.Views.{ShownData, ShowAll, front_of};
+    ghost use Rattle.gpu_hall.specs.Views.{ShownData, ShowAll, view_front};
 
     ghost Value = { ShownData };
 
@@ -27,7 +27,7 @@ impl Model for Shown {
       plans = s.report.plans;
       base = s.report.base;
       past = s.report.past;
-      view = option_map front_of s.view;
+      view = option_map view_front s.view;
     } };
 
     ghost invariant = { λ s. IfSome s.view

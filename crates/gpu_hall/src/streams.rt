@@ -59,7 +59,7 @@ impl<N: Naming, P: NamedSide, H: Hook> Hall<N, P, H> {
         ensures settled { AreSettled P.written N.plans self.old.past stream (P.reads reader) }
         ensures same { self.new ≡ self.old }
     {
-        self.house.holds();
+        self.house.shows_laws();
         self.house.settle(stream, words, reader);
     }
 }

@@ -12,12 +12,12 @@ use Rattle.gpu_cmd.specs.declared.error.CmdError.{CmdError}
 use Rattle.step_parts.specs.declared.acted.Acted.{Acted}
 use Rattle.house_core.specs.declared.steps.Stepped.{Stepped}
 use Rattle.house_core.specs.declared.steps.Stepped.TheVariants as stepped
-use Rattle.house_core.specs.Answers.{Steps, IsDone, IsRefused}
+use Rattle.house_core.specs.Answers.{AnswersStep, IsStepDone, IsStepRefused}
 use Rattle.house_core.specs.Desks.{RunData}
 use Rattle.gpu_house.specs.declared.answers.Next.{Next}
 use Rattle.gpu_house.specs.declared.answers.Next.TheVariants.{More, Paused, FlushEnd}
 use Rattle.gpu_house.specs.Steps.{next_of}
-use Rattle.house_core.specs.Core.{CoreData, Grows, Stays, Waits}
+use Rattle.house_core.specs.Core.{CoreData, Grows, Stays, KeepsJournal}
 
 -- the first where a test holds, else the second
 pub either_way : (G S : Type 0) (b : Bool) → (b ≡ true → G) → (b ≡ false → S) → G ⊎ S
@@ -41,10 +41,10 @@ pub loses : (old new : CoreData) (s : ℕ) → (is_open (standing_of old.plans o
 loses old new s grows stays = either_way (Grows old new (event.Lost s Memory [])) (Stays old new) (is_open (standing_of old.plans old.past s)) grows stays
 
 -- a loss of a run's open stream, or, where that has ended, its return alone
-pub loses_run : (old new : CoreData) (s : ℕ) → (is_open (standing_of old.plans old.past s) ≡ true → Grows old new (event.Lost s Memory [])) → (is_open (standing_of old.plans old.past s) ≡ false → Waits old new)
-    → Grows old new (event.Lost s Memory []) ⊎ ((is_open (standing_of old.plans old.past s) ≡ false) × Waits old new)
+pub loses_run : (old new : CoreData) (s : ℕ) → (is_open (standing_of old.plans old.past s) ≡ true → Grows old new (event.Lost s Memory [])) → (is_open (standing_of old.plans old.past s) ≡ false → KeepsJournal old new)
+    → Grows old new (event.Lost s Memory []) ⊎ ((is_open (standing_of old.plans old.past s) ≡ false) × KeepsJournal old new)
 loses_run old new s grows stays =
-    either_way (Grows old new (event.Lost s Memory [])) ((is_open (standing_of old.plans old.past s) ≡ false) × Waits old new) (is_open (standing_of old.plans old.past s)) grows (λ over. (over, stays over))
+    either_way (Grows old new (event.Lost s Memory [])) ((is_open (standing_of old.plans old.past s) ≡ false) × KeepsJournal old new) (is_open (standing_of old.plans old.past s)) grows (λ over. (over, stays over))
 
 -- what is said of a result that is no error
 pub not_err : {A E P : Type 0} (r : Result A E) → false ≡ is_err r → OnOk r P → P
@@ -63,18 +63,18 @@ known_here p rows t s count at known = subst (λ (n : ℕ). IsKnown n t) (sym co
 
 -- ---- how a step was answered
 
-module _ (old new : CoreData) (run left : RunData) (words : List (ℕ × ℕ)) (answer : Stepped) (is : Steps old new run left words answer) where
-  pub of_lost : answer ≡ stepped.Lost → Steps old new run left words stepped.Lost
-  of_lost e = subst (Steps old new run left words) e is
+module _ (old new : CoreData) (run left : RunData) (words : List (ℕ × ℕ)) (answer : Stepped) (is : AnswersStep old new run left words answer) where
+  pub of_lost : answer ≡ stepped.Lost → AnswersStep old new run left words stepped.Lost
+  of_lost e = subst (AnswersStep old new run left words) e is
 
-  pub of_closed : answer ≡ stepped.Closed → Steps old new run left words stepped.Closed
-  of_closed e = subst (Steps old new run left words) e is
+  pub of_closed : answer ≡ stepped.Closed → AnswersStep old new run left words stepped.Closed
+  of_closed e = subst (AnswersStep old new run left words) e is
 
-  pub of_invalid : (error : CmdError) → answer ≡ stepped.Invalid error → IsRefused old new run left words error
-  of_invalid error e = subst (Steps old new run left words) e is
+  pub of_invalid : (error : CmdError) → answer ≡ stepped.Invalid error → IsStepRefused old new run left words error
+  of_invalid error e = subst (AnswersStep old new run left words) e is
 
-  pub of_done : (acted : Acted) → answer ≡ stepped.Done acted → IsDone old new run left words acted
-  of_done acted e = subst (Steps old new run left words) e is
+  pub of_done : (acted : Acted) → answer ≡ stepped.Done acted → IsStepDone old new run left words acted
+  of_done acted e = subst (AnswersStep old new run left words) e is
 
 -- what goes on after a step that was executed
 pub goes_on : (P : Next → Type 0) (next : Next) (kept at_end : Bool) → next ≡ next_of kept at_end → (kept ≡ true → P Paused) → (kept ≡ false → P FlushEnd) → (kept ≡ false → P More) → P next

@@ -11,23 +11,23 @@ use Rattle.gpu_fetch.specs.Side.{SideData}
 use Rattle.gpu_journal.specs.declared.event.Event.{Event}
 use Rattle.gpu_journal.specs.declared.event.Event.TheVariants.{Step}
 use Rattle.gpu_journal.specs.Facts.{verdict_at}
-use Rattle.serial_laws.specs.Runs.{keeps}
+use Rattle.serial_laws.specs.Runs.{step_keeps}
 use Rattle.house_core.specs.Answers.{IsMovedBy}
 use Rattle.house_core.specs.Desks.{RunData}
 use Rattle.gpu_house.specs.Steps.{told_side, asked_at}
 use Rattle.gpu_house.specs.Drawing.{drawn_at, Draws}
 use Rattle.gpu_house.specs.Batches.{facts_after}
-use Rattle.gpu_house.specs.Committing.{stepped, AreValid, keeps_one, told_sides, drawn_by_steps, IsMovedOver, AreDrawn, drawn_over, TellsDrawn}
+use Rattle.gpu_house.specs.Committing.{journal_stepped, AreValid, keeps_one, told_sides, drawn_by_steps, IsMovedOver, AreDrawn, drawn_over, TellsDrawn}
 use Rattle.gpu_house.proofs.Members.{behind_more}
 
 -- ---- along a journal
 
 module _ (p : PlansData) (s : ℕ) (w : List (ℕ × ℕ)) where
-  pub stepped_more : (ws : List (List (ℕ × ℕ))) (h : List Event) → stepped s (ws ++ w ∷ []) h ≡ Step s w ∷ stepped s ws h
+  pub stepped_more : (ws : List (List (ℕ × ℕ))) (h : List Event) → journal_stepped s (ws ++ w ∷ []) h ≡ Step s w ∷ journal_stepped s ws h
   stepped_more [] h = refl
   stepped_more (v ∷ ws) h = stepped_more ws (Step s v ∷ h)
 
-  pub valid_more : (ws : List (List (ℕ × ℕ))) (h : List Event) → AreValid p s ws h → IsOk (verdict_at p (stepped s ws h) s w) → AreValid p s (ws ++ w ∷ []) h
+  pub valid_more : (ws : List (List (ℕ × ℕ))) (h : List Event) → AreValid p s ws h → IsOk (verdict_at p (journal_stepped s ws h) s w) → AreValid p s (ws ++ w ∷ []) h
   valid_more [] h were ok = (ok, tt)
   valid_more (v ∷ ws) h were ok = (were.0, valid_more ws (Step s v ∷ h) were.1 ok)
 
@@ -35,25 +35,25 @@ module _ (p : PlansData) (s : ℕ) (w : List (ℕ × ℕ)) where
   or_more true b c = refl
   or_more false b c = refl
 
-  pub keeps_more : (ws : List (List (ℕ × ℕ))) (h : List Event) → keeps_one p s (ws ++ w ∷ []) h ≡ (keeps_one p s ws h || keeps p (stepped s ws h) s (asked_at p (stepped s ws h) s w))
-  keeps_more [] h = by (keeps p h s (asked_at p h s w))
+  pub keeps_more : (ws : List (List (ℕ × ℕ))) (h : List Event) → keeps_one p s (ws ++ w ∷ []) h ≡ (keeps_one p s ws h || step_keeps p (journal_stepped s ws h) s (asked_at p (journal_stepped s ws h) s w))
+  keeps_more [] h = by (step_keeps p h s (asked_at p h s w))
     where
       by : (b : Bool) → (b || false) ≡ b
       by true = refl
       by false = refl
   keeps_more (v ∷ ws) h =
-      ap (λ (b : Bool). keeps p h s (asked_at p h s v) || b) (keeps_more ws (Step s v ∷ h))
-      ∙ or_more (keeps p h s (asked_at p h s v)) (keeps_one p s ws (Step s v ∷ h)) (keeps p (stepped s ws (Step s v ∷ h)) s (asked_at p (stepped s ws (Step s v ∷ h)) s w))
+      ap (λ (b : Bool). step_keeps p h s (asked_at p h s v) || b) (keeps_more ws (Step s v ∷ h))
+      ∙ or_more (step_keeps p h s (asked_at p h s v)) (keeps_one p s ws (Step s v ∷ h)) (step_keeps p (journal_stepped s ws (Step s v ∷ h)) s (asked_at p (journal_stepped s ws (Step s v ∷ h)) s w))
 
-  pub told_more : (ws : List (List (ℕ × ℕ))) (h : List Event) (side : SideData) → told_sides p s (ws ++ w ∷ []) h side ≡ told_side (asked_at p (stepped s ws h) s w) (told_sides p s ws h side)
+  pub told_more : (ws : List (List (ℕ × ℕ))) (h : List Event) (side : SideData) → told_sides p s (ws ++ w ∷ []) h side ≡ told_side (asked_at p (journal_stepped s ws h) s w) (told_sides p s ws h side)
   told_more [] h side = refl
   told_more (v ∷ ws) h side = told_more ws (Step s v ∷ h) (told_side (asked_at p h s v) side)
 
-  pub drawn_more : (ws : List (List (ℕ × ℕ))) (h : List Event) → drawn_by_steps p s (ws ++ w ∷ []) h ≡ drawn_by_steps p s ws h ++ option_to_list (drawn_at p (stepped s ws h) s w)
+  pub drawn_more : (ws : List (List (ℕ × ℕ))) (h : List Event) → drawn_by_steps p s (ws ++ w ∷ []) h ≡ drawn_by_steps p s ws h ++ option_to_list (drawn_at p (journal_stepped s ws h) s w)
   drawn_more [] h = append-nil (option_to_list (drawn_at p h s w))
   drawn_more (v ∷ ws) h =
       ap (λ (ops : List Op). option_to_list (drawn_at p h s v) ++ ops) (drawn_more ws (Step s v ∷ h))
-      ∙ sym (append_assoc (option_to_list (drawn_at p h s v)) (drawn_by_steps p s ws (Step s v ∷ h)) (option_to_list (drawn_at p (stepped s ws (Step s v ∷ h)) s w)))
+      ∙ sym (append_assoc (option_to_list (drawn_at p h s v)) (drawn_by_steps p s ws (Step s v ∷ h)) (option_to_list (drawn_at p (journal_stepped s ws (Step s v ∷ h)) s w)))
 
 -- ---- of a run
 

@@ -16,7 +16,7 @@ use Rattle.gpu_journal.specs.declared.event.Event.TheVariants.{Step}
 use Rattle.gpu_journal.specs.World.{replay}
 use Rattle.gpu_journal.specs.Waits.{standing_of}
 use Rattle.gpu_journal.specs.Facts.{verdict_at}
-use Rattle.serial_laws.specs.Runs.{keeps}
+use Rattle.serial_laws.specs.Runs.{step_keeps}
 use Rattle.serial_laws.proofs.Runs.{step_open}
 use Rattle.house_core.specs.Core.{IsRunOf, with_out}
 use Rattle.house_core.specs.Desks.{Out}
@@ -25,11 +25,11 @@ use Rattle.gpu_house.specs.declared.answers.Next.TheVariants.{More, Paused, Flus
 use Rattle.gpu_house.specs.House.{OutData}
 use Rattle.gpu_house.specs.declared.answers.Progress.{Progress}
 use Rattle.gpu_house.specs.Changes.{ResultsBelong, WroteResults, met_by}
-use Rattle.gpu_house.specs.Steps.{Steps, IsDone, told_side, asked_at}
+use Rattle.gpu_house.specs.Steps.{Steps, IsRunStepDone, told_side, asked_at}
 use Rattle.gpu_house.specs.Drawing.{drawn_at, drawn_if}
 use Rattle.gpu_house.specs.Batches.{facts_after, member_words, batch_words, AreChained, AreNext, EndsExactly}
 use Rattle.gpu_house.specs.Stepping.{MayStep, MayCommit, KeepsBeside, TookStep}
-use Rattle.gpu_house.specs.Committing.{stepped, drawn_by_steps, IsMovedOver, TellsDrawn, IsOverBy, Stage, AreDone, IsStill, HaveGone, GoneInPart, Commits, is_executed}
+use Rattle.gpu_house.specs.Committing.{journal_stepped, drawn_by_steps, IsMovedOver, TellsDrawn, IsOverBy, Stage, AreDone, IsStill, HaveGone, GoneInPart, Commits, is_executed}
 use Rattle.gpu_house.proofs.Members.{member_words_more}
 use Rattle.gpu_house.proofs.Going.{not_lost, not_closed}
 use Rattle.gpu_house.proofs.Parts.{drop-drop}
@@ -47,7 +47,7 @@ none_more false = refl
 
 module _ {Side Note Results : Type 0} (side : Side → SideData) (mark : Note → ℕ) (p : PlansData) where
   abbrev Done : Stage Side Note Results → Stage Side Note Results → List (ℕ × ℕ) → Bool → Type 0
-  Done old new words paused = IsDone side mark p old.house new.house old.out new.out words paused
+  Done old new words paused = IsRunStepDone side mark p old.house new.house old.out new.out words paused
 
   -- what one step told, as it is listed
   abbrev Lists : Stage Side Note Results → Stage Side Note Results → List (ℕ × ℕ) → Type 0
@@ -59,7 +59,7 @@ module _ {Side Note Results : Type 0} (side : Side → SideData) (mark : Note �
   done_one old new words paused done lists = record {
     still_open = done.still_open;
     valid = (done.valid, tt);
-    kept = done.kept ∙ sym (none_more (keeps p old.house.core.past old.out.run.stream (asked_at p old.house.core.past old.out.run.stream words)));
+    kept = done.kept ∙ sym (none_more (step_keeps p old.house.core.past old.out.run.stream (asked_at p old.house.core.past old.out.run.stream words)));
     events = done.event;
     moved = moved_one old.out.run new.out.run words paused done.moved;
     run = done.run;
@@ -76,23 +76,23 @@ module _ {Side Note Results : Type 0} (side : Side → SideData) (mark : Note �
       let stream : mid.out.run.stream ≡ s = were.moved.stream in
       let order : mid.out.run.order ≡ old.out.run.order = were.moved.order in
       let out : Out = record { order = old.out.run.order; paused = paused } in
-      let here : (F : List Event → ℕ → Type 0) → F mid.house.core.past mid.out.run.stream → F (stepped s ws h) s = λ F f. subst (λ (g : List Event). F g s) were.events (subst (F mid.house.core.past) stream f) in
-      let kept : paused ≡ keeps p (stepped s ws h) s (asked_at p (stepped s ws h) s words) = here (λ g t. paused ≡ keeps p g t (asked_at p g t words)) done.kept in
-      let told : side new.out.side ≡ told_side (asked_at p (stepped s ws h) s words) (met_by (option_map mark mid.out.note) (side mid.out.side)) = here (λ g t. side new.out.side ≡ told_side (asked_at p g t words) (met_by (option_map mark mid.out.note) (side mid.out.side))) done.told in
+      let here : (F : List Event → ℕ → Type 0) → F mid.house.core.past mid.out.run.stream → F (journal_stepped s ws h) s = λ F f. subst (λ (g : List Event). F g s) were.events (subst (F mid.house.core.past) stream f) in
+      let kept : paused ≡ step_keeps p (journal_stepped s ws h) s (asked_at p (journal_stepped s ws h) s words) = here (λ g t. paused ≡ step_keeps p g t (asked_at p g t words)) done.kept in
+      let told : side new.out.side ≡ told_side (asked_at p (journal_stepped s ws h) s words) (met_by (option_map mark mid.out.note) (side mid.out.side)) = here (λ g t. side new.out.side ≡ told_side (asked_at p g t words) (met_by (option_map mark mid.out.note) (side mid.out.side))) done.told in
       let unmet : met_by (option_map mark mid.out.note) (side mid.out.side) ≡ side mid.out.side = ap (λ (o : Option Note). met_by (option_map mark o) (side mid.out.side)) were.met in
-      let listed : new.drawn ≡ mid.drawn ++ option_to_list (drawn_at p (stepped s ws h) s words) = here (λ g t. new.drawn ≡ mid.drawn ++ option_to_list (drawn_at p g t words)) lists in
+      let listed : new.drawn ≡ mid.drawn ++ option_to_list (drawn_at p (journal_stepped s ws h) s words) = here (λ g t. new.drawn ≡ mid.drawn ++ option_to_list (drawn_at p g t words)) lists in
       record {
         still_open = were.still_open;
         valid = valid_more p s words ws h were.valid (here (λ g t. IsOk (verdict_at p g t words)) done.valid);
-        kept = kept ∙ ap (λ (b : Bool). b || keeps p (stepped s ws h) s (asked_at p (stepped s ws h) s words)) were.kept ∙ sym (keeps_more p s words ws h);
+        kept = kept ∙ ap (λ (b : Bool). b || step_keeps p (journal_stepped s ws h) s (asked_at p (journal_stepped s ws h) s words)) were.kept ∙ sym (keeps_more p s words ws h);
         events = here (λ g t. new.house.core.past ≡ Step t words ∷ g) done.event ∙ sym (stepped_more p s words ws h);
         moved = moved_more old.out.run mid.out.run new.out.run ws words false paused were.moved done.moved;
         run = done.run;
         outs = subst (λ (n : ℕ). new.house.core.outs ≡ with_out mid.house.core.outs s record { order = n; paused = paused }) order (subst (λ (t : ℕ). new.house.core.outs ≡ with_out mid.house.core.outs t record { order = mid.out.run.order; paused = paused }) stream done.outs)
             ∙ ap (λ (outs : List Out). with_out outs s out) were.outs ∙ set_twice old.house.core.outs (s - 1) record { order = old.out.run.order; paused = false } out;
-        told = told ∙ ap (told_side (asked_at p (stepped s ws h) s words)) (unmet ∙ were.told) ∙ sym (told_more p s words ws h (met_by (option_map mark old.out.note) (side old.out.side)));
+        told = told ∙ ap (told_side (asked_at p (journal_stepped s ws h) s words)) (unmet ∙ were.told) ∙ sym (told_more p s words ws h (met_by (option_map mark old.out.note) (side old.out.side)));
         met = done.met;
-        drawn = listed ∙ ap (λ (l : List Op). l ++ option_to_list (drawn_at p (stepped s ws h) s words)) were.drawn ∙ append_assoc old.drawn (drawn_by_steps p s ws h) (option_to_list (drawn_at p (stepped s ws h) s words))
+        drawn = listed ∙ ap (λ (l : List Op). l ++ option_to_list (drawn_at p (journal_stepped s ws h) s words)) were.drawn ∙ append_assoc old.drawn (drawn_by_steps p s ws h) (option_to_list (drawn_at p (journal_stepped s ws h) s words))
             ∙ ap (λ (l : List Op). old.drawn ++ l) (sym (drawn_more p s words ws h));
       }
 
@@ -242,7 +242,7 @@ module _ {Side Note Results Words : Type 0} (side : Side → SideData) (mark : N
 
       -- the step was executed
       abbrev Made : Bool → Type 0
-      Made paused = IsDone side mark p now.house new.house now.out new.out member.words paused
+      Made paused = IsRunStepDone side mark p now.house new.house now.out new.out member.words paused
 
       -- all words of the member are after the run
       long_after : (paused : Bool) → Made paused → length (side new.out.side).fetched ≡ new.out.run.facts.fetched + length (batch_words rest)

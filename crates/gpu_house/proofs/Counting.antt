@@ -2,7 +2,7 @@
 use Rattle.std.proofs.Common.{◌≡◌, ℕ, ◌+◌, eqb, Bool, true, false, cond, List, [], ◌∷◌, ◌++◌, Option, Some, None, refl, sym, ap, subst, ◌∙◌, arith}
 use Rattle.std.specs.Prelude.{IfSome}
 use Rattle.std.proofs.lemmas.List.Sums.{sum_by-cons}
-use Rattle.gpu_word.specs.Results.{Written, is_finish, finishes_in, writes_of}
+use Rattle.gpu_word.specs.Results.{Written, is_finish, finishes_in, writes_listed}
 use Rattle.gpu_word.specs.Results.{Write, Finish as finish}
 use Rattle.gpu_word.proofs.Written.{finishes_of_both}
 use Rattle.gpu_plan.specs.Plans.{PlansData, plan_of}
@@ -20,9 +20,9 @@ abbrev counts : Written → ℕ
 counts x = cond (is_finish x) 1 0
 
 -- a value that is written is no finish
-pub no_finish : (pairs : List (ℕ × ℕ)) → finishes_in (writes_of pairs) ≡ 0
+pub no_finish : (pairs : List (ℕ × ℕ)) → finishes_in (writes_listed pairs) ≡ 0
 no_finish [] = refl
-no_finish (pair ∷ pairs) = let parts = sum_by-cons counts (Write pair.0 pair.1) (writes_of pairs) in let rest = no_finish pairs in omega (arith, parts, rest)
+no_finish (pair ∷ pairs) = let parts = sum_by-cons counts (Write pair.0 pair.1) (writes_listed pairs) in let rest = no_finish pairs in omega (arith, parts, rest)
 
 -- an event of a stream counts a finish where it is one
 finishes_by : (p : PlansData) (e : Event) (h : List Event) (s n : ℕ) → n ≡ (known p h s).finished

@@ -9,8 +9,8 @@ use Rattle.std.proofs.lemmas.Option.{slice_get_within, get_or_from_slice_get}
 use Rattle.std.proofs.Math.Seq.{take-append_seam, take-length}
 use Rattle.sync_core.specs.declared.wait.Wait.{Wait}
 use Rattle.sync_core.specs.Standing.{Standing, front_of, IsKnown}
-use Rattle.sync_core.specs.Events.{Deed, Ordered, Waited, Released, Finished, WasLost, WasClosed, SyncEvent, noted, orders, standing}
-use Rattle.sync_core.specs.Pending.{is_kept, still, ends, ending_of, added, placed, judged, wait_of, pending, endings}
+use Rattle.sync_core.specs.Events.{Deed, Ordered, Waited, Released, Finished, WasLost, WasClosed, SyncEvent, happened, orders, standing}
+use Rattle.sync_core.specs.Pending.{is_kept, still, ends, ending_of, with_kept, placed, kept_fences, wait_of, pending, endings}
 use Rattle.sync_core.proofs.Lists.{length-still_ends}
 use Rattle.wait_hooks.specs.Marks.{Marks, mark}
 use Rattle.gpu_plan.specs.declared.plan.Action.{Action}
@@ -61,19 +61,19 @@ module _ {X : Type 0} (p : X → Bool) where
       by false = omega arith
 
 -- the kept ones of some fences are not more than these
-few_judged : (n : ℕ) (f : ℕ → Standing) (s m k : ℕ) (fences : List (ℕ × ℕ)) → length (judged n f s m k fences) ≤ length fences
+few_judged : (n : ℕ) (f : ℕ → Standing) (s m k : ℕ) (fences : List (ℕ × ℕ)) → length (kept_fences n f s m k fences) ≤ length fences
 few_judged n f s m k [] = omega arith
 few_judged n f s m k (x ∷ fences) = by (is_kept n f s m x.0 x.1) (few_judged n f s m (k + 1) fences)
   where
-    by : (b : Bool) → length (judged n f s m (k + 1) fences) ≤ length fences
-        → length (cond b (record { stream = s; order = m; target = x.0; release = x.1; position = k } ∷ judged n f s m (k + 1) fences) (judged n f s m (k + 1) fences)) ≤ suc (length fences)
+    by : (b : Bool) → length (kept_fences n f s m (k + 1) fences) ≤ length fences
+        → length (cond b (record { stream = s; order = m; target = x.0; release = x.1; position = k } ∷ kept_fences n f s m (k + 1) fences) (kept_fences n f s m (k + 1) fences)) ≤ suc (length fences)
     by true le = omega arith
     by false le = omega arith
 
 -- a deed adds no more waits than it makes
-few_added : (test : Wait → Bool) (n s : ℕ) (d : Deed) (g : List SyncEvent) (ws : List Wait) → length (filter test (added n s d g ws)) ≤ length (filter test ws) + makes d
+few_added : (test : Wait → Bool) (n s : ℕ) (d : Deed) (g : List SyncEvent) (ws : List Wait) → length (filter test (with_kept n s d g ws)) ≤ length (filter test ws) + makes d
 few_added test n s (Ordered fences) g ws =
-    let more = passing_more test ws (judged n (standing g) s (orders g + 1) 0 fences) in
+    let more = passing_more test ws (kept_fences n (standing g) s (orders g + 1) 0 fences) in
     let few = few_judged n (standing g) s (orders g + 1) 0 fences in
     omega (arith, more, few)
 few_added test n s (Waited t r) g ws = by (is_kept n (standing g) s (front_of (standing g s).left) t r)
@@ -121,7 +121,7 @@ abbrev makes_by : Option Deed → ℕ
 makes_by None = 0
 makes_by (Some d) = makes d
 
-grows_noted : (n s : ℕ) (d : Option Deed) (g : List SyncEvent) → GrowsBy n (makes_by d) g (noted s d g)
+grows_noted : (n s : ℕ) (d : Option Deed) (g : List SyncEvent) → GrowsBy n (makes_by d) g (happened s d g)
 grows_noted n s None g = grows_none n g
 grows_noted n s (Some d) g = grows_event n (s, d) g
 

@@ -5,7 +5,7 @@ use Rattle.std.proofs.lemmas.Bool.Decides.{nat_tests}
 use Rattle.atomic_table.specs.Seated.{TableId}
 use Rattle.gpu_plan.specs.Plans.{PlansData, plan_of}
 use Rattle.gpu_plan.specs.Places.{flush_places}
-use Rattle.gpu_fetch.specs.Side.{SideData, with_finish}
+use Rattle.gpu_fetch.specs.Side.{SideData, finish_published}
 use Rattle.sync_core.specs.declared.wait.Number.{Number}
 use Rattle.sync_core.specs.Standing.{IsKnown, is_open, first_order}
 use Rattle.sync_core.proofs.Numbers.{Each, left_positive}
@@ -138,7 +138,7 @@ module _ {Side Note : Type 0} (side : Side → SideData) (table : Side → Table
     -- its order is finished
     pub came_done : (x done : Side) (left : Option Note) → t ≡ run.stream → IsKnown (length slots) t → other ≡ slice_index_or slots (t - 1) other → slot ≡ record other { side = Some done; begun = false; first = None } → RunFits side table mark note_of p tables books run x left
         → new.past ≡ Finish run.stream run.order ∷ old.past → new.outs ≡ with_out old.outs run.stream at_home → is_open (standing_of p old.past run.stream) ≡ true → IsRunOf p old.past run → run.facts.get ≡ run.facts.put
-        → is_home old.outs run.stream ≡ false → side done ≡ with_finish (met_by (option_map mark left) (side x)) → table done ≡ table x → AllFit old slots → AllFit new (set slots (t - 1) slot)
+        → is_home old.outs run.stream ≡ false → side done ≡ finish_published (met_by (option_map mark left) (side x)) → table done ≡ table x → AllFit old slots → AllFit new (set slots (t - 1) slot)
     came_done x done left at known read is fits past outs open' run_of end out told same was =
         let low : 0 < run.stream = fits.of_plans.known.0 in
         let e = Finish run.stream run.order in

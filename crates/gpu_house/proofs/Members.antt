@@ -19,8 +19,8 @@ use Rattle.gpu_plan.specs.Plans.{PlansData}
 use Rattle.gpu_plan.proofs.Dumps.{found_behind}
 use Rattle.gpu_fetch.specs.Side.{SideData, Fetches}
 use Rattle.gpu_fetch.specs.declared.sharing.FetchedPart.{FetchedPart}
-use Rattle.gpu_fetch.specs.Fetched.{FetchedData, added, IsFetched, FetchesSome}
-use Rattle.gpu_fetch.specs.Parts.{words_in, parts_of}
+use Rattle.gpu_fetch.specs.Fetched.{FetchedData, items_since, IsFetched, FetchesSome}
+use Rattle.gpu_fetch.specs.Parts.{words_of_parts, parts_of}
 use Rattle.gpu_fetch.proofs.Fetching.{fetches_none, fetches_then}
 use Rattle.gpu_fetch.proofs.Cutting.{parts_more, words_whole}
 use Rattle.stream_state.specs.Steps.{header_in}
@@ -208,10 +208,10 @@ parts_long list (part ∷ parts) = ap suc (parts_long (drop part.count list) par
 -- one command more was fetched onto the list, and is reported after the others
 pub record IsOneMore (old between new : SideData) (first next : StreamFacts) (list longer : List (ℕ × ℕ)) (parts again : List FetchedPart) (verdict : Result Command CmdError) (count : ℕ) : Type 0 where
   pub were : Gathered old between first next (parts_of list parts)
-  pub full : words_in parts ≡ length list
-  pub adds : longer ≡ list ++ added list longer
-  pub fetches : Fetches between new (added list longer)
-  pub copy : IsCopy (added list longer) next verdict
+  pub full : words_of_parts parts ≡ length list
+  pub adds : longer ≡ list ++ items_since list longer
+  pub fetches : Fetches between new (items_since list longer)
+  pub copy : IsCopy (items_since list longer) next verdict
   pub pushed : again ≡ parts ++ record { count = count; verdict = verdict; facts = record { facts = next } } ∷ []
   pub counted : count ≡ length longer - length list
 
@@ -220,7 +220,7 @@ module _ {old between new : SideData} {first next : StreamFacts} {list longer : 
   last_part = record { count = count; verdict = verdict; facts = record { facts = next } }
 
   abbrev last_member : FetchedData
-  last_member = record { words = added list longer; verdict = verdict; facts = next }
+  last_member = record { words = items_since list longer; verdict = verdict; facts = next }
 
   one_fetched : Fetched between new next last_member
   one_fetched = record { facts = refl; fetches = more.fetches; copy = more.copy }
@@ -228,8 +228,8 @@ module _ {old between new : SideData} {first next : StreamFacts} {list longer : 
   pub parts_are : parts_of longer again ≡ parts_of list parts ++ last_member ∷ []
   parts_are = ap (parts_of longer) more.pushed ∙ parts_more list longer parts last_part more.full more.adds more.counted
 
-  pub parts_whole : words_in again ≡ length longer
-  parts_whole = ap words_in more.pushed ∙ words_whole list longer parts last_part more.full more.adds more.counted
+  pub parts_whole : words_of_parts again ≡ length longer
+  parts_whole = ap words_of_parts more.pushed ∙ words_whole list longer parts last_part more.full more.adds more.counted
 
   pub parts_copies : All IsFetched (parts_of longer again)
   parts_copies = subst (All IsFetched) (sym parts_are) (copies_more old between new first next (parts_of list parts) last_member more.were one_fetched)
@@ -240,11 +240,11 @@ module _ {old between new : SideData} {first next : StreamFacts} {list longer : 
   pub parts_fetched : Fetches old new (batch_words (parts_of longer again))
   parts_fetched = subst (λ (l : List FetchedData). Fetches old new (batch_words l)) (sym parts_are) (whole_more old between new first next (parts_of list parts) last_member more.were one_fetched)
 
-  pub parts_shown : (S : ℕ × ℕ → Type 0) → All S (batch_words (parts_of list parts)) → All S (added list longer) → All S (batch_words (parts_of longer again))
+  pub parts_shown : (S : ℕ × ℕ → Type 0) → All S (batch_words (parts_of list parts)) → All S (items_since list longer) → All S (batch_words (parts_of longer again))
   parts_shown S all one = subst (λ (l : List FetchedData). All S (batch_words l)) (sym parts_are) (shown_more old between new first next (parts_of list parts) last_member more.were one_fetched S all one)
 
   -- the batch goes on after it
-  pub parts_go_on : (behind : StreamFacts) → behind ≡ facts_after next (added list longer) → IsLawfulFacts behind → behind.get ≢ behind.put → ends_by verdict (facts_after next (added list longer)) ≡ false → length again < most_members
+  pub parts_go_on : (behind : StreamFacts) → behind ≡ facts_after next (items_since list longer) → IsLawfulFacts behind → behind.get ≢ behind.put → ends_by verdict (facts_after next (items_since list longer)) ≡ false → length again < most_members
       → Gathered old new first behind (parts_of longer again)
   parts_go_on behind is lawful going goes_on few =
       let long : length again ≡ length parts + 1 = ap length more.pushed ∙ length-append parts (last_part ∷ []) in
@@ -253,7 +253,7 @@ module _ {old between new : SideData} {first next : StreamFacts} {list longer : 
       (gathered_more old between new first next (parts_of list parts) last_member more.were one_fetched behind is lawful going goes_on (omega (arith, long, same, few)))
 
   -- it ends at it
-  pub parts_end : (ends_by verdict (facts_after next (added list longer)) ≡ true) ⊎ (length again ≡ most_members) → EndsExactly (parts_of longer again)
+  pub parts_end : (ends_by verdict (facts_after next (items_since list longer)) ≡ true) ⊎ (length again ≡ most_members) → EndsExactly (parts_of longer again)
   parts_end ends =
       let long : length again ≡ length parts + 1 = ap length more.pushed ∙ length-append parts (last_part ∷ []) in
       let same = parts_long list parts in

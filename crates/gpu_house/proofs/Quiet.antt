@@ -22,7 +22,7 @@ use Rattle.stream_state.specs.Writes.{Writes}
 use Rattle.stream_state.proofs.Accepting.{told as tells, says}
 use Rattle.gpu_journal.specs.declared.event.Event.{Event}
 use Rattle.gpu_journal.specs.World.{state_of}
-use Rattle.serial_laws.specs.Runs.{keeps}
+use Rattle.serial_laws.specs.Runs.{step_keeps}
 use Rattle.gpu_house.specs.Steps.{asked_at}
 use Rattle.gpu_house.specs.Batches.{facts_after, is_heard, ends_by, is_last, EndsExactly}
 
@@ -61,20 +61,20 @@ untold command off = by (told command) (is_some (named command).size_range || is
     by None writes off = refl
     by (Some asks) writes off = absurd (cc)
 
-no_wait : (p : PlansData) (h : List Event) (s : ℕ) (areas : Areas) (command : Command) (words : List (ℕ × ℕ)) (state : State) → told command ≡ None → keeps p h s (effect_of areas command words state) ≡ false
+no_wait : (p : PlansData) (h : List Event) (s : ℕ) (areas : Areas) (command : Command) (words : List (ℕ × ℕ)) (state : State) → told command ≡ None → step_keeps p h s (effect_of areas command words state) ≡ false
 unfolding effect_of asked
 no_wait p h s areas command words state none = by (writes_of areas command state)
   where
-    drawn : (op : Option Op) → keeps p h s (unwrap_or (either None (option_map Pixels op)) Nothing) ≡ false
+    drawn : (op : Option Op) → step_keeps p h s (unwrap_or (either None (option_map Pixels op)) Nothing) ≡ false
     drawn None = refl
     drawn (Some op) = refl
 
-    by : (write : Option Writes) → keeps p h s (option_map_or Results write (unwrap_or (either (told command) (option_map Pixels (either (plain_op command) (upload_op command words state)))) Nothing)) ≡ false
+    by : (write : Option Writes) → step_keeps p h s (option_map_or Results write (unwrap_or (either (told command) (option_map Pixels (either (plain_op command) (upload_op command words state)))) Nothing)) ≡ false
     by (Some write) = refl
-    by None = subst (λ (o : Option Effect). keeps p h s (unwrap_or (either o (option_map Pixels (either (plain_op command) (upload_op command words state)))) Nothing) ≡ false) (sym none) (drawn (either (plain_op command) (upload_op command words state)))
+    by None = subst (λ (o : Option Effect). step_keeps p h s (unwrap_or (either o (option_map Pixels (either (plain_op command) (upload_op command words state)))) Nothing) ≡ false) (sym none) (drawn (either (plain_op command) (upload_op command words state)))
 
 -- the step of a member at which no batch ends keeps no wait
-pub quiet : (p : PlansData) (h : List Event) (s : ℕ) (member : FetchedData) → IsFetched member → Passes member → keeps p h s (asked_at p h s member.words) ≡ false
+pub quiet : (p : PlansData) (h : List Event) (s : ℕ) (member : FetchedData) → IsFetched member → Passes member → step_keeps p h s (asked_at p h s member.words) ≡ false
 unfolding effect
 quiet p h s member fetched passed =
     let copy : IsCopy member.words member.facts (Ok passed.command) = subst (IsCopy member.words member.facts) passed.passed fetched.copy in

@@ -11,7 +11,7 @@ use Rattle.gpu_plan.specs.Plans.{PlansData, PlanData, plan_of}
 use Rattle.gpu_plan.specs.Passes.{bound}
 use Rattle.gpu_plan.specs.MayHold.{MayHold}
 use Rattle.gpu_plan.proofs.Holding.{may_hold_between}
-use Rattle.gpu_fetch.specs.Side.{SideData, reach, MayFetch, with_met, Fetches}
+use Rattle.gpu_fetch.specs.Side.{SideData, side_reach, MayFetch, with_met, Fetches}
 use Rattle.gpu_fetch.specs.Fetched.{FetchedData, FetchesSome}
 use Rattle.house_core.specs.Core.{MayHavePut}
 use Rattle.house_core.specs.Desks.{RunData}
@@ -25,7 +25,7 @@ module _ {Side Note : Type 0} (side : Side → SideData) (table : Side → Table
   abbrev pub Fits : Side → Option Note → Type 0
   Fits x note = RunFits side table mark note_of p tables books run x note
 
-  pub side_reaches : (x : Side) (left : Option Note) → Fits x left → reach (side x) ≡ reach_of p run
+  pub side_reaches : (x : Side) (left : Option Note) → Fits x left → side_reach (side x) ≡ reach_of p run
   side_reaches x left fits =
       ap (λ (plan : PlanData). bound plan.actions (side x).finished ((side x).greatest ∷ [])) fits.plan
       ∙ ap (λ (finished : ℕ). bound (plan_of p run.stream).actions finished ((side x).greatest ∷ [])) fits.finished
@@ -33,7 +33,7 @@ module _ {Side Note : Type 0} (side : Side → SideData) (table : Side → Table
 
   -- a side that has met its flush, may have fetched more, and says the rest as before
   pub met_further : (x y : Side) (left : Option Note) (met : ℕ) (list : List (ℕ × ℕ)) → Fits x left → side y ≡ record (side x) { met = met; fetched = list } → table y ≡ table x
-      → run.facts.fetched ≤ length list → All (MayHavePut p run) (drop run.facts.fetched list) → (run.facts.get ≡ run.facts.put → length list ≡ run.facts.fetched) → met ≡ run.place + 1 → (side y).met ≤ reach (side y) → Fits y None
+      → run.facts.fetched ≤ length list → All (MayHavePut p run) (drop run.facts.fetched list) → (run.facts.get ≡ run.facts.put → length list ≡ run.facts.fetched) → met ≡ run.place + 1 → (side y).met ≤ side_reach (side y) → Fits y None
   met_further x y left met list fits told same long may whole noted reached =
       let listed : (side y).fetched ≡ list = ap (λ (s : SideData). s.fetched) told in
       let at_place : (side y).met ≡ run.place + 1 = ap (λ (s : SideData). s.met) told ∙ noted in
@@ -53,7 +53,7 @@ module _ {Side Note : Type 0} (side : Side → SideData) (table : Side → Table
       }
 
   -- the note of its flush is met
-  pub met_again : (x y : Side) (note : Note) → Fits x (Some note) → side y ≡ with_met (side x) (mark note) → (side y).met ≤ reach (side y) → table y ≡ table x → Fits y None
+  pub met_again : (x y : Side) (note : Note) → Fits x (Some note) → side y ≡ with_met (side x) (mark note) → (side y).met ≤ side_reach (side y) → table y ≡ table x → Fits y None
   met_again x y note fits told reached same =
       let behind = fits.behind in
       let noted : mark note ≡ run.place + 1 = fits.noted in
@@ -72,12 +72,12 @@ module _ {Side Note : Type 0} (side : Side → SideData) (table : Side → Table
       let wider : (word : ℕ × ℕ) → MayFetch (side x) word → MayHavePut p run word = λ word may.
       may_hold_between (plan_of p run.stream).actions (run.place + 1) run.place (reach_of p run) (reach_of p run) word.0 word.1 (omega arith) (omega arith)
       (subst (λ (most : ℕ). MayHold (plan_of p run.stream).actions (run.place + 1) most word.0 word.1) (side_reaches x None fits)
-      (subst (λ (least : ℕ). MayHold (plan_of p run.stream).actions least (reach (side x)) word.0 word.1) at_place
-      (subst (λ (plan : PlanData). MayHold plan.actions (side x).met (reach (side x)) word.0 word.1) fits.plan may))) in
+      (subst (λ (least : ℕ). MayHold (plan_of p run.stream).actions least (side_reach (side x)) word.0 word.1) at_place
+      (subst (λ (plan : PlanData). MayHold plan.actions (side x).met (side_reach (side x)) word.0 word.1) fits.plan may))) in
       let all : All (MayHavePut p run) (drop run.facts.fetched old ++ words) = All-append (MayHavePut p run) (drop run.facts.fetched old) words fits.may (All-weaker (MayFetch (side x)) (MayHavePut p run) wider words fetches.may) in
       met_further x y None (side x).met (old ++ words) fits told same (omega (arith, many, more))
       (subst (All (MayHavePut p run)) (sym (drop-append-le run.facts.fetched old words many)) all) (λ end. absurd (going end)) at_place
-      (subst (λ (s : SideData). s.met ≤ reach s) (sym told) fits.noted.1)
+      (subst (λ (s : SideData). s.met ≤ side_reach s) (sym told) fits.noted.1)
 
   -- a fetch of a command, whole or in part
   pub command_fetched : {Error : Type 0} (x y : Side) (facts : StreamFacts) (result : Result FetchedData Error) → run.facts.get ≢ run.facts.put → Fits x None → table y ≡ table x → IfOk result (λ found. Fetches (side x) (side y) found.words) → IfErr result (λ _. FetchesSome (side x) (side y) facts) → Fits y None

@@ -10,7 +10,7 @@ use Rattle.atomic_table.specs.Seated.{TableId}
 use Rattle.gpu_plan.specs.Plans.{PlansData, plan_of}
 use Rattle.gpu_plan.specs.Places.{flush_places, mark_of}
 use Rattle.gpu_plan.specs.Passes.{greatest}
-use Rattle.gpu_fetch.specs.Side.{SideData, reach, with_met, with_finish}
+use Rattle.gpu_fetch.specs.Side.{SideData, side_reach, with_met, finish_published}
 use Rattle.sync_core.specs.Standing.{is_open, first_order}
 use Rattle.gpu_journal.specs.declared.event.Event.{Event}
 use Rattle.gpu_journal.specs.declared.event.Event.TheVariants.{Order, Step, Finish}
@@ -233,7 +233,7 @@ module _ {Side Note : Type 0} (side : Side → SideData) (table : Side → Table
 
     -- a side comes home once its order is finished
     pub finish_fits : (h : List Event) (home : Bool) (x done : Side) (left : Option Note) (slot : SlotData Side Note) → Run x left → is_open (standing_of p h run.stream) ≡ true → IsRunOf p h run → run.facts.get ≡ run.facts.put → home ≡ false
-        → side done ≡ with_finish (met_by (option_map mark left) (side x)) → table done ≡ table x → Slot h home run.stream slot → Slot (Finish run.stream run.order ∷ h) true run.stream (record slot { side = Some done; begun = false; first = None })
+        → side done ≡ finish_published (met_by (option_map mark left) (side x)) → table done ≡ table x → Slot h home run.stream slot → Slot (Finish run.stream run.order ∷ h) true run.stream (record slot { side = Some done; begun = false; first = None })
     finish_fits h home x done left slot fits open' is end out told same f =
         let s = run.stream in
         let g = Finish run.stream run.order ∷ h in
@@ -271,7 +271,7 @@ module _ {Side Note : Type 0} (side : Side → SideData) (table : Side → Table
 
     -- the note of a run, or else what its side has met
     abbrev Noted : Side → Option Note → Type 0
-    Noted x left = MatchOption left (((side x).met ≡ run.place + 1) × ((side x).met ≤ reach (side x))) (λ n. mark n ≡ run.place + 1)
+    Noted x left = MatchOption left (((side x).met ≡ run.place + 1) × ((side x).met ≤ side_reach (side x))) (λ n. mark n ≡ run.place + 1)
 
     -- a run is taken: its side is the one that was at home, and its note that of the first order
     pub taken_fits : (h : List Event) (home : Bool) (x : Side) (left : Option Note) (slot : SlotData Side Note) → IsLegal p h → IsOfPlans p run → IsRunOf p h run → run.book ≡ books run.stream → slot.side ≡ Some x → left ≡ note_ahead slot → Slot h home run.stream slot → Run x left

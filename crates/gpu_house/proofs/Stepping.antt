@@ -13,7 +13,7 @@ use Rattle.gpu_plan.specs.Passes.{bound, greatest}
 use Rattle.gpu_plan.specs.MayHold.{MayHold}
 use Rattle.gpu_plan.proofs.Holding.{may_hold_between}
 use Rattle.gpu_plan.proofs.Passing.{bound_grows_by_greatest}
-use Rattle.gpu_fetch.specs.Side.{SideData, reach, with_token}
+use Rattle.gpu_fetch.specs.Side.{SideData, side_reach, token_published}
 use Rattle.stream_state.specs.declared.effect.Effect.{Effect}
 use Rattle.stream_state.specs.declared.effect.Effect.TheVariants.{Nothing, Token, Release, Wait, WaitName, Pixels, Results}
 use Rattle.sync_core.specs.Standing.{IsKnown}
@@ -36,7 +36,7 @@ use Rattle.gpu_house.proofs.Running.{met_further, met_again}
 
 -- ---- what a client hears
 
-told_keeps : {A : Type 0} (of : SideData → A) → ((s : SideData) (token : ℕ) → of (with_token s token) ≡ of s) → (effect : Effect) (s : SideData) → of (told_side effect s) ≡ of s
+told_keeps : {A : Type 0} (of : SideData → A) → ((s : SideData) (token : ℕ) → of (token_published s token) ≡ of s) → (effect : Effect) (s : SideData) → of (told_side effect s) ≡ of s
 told_keeps of keeps Nothing s = refl
 told_keeps of keeps (Token token) s = keeps s token
 told_keeps of keeps (Release r) s = refl
@@ -46,7 +46,7 @@ told_keeps of keeps (Pixels op) s = refl
 told_keeps of keeps (Results write) s = refl
 
 -- the greatest token that a client heard of is that of the journal
-told_greatest : (effect : Effect) (s : SideData) (tokens : List ℕ) → s.greatest ≡ greatest tokens → (told_side effect s).greatest ≡ greatest (worlds.with_token effect tokens)
+told_greatest : (effect : Effect) (s : SideData) (tokens : List ℕ) → s.greatest ≡ greatest tokens → (told_side effect s).greatest ≡ greatest (worlds.tokens_after effect tokens)
 told_greatest Nothing s tokens is = is
 told_greatest (Token token) s tokens is = max_comm s.greatest token ∙ ap (max token) is
 told_greatest (Release r) s tokens is = is
@@ -69,7 +69,7 @@ told_no_less (Pixels op) s = omega arith
 told_no_less (Results write) s = omega arith
 
 -- its client can come no less far
-told_reach : (effect : Effect) (s : SideData) → reach s ≤ reach (told_side effect s)
+told_reach : (effect : Effect) (s : SideData) → side_reach s ≤ side_reach (told_side effect s)
 told_reach Nothing s = omega arith
 told_reach (Token token) s = bound_grows_by_greatest s.plan.actions s.finished s.finished s.greatest (max s.greatest token) (omega arith) (le-max_left s.greatest token)
 told_reach (Release r) s = omega arith
@@ -91,10 +91,10 @@ module _ {Side Note : Type 0} (side : Side → SideData) (table : Side → Table
   same_again : (run : RunData) (x y : Side) → Fits run x None → side y ≡ side x → table y ≡ table x → Fits run y None
   same_again run x y fits told same =
       met_further side table mark note_of p tables books run x y None (side x).met (side x).fetched fits told same fits.list fits.may fits.whole fits.noted.0
-      (subst (λ (s : SideData). s.met ≤ reach s) (sym told) fits.noted.1)
+      (subst (λ (s : SideData). s.met ≤ side_reach s) (sym told) fits.noted.1)
 
   -- the note is met, where it was not
-  pub met_fits : (run : RunData) (x y : Side) (left : Option Note) → Fits run x left → side y ≡ met_by (option_map mark left) (side x) → IfSome left (λ note. (side y).met ≤ reach (side y)) → table y ≡ table x → Fits run y None
+  pub met_fits : (run : RunData) (x y : Side) (left : Option Note) → Fits run x left → side y ≡ met_by (option_map mark left) (side x) → IfSome left (λ note. (side y).met ≤ side_reach (side y)) → table y ≡ table x → Fits run y None
   met_fits run x y None fits told bounded same = same_again run x y fits told same
   met_fits run x y (Some note) fits told bounded same = met_again side table mark note_of p tables books run x y note fits told bounded same
 
@@ -130,11 +130,11 @@ module _ {Side Note : Type 0} (side : Side → SideData) (table : Side → Table
       let met : (side z).met ≡ (side y).met = ap (λ (d : SideData). d.met) told ∙ told_keeps (λ d. d.met) (λ d token. refl) effect (side y) in
       let place = moved.place in
       let plan : (side z).plan ≡ plan_of p s = ap (λ (d : SideData). d.plan) told ∙ told_keeps (λ d. d.plan) (λ d token. refl) effect (side y) ∙ fits.plan in
-      let farther : reach (side y) ≤ reach (side z) = subst (λ (d : SideData). reach (side y) ≤ reach d) (sym told) (told_reach effect (side y)) in
+      let farther : side_reach (side y) ≤ side_reach (side z) = subst (λ (d : SideData). side_reach (side y) ≤ side_reach d) (sym told) (told_reach effect (side y)) in
       let reached = fits.noted.1 in
       let at = fits.noted.0 in
-      let tokens : (known p new now.stream).tokens ≡ worlds.with_token effect (known p old s).tokens =
-      ap (λ (h : List Event). (known p h now.stream).tokens) past ∙ ap (λ (t : ℕ). (known p (Step s words ∷ old) t).tokens) here ∙ step_tokens p old s words ∙ ap (λ (e : Effect). worlds.with_token e (known p old s).tokens) (sym asked) in
+      let tokens : (known p new now.stream).tokens ≡ worlds.tokens_after effect (known p old s).tokens =
+      ap (λ (h : List Event). (known p h now.stream).tokens) past ∙ ap (λ (t : ℕ). (known p (Step s words ∷ old) t).tokens) here ∙ step_tokens p old s words ∙ ap (λ (e : Effect). worlds.tokens_after e (known p old s).tokens) (sym asked) in
       let greater : (side z).greatest ≡ now.greatest = ap (λ (d : SideData). d.greatest) told ∙ told_greatest effect (side y) (known p old s).tokens (fits.greatest ∙ was.greatest) ∙ ap greatest (sym tokens) ∙ sym is.greatest in
       let no_less : (side y).greatest ≤ (side z).greatest = subst (λ (d : SideData). (side y).greatest ≤ d.greatest) (sym told) (told_no_less effect (side y)) in
       let had = fits.greatest in

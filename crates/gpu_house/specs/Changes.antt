@@ -1,6 +1,6 @@
 -- What a call makes of a house.
 use Rattle.std.specs.Prelude.{◌≡◌, ◌≢◌, ℕ, ◌-◌, ◌++◌, [], ◌∷◌, true, false, List, Some, None, Option, IfSome, option_map, slice_get}
-use Rattle.gpu_fetch.specs.Side.{SideData, with_met, with_finish}
+use Rattle.gpu_fetch.specs.Side.{SideData, with_met, finish_published}
 use Rattle.gpu_journal.specs.declared.event.Event.{Event}
 use Rattle.gpu_house.specs.Slots.{SlotData, slot_at, with_slot}
 use Rattle.gpu_house.specs.House.{HouseData}
@@ -48,7 +48,7 @@ module _ {Side Note Words : Type 0} (side : Side → SideData) (mark : Note → 
   -- a side came home once its order was finished: it has met the note that no fetch had met, and published the finish
   pub record CameDone (words : Words) (old new : List (SlotData Side Note)) (s : ℕ) (x : Side) (note : Option Note) : Type 0 where
     pub done : Side
-    pub told : side done ≡ with_finish (met_by (option_map mark note) (side x))
+    pub told : side done ≡ finish_published (met_by (option_map mark note) (side x))
     pub still : StillBelongs belongs note_belongs words x done
     pub slots : new ≡ with_done old s done
 

@@ -12,7 +12,7 @@ use Rattle.gpu_journal.specs.declared.event.Event.{Event}
 use Rattle.gpu_journal.specs.declared.event.Event.TheVariants as event
 use Rattle.gpu_journal.specs.Waits.{standing_of}
 use Rattle.gpu_journal.specs.Facts.{verdict_at}
-use Rattle.serial_laws.specs.Runs.{keeps}
+use Rattle.serial_laws.specs.Runs.{step_keeps}
 use Rattle.house_core.specs.Core.{IsRunOf, with_out}
 use Rattle.house_core.specs.Desks.{RunData}
 use Rattle.gpu_house.specs.declared.answers.Next.{Next}
@@ -26,9 +26,9 @@ use Rattle.gpu_house.specs.Batches.{facts_behind}
 -- ---- steps of stream s on these words, one after the other, from a journal on
 
 -- the journal after the steps
-abbrev pub stepped : ℕ → List (List (ℕ × ℕ)) → List Event → List Event
-stepped s [] h = h
-stepped s (words ∷ more) h = stepped s more (event.Step s words ∷ h)
+abbrev pub journal_stepped : ℕ → List (List (ℕ × ℕ)) → List Event → List Event
+journal_stepped s [] h = h
+journal_stepped s (words ∷ more) h = journal_stepped s more (event.Step s words ∷ h)
 
 -- each is a valid command by the journal before it
 abbrev pub AreValid : PlansData → ℕ → List (List (ℕ × ℕ)) → List Event → Type 0
@@ -38,7 +38,7 @@ AreValid p s (words ∷ more) h = IsOk (verdict_at p h s words) × AreValid p s 
 -- a wait of one of the steps is kept
 abbrev pub keeps_one : PlansData → ℕ → List (List (ℕ × ℕ)) → List Event → Bool
 keeps_one p s [] h = false
-keeps_one p s (words ∷ more) h = keeps p h s (asked_at p h s words) || keeps_one p s more (event.Step s words ∷ h)
+keeps_one p s (words ∷ more) h = step_keeps p h s (asked_at p h s words) || keeps_one p s more (event.Step s words ∷ h)
 
 -- the side once it has told its client of the steps
 abbrev pub told_sides : PlansData → ℕ → List (List (ℕ × ℕ)) → List Event → SideData → SideData
@@ -110,7 +110,7 @@ module _ {Side Note Results : Type 0} (side : Side → SideData) (mark : Note �
     pub still_open : is_open (standing_of p old.house.core.past old.out.run.stream) ≡ true
     pub valid : AreValid p old.out.run.stream words old.house.core.past
     pub kept : paused ≡ keeps_one p old.out.run.stream words old.house.core.past
-    pub events : new.house.core.past ≡ stepped old.out.run.stream words old.house.core.past
+    pub events : new.house.core.past ≡ journal_stepped old.out.run.stream words old.house.core.past
     pub moved : IsMovedOver old.out.run new.out.run words paused
     pub run : IsRunOf p new.house.core.past new.out.run
     pub outs : new.house.core.outs ≡ with_out old.house.core.outs old.out.run.stream record { order = old.out.run.order; paused = paused }

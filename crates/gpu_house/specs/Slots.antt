@@ -5,7 +5,7 @@ use Rattle.atomic_table.specs.Seated.{TableId}
 use Rattle.gpu_plan.specs.Plans.{PlansData, PlanData, plan_of}
 use Rattle.gpu_plan.specs.Places.{flush_places, mark_of}
 use Rattle.gpu_plan.specs.Passes.{greatest}
-use Rattle.gpu_fetch.specs.Side.{SideData, reach}
+use Rattle.gpu_fetch.specs.Side.{SideData, side_reach}
 use Rattle.sync_core.specs.Standing.{is_open}
 use Rattle.gpu_journal.specs.declared.event.Event.{Event}
 use Rattle.gpu_journal.specs.World.{known, state_of}
@@ -53,7 +53,7 @@ begun_of finished begun = if begun then finished + 1 else finished
 -- the side has met the flush of this number, and its client could come to it
 pub record HasMet (plan : PlanData) (flush : ℕ) (side : SideData) : Type 0 where
   pub met : side.met ≡ mark_of plan flush
-  pub reached : side.met ≤ reach side
+  pub reached : side.met ≤ side_reach side
 
 -- what the side of a stream at home says agrees with the journal
 pub record IsAtHome (p : PlansData) (h : List Event) (s : ℕ) (side : SideData) : Type 0 where
@@ -98,4 +98,4 @@ module _ {Side Note : Type 0} (side : Side → SideData) (table : Side → Table
     pub may : All (MayHavePut p run) (drop run.facts.fetched (side x).fetched)
     pub whole : run.facts.get ≡ run.facts.put → length (side x).fetched ≡ run.facts.fetched
     pub behind : (side x).met ≤ run.place + 1
-    pub noted : MatchOption note (((side x).met ≡ run.place + 1) × ((side x).met ≤ reach (side x))) (λ n. mark n ≡ run.place + 1)
+    pub noted : MatchOption note (((side x).met ≡ run.place + 1) × ((side x).met ≤ side_reach (side x))) (λ n. mark n ≡ run.place + 1)

@@ -2,7 +2,7 @@
 use Rattle.std.specs.Prelude.{◌≡◌, ℕ, ◌∷◌, Bool, true, false, List, Err, None, IsOk, option_map, if◌then◌else◌}
 use Rattle.gpu_cmd.specs.declared.error.CmdError.{CmdError}
 use Rattle.gpu_plan.specs.Plans.{PlansData}
-use Rattle.gpu_fetch.specs.Side.{SideData, with_token}
+use Rattle.gpu_fetch.specs.Side.{SideData, token_published}
 use Rattle.stream_state.specs.declared.effect.Effect.{Effect}
 use Rattle.stream_state.specs.declared.effect.Effect.TheVariants.{Token}
 use Rattle.sync_core.specs.Standing.{is_open}
@@ -12,7 +12,7 @@ use Rattle.gpu_journal.specs.declared.event.Why.TheVariants.{Error}
 use Rattle.gpu_journal.specs.World.{world, asked_by}
 use Rattle.gpu_journal.specs.Waits.{standing_of}
 use Rattle.gpu_journal.specs.Facts.{verdict_at}
-use Rattle.serial_laws.specs.Runs.{keeps}
+use Rattle.serial_laws.specs.Runs.{step_keeps}
 use Rattle.house_core.specs.Answers.{IsMovedBy}
 use Rattle.house_core.specs.Core.{IsRunOf, with_out}
 use Rattle.gpu_house.specs.declared.answers.Next.{Next}
@@ -26,7 +26,7 @@ next_of kept at_end = if kept then Paused else (if at_end then FlushEnd else Mor
 
 -- the side once it has told its client of a step
 abbrev pub told_side : Effect → SideData → SideData
-told_side (Token token) side = with_token side token
+told_side (Token token) side = token_published side token
 told_side _ side = side
 
 -- what a step of stream s on these words asks for, by the journal before it
@@ -38,10 +38,10 @@ module _ {Side Note Results : Type 0} (side : Side → SideData) (mark : Note �
   -- - the journal notes its step
   -- - the run moved on to the next command and is what the journal says again, paused where the wait of this step was kept
   -- - its note is met, and its client hears of it
-  pub record IsDone (p : PlansData) (old new : HouseData Side Note Results) (out left : OutData Side Note) (words : List (ℕ × ℕ)) (paused : Bool) : Type 0 where
+  pub record IsRunStepDone (p : PlansData) (old new : HouseData Side Note Results) (out left : OutData Side Note) (words : List (ℕ × ℕ)) (paused : Bool) : Type 0 where
     pub still_open : is_open (standing_of p old.core.past out.run.stream) ≡ true
     pub valid : IsOk (verdict_at p old.core.past out.run.stream words)
-    pub kept : paused ≡ keeps p old.core.past out.run.stream (asked_at p old.core.past out.run.stream words)
+    pub kept : paused ≡ step_keeps p old.core.past out.run.stream (asked_at p old.core.past out.run.stream words)
     pub event : new.core.past ≡ event.Step out.run.stream words ∷ old.core.past
     pub moved : IsMovedBy out.run left.run words paused
     pub run : IsRunOf p new.core.past left.run
@@ -67,9 +67,9 @@ module _ {Side Note Results : Type 0} (side : Side → SideData) (mark : Note �
 
   -- how a step of a run is answered
   abbrev pub Steps : PlansData → HouseData Side Note Results → HouseData Side Note Results → OutData Side Note → OutData Side Note → List (ℕ × ℕ) → Next → Type 0
-  Steps p old new out left words More = IsDone p old new out left words false
-  Steps p old new out left words Paused = IsDone p old new out left words true
-  Steps p old new out left words FlushEnd = IsDone p old new out left words false
+  Steps p old new out left words More = IsRunStepDone p old new out left words false
+  Steps p old new out left words Paused = IsRunStepDone p old new out left words true
+  Steps p old new out left words FlushEnd = IsRunStepDone p old new out left words false
   Steps p old new out left words (Invalid error) = IsRefused p old new out left words error
   Steps p old new out left words Lost = IsOver old new out left ((standing_of p old.core.past out.run.stream).lost ≡ true)
   Steps p old new out left words Closed =

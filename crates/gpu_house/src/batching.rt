@@ -83,7 +83,7 @@ impl<N: Naming, P: ServiceSide, H: Hook> House<N, P, H> {
             (record { house = self.new; out = run.new; drawn = drawn.new.items })
             (member_words batch)) }
     {
-        run.holds();
+        run.shows_fit();
         if let Some(over) = self.over(run.stream()) {
             return Ok(over);
         }

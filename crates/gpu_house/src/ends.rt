@@ -30,7 +30,7 @@ impl<N: Naming, P: ServiceSide, H: Hook> House<N, P, H> {
     {
         let House { core, hooks, .. } = self;
         core.lose_client(stream);
-        core.holds();
+        core.shows_core();
         follow(core, hooks);
     }
 
@@ -52,7 +52,7 @@ impl<N: Naming, P: ServiceSide, H: Hook> House<N, P, H> {
     {
         let House { core, hooks, .. } = self;
         let closing = core.close(stream);
-        core.holds();
+        core.shows_core();
         follow(core, hooks);
         closing
     }

@@ -89,7 +89,7 @@ impl<N: Naming, P: ServiceSide, H: Hook> House<N, P, H> {
         ensures results { IfOk result (λ house. house.results ≡ results.items) }
     {
         let core = Core::make(alloc, plans, books)?;
-        core.holds();
+        core.shows_core();
         let slots = slots_of(alloc, sides)?;
         Ok(House {
             alloc,

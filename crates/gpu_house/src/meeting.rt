@@ -1,6 +1,6 @@
 //! The note of a run is met once.
 ghost use Rattle.std.specs.Prelude.{◌≡◌, ◌≤◌, None, option_map, IfSome};
-ghost use Rattle.gpu_fetch.specs.Side.{reach};
+ghost use Rattle.gpu_fetch.specs.Side.{side_reach};
 ghost use Rattle.gpu_house.specs.Changes.{StillBelongs, met_by};
 
 use gpu_fetch::ServiceSide;
@@ -13,7 +13,8 @@ pub(crate) fn meet<P: ServiceSide>(side: &mut P, note: &mut Option<P::Note>, wor
     ensures told { P.side side.new ≡ met_by (option_map P.mark note.old) (P.side side.old) }
     ensures list { (P.side side.new).fetched ≡ (P.side side.old).fetched }
     ensures finished { (P.side side.new).finished ≡ (P.side side.old).finished }
-    ensures bounded { IfSome note.old (λ note. (P.side side.new).met ≤ reach (P.side side.new)) }
+    ensures bounded { IfSome note.old
+        (λ note. (P.side side.new).met ≤ side_reach (P.side side.new)) }
     ensures table { P.table side.new ≡ P.table side.old }
     ensures still { StillBelongs P.belongs P.note_belongs words.now side.old side.new }
     ensures met { note.new ≡ None }

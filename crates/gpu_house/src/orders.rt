@@ -72,7 +72,7 @@ impl<N: Naming, P: ServiceSide, H: Hook> House<N, P, H> {
                 };
             }
         };
-        core.holds();
+        core.shows_core();
         follow(core, hooks);
         Ok(order)
     }

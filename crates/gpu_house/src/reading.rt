@@ -49,7 +49,7 @@ impl<N: Naming, P: ServiceSide, H: Hook> House<N, P, H> {
     /// - `stuck`: so the stream with the least unprocessed number can run, and is at home or has its run out
     /// - `results`: there are results of each stream, of its result words
     #[tactic(auto, using(sync_core::proofs::Targets::waits_go_down, sync_core::proofs::Targets::no_cycle))]
-    pub fn holds(&self)
+    pub fn shows_laws(&self)
         ensures targets { HaveTargets N.plans self.now.core.past }
         ensures no_cycle { FormNoCycle N.plans self.now.core.past }
         ensures stuck { IsNotStuck N.plans self.now.core.past self.now.core.outs }

@@ -52,7 +52,7 @@ impl<N: Naming, P: ServiceSide> Model for Run<N, P> {
 impl<N: Naming, P: ServiceSide> Run<N, P> {
     /// Shows what the type of a run keeps, so that a run that comes out of a lock is known to be of its stream, of its words and of
     /// its book. It changes nothing.
-    pub fn holds(&self)
+    pub fn shows_fit(&self)
         ensures { RunFits P.side P.table P.mark P.note_of N.plans (table_at N.words)
             (book_at N.books)
             self.now.run self.now.side self.now.note }

@@ -54,7 +54,7 @@ impl<N: Naming, P: ServiceSide, H: Hook> House<N, P, H> {
             ..
         } = self;
         let carried = core.take()?;
-        core.holds();
+        core.shows_core();
         match slots[carried.stream() as usize - 1].leave() {
             Some((side, note)) => Some(Run {
                 alloc: *alloc,
@@ -110,13 +110,13 @@ impl<N: Naming, P: ServiceSide, H: Hook> House<N, P, H> {
         let slot = &mut slots[stream as usize - 1];
         if !core.is_open(stream) {
             core.finish(carried);
-            core.holds();
+            core.shows_core();
             slot.come(side, note);
             return;
         }
         meet(&mut side, &mut note, words);
         core.finish(carried);
-        core.holds();
+        core.shows_core();
         follow(core, hooks);
         let own = &mut results[stream as usize - 1];
         P::count_finish(own, words);
@@ -144,7 +144,7 @@ impl<N: Naming, P: ServiceSide, H: Hook> House<N, P, H> {
         let stream = carried.stream();
         self.values = values;
         self.core.back(carried);
-        self.core.holds();
+        self.core.shows_core();
         self.slots[stream as usize - 1].come(side, note);
     }
 
@@ -176,7 +176,7 @@ impl<N: Naming, P: ServiceSide, H: Hook> House<N, P, H> {
             ..
         } = self;
         core.lose(carried);
-        core.holds();
+        core.shows_core();
         follow(core, hooks);
         slots[stream as usize - 1].come(side, note);
     }

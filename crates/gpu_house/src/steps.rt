@@ -2,7 +2,7 @@
 ghost use Rattle.std.specs.Prelude.{◌≡◌, ℕ, IsTrue, IfOk, OnErr};
 ghost use Rattle.std.specs.List.{All};
 ghost use Rattle.atomic_table.specs.Seated.{TableId};
-ghost use Rattle.gpu_word.specs.Results.{writes_of};
+ghost use Rattle.gpu_word.specs.Results.{writes_listed};
 ghost use Rattle.gpu_fetch.specs.Side.{told_more};
 ghost use Rattle.stream_state.specs.Told.{writes_told};
 ghost use Rattle.gpu_house.specs.Changes.{Same, StillBelongs};
@@ -34,7 +34,7 @@ fn tell<P: ServiceSide>(side: &mut P, results: &mut P::Results, words: &P::Words
     ensures still { StillBelongs P.belongs P.note_belongs words.now side.old side.new }
     ensures table { P.table side.new ≡ P.table side.old }
     ensures written { P.written results.new
-        ≡ told_more (P.written results.old) (writes_of (writes_told acted.now.effect)) }
+        ≡ told_more (P.written results.old) (writes_listed (writes_told acted.now.effect)) }
     ensures takes { (place : ℕ) → P.takes results.new place ≡ P.takes results.old place }
     ensures named { (t : TableId) → P.results_of results.old t → P.results_of results.new t }
     ensures belong { P.results_belong words.now results.new }
@@ -88,14 +88,14 @@ impl<N: Naming, P: ServiceSide, H: Hook> House<N, P, H> {
             Stepped::Closed => return Ok(Progress::without_step(Next::Closed)),
             Stepped::Invalid(error) => {
                 meet(side, note, words);
-                core.holds();
+                core.shows_core();
                 follow(core, hooks);
                 return Ok(Progress::without_step(Next::Invalid(error)));
             }
             Stepped::Done(acted) => acted,
         };
         meet(side, note, words);
-        core.holds();
+        core.shows_core();
         follow(core, hooks);
         let stream = carried.stream();
         tell(side, &mut results[stream as usize - 1], words, &acted);

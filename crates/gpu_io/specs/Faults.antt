@@ -6,8 +6,8 @@ abbrev pub last_count : ℕ
 last_count = 2 ^ 64 - 1
 
 -- the count after one more, which stays at its last value
-abbrev pub one_more : ℕ → ℕ
-one_more count = min (count + 1) last_count
+abbrev pub one_fault_more : ℕ → ℕ
+one_fault_more count = min (count + 1) last_count
 
 -- the count rose, or stands at its last value
 abbrev pub HasRisen : ℕ → ℕ → Type 0

@@ -1,6 +1,6 @@
 -- What sources and sinks in memory are.
 use Rattle.std.specs.Prelude.{◌≡◌, ℕ, ◌-◌, List, length, Contains}
-use Rattle.gpu_io.specs.Faults.{one_more}
+use Rattle.gpu_io.specs.Faults.{one_fault_more}
 
 -- how many calls were made, and the numbers of those that fail
 pub record CallsData : Type 0 where
@@ -9,7 +9,7 @@ pub record CallsData : Type 0 where
 
 -- the same calls, and one more
 abbrev pub with_call : CallsData → CallsData
-with_call calls = record calls { made = one_more calls.made }
+with_call calls = record calls { made = one_fault_more calls.made }
 
 -- the call that was made last is one of those that fail
 abbrev pub IsFailing : CallsData → Type 0

@@ -1,5 +1,5 @@
 ghost use Rattle.std.specs.Prelude.{◌≡◌, ◌≤◌};
-ghost use Rattle.gpu_io.specs.Faults.{one_more, HasRisen};
+ghost use Rattle.gpu_io.specs.Faults.{one_fault_more, HasRisen};
 
 use crate::failed::Failed;
 use std::marker::Model;
@@ -28,7 +28,7 @@ impl Faults {
 
     /// Counts a fault, and gives what to answer.
     pub(crate) fn fail(&mut self) -> Failed
-        ensures counted { self.new ≡ one_more self.old }
+        ensures counted { self.new ≡ one_fault_more self.old }
         ensures risen { HasRisen self.old self.new }
         ensures later { self.old ≤ self.new }
     {

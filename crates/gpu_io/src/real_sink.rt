@@ -1,6 +1,6 @@
 ghost use Rattle.std.specs.Prelude.{◌≡◌, ◌≤◌, ◌<◌, length, take, IfOk, OnOk, OnErr};
 ghost use Rattle.std.specs.Io.KnownBytes.{Appends, Keeps};
-ghost use Rattle.gpu_io.specs.Faults.{one_more, HasRisen};
+ghost use Rattle.gpu_io.specs.Faults.{one_fault_more, HasRisen};
 
 use crate::failed::Failed;
 use crate::faults::Faults;
@@ -52,7 +52,7 @@ impl<W: Write> Sink for RealSink<W> {
             (λ n. Appends self.old.written self.new.written (take n bytes.now)) }
         ensures kept { OnErr result (Keeps self.old.written self.new.written) }
         ensures faultless { OnOk result (self.new.faults ≡ self.old.faults) }
-        ensures fault { OnErr result (self.new.faults ≡ one_more self.old.faults) }
+        ensures fault { OnErr result (self.new.faults ≡ one_fault_more self.old.faults) }
         ensures cause { OnErr result (HasRisen self.old.faults self.new.faults) }
         ensures later { self.old.faults ≤ self.new.faults }
     {

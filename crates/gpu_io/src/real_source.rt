@@ -1,6 +1,6 @@
 ghost use Rattle.std.specs.Prelude.{◌≡◌, ◌≤◌, ◌<◌, length, take, IfOk, OnOk, OnErr};
 ghost use Rattle.std.specs.Io.KnownBytes.{Consumes, IsAtEnd, Keeps};
-ghost use Rattle.gpu_io.specs.Faults.{one_more, HasRisen};
+ghost use Rattle.gpu_io.specs.Faults.{one_fault_more, HasRisen};
 
 use crate::failed::Failed;
 use crate::faults::Faults;
@@ -49,7 +49,7 @@ impl<R: Read> Source for RealSource<R> {
         ensures end { IfOk result (λ n. n ≡ 0 → IsAtEnd self.new.left) }
         ensures kept { OnErr result (Keeps self.old.left self.new.left) }
         ensures faultless { OnOk result (self.new.faults ≡ self.old.faults) }
-        ensures fault { OnErr result (self.new.faults ≡ one_more self.old.faults) }
+        ensures fault { OnErr result (self.new.faults ≡ one_fault_more self.old.faults) }
         ensures cause { OnErr result (HasRisen self.old.faults self.new.faults) }
         ensures later { self.old.faults ≤ self.new.faults }
     {

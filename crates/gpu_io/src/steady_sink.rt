@@ -1,5 +1,5 @@
 ghost use Rattle.std.specs.Prelude.{◌≡◌, ◌≤◌, ◌<◌, ◌↔◌, ◌++◌, [], length, take, min, IsErr, IfOk, OnOk, OnErr};
-ghost use Rattle.gpu_io.specs.Faults.{one_more, HasRisen};
+ghost use Rattle.gpu_io.specs.Faults.{one_fault_more, HasRisen};
 ghost use Rattle.gpu_io.specs.InMemory.{IsFull, free_room};
 
 use crate::bounded::Bounded;
@@ -67,7 +67,7 @@ impl Sink for SteadySink {
 
         ensures room { self.new.written.room ≡ self.old.written.room }
         ensures faultless { OnOk result (self.new.faults ≡ self.old.faults) }
-        ensures fault { OnErr result (self.new.faults ≡ one_more self.old.faults) }
+        ensures fault { OnErr result (self.new.faults ≡ one_fault_more self.old.faults) }
         ensures cause { OnErr result (HasRisen self.old.faults self.new.faults) }
         ensures later { self.old.faults ≤ self.new.faults }
     {

@@ -48,7 +48,7 @@ pub written_then : (p : PlansData) (e : Event) (h : List Event) (s : ℕ) → wr
 unfolding written
 written_then p e h s = refl
 
-last_of_pairs : (i v : ℕ) (pairs : List (ℕ × ℕ)) → results.last_or i v (results.writes_of pairs) ≡ writing.last_written pairs i v
+last_of_pairs : (i v : ℕ) (pairs : List (ℕ × ℕ)) → results.last_or i v (results.writes_listed pairs) ≡ writing.left_by_writes pairs i v
 last_of_pairs i v [] = refl
 last_of_pairs i v (pair ∷ pairs) = last_of_pairs i (if pair.0 == i then pair.1 else v) pairs
 

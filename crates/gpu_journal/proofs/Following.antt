@@ -18,7 +18,7 @@ use Rattle.gpu_journal.specs.declared.event.Event.{Event}
 use Rattle.gpu_journal.specs.declared.event.Event.TheVariants.{Order, Step, Finish, Lost, Close}
 use Rattle.gpu_journal.specs.World.{Known, World, world, stream_in, asked_by, drawn_by, known, known_after, images_after, state_of}
 use Rattle.gpu_journal.specs.Legal.{Obeys, IsLegal}
-use Rattle.gpu_journal.specs.Replaying.{IsWithin, Shows, state_in}
+use Rattle.gpu_journal.specs.Replaying.{IsWithinQuota, Shows, state_in}
 use Rattle.gpu_journal.proofs.Worlds.{world_none, images_then, known_then, step_taken, states_within, known_of_left}
 
 -- ---- the history so far
@@ -147,7 +147,7 @@ plan_here p (suc k) x some at =
 pub record Found (p : PlansData) (h : List Event) (s : ℕ) (words : List (ℕ × ℕ)) (state : State) (areas : Areas) : Type 0 where
   pub state_is : state ≡ state_of p h s
   pub areas_are : areas ≡ (plan_of p s).areas
-  pub within : IsWithin state
+  pub within : IsWithinQuota state
   pub taken : IsTaken areas words state
 
 pub found_here : (p : PlansData) (h : List Event) (s : ℕ) (words : List (ℕ × ℕ)) (images : Pictures) (states : List State) (state : State) (plan : PlanData) (areas : Areas) → Turn p h s words → Shows p h images states
@@ -158,12 +158,12 @@ found_here p h s words images states state plan areas turn shows at slice is law
     let state_is : state ≡ state_of p h s = state_here states s state some inside at ∙ shows.each s in
     let areas_are : areas ≡ (plan_of p s).areas = is ∙ ap (λ (x : PlanData). x.areas) (sym (plan_here p s plan some slice)) in
     let lawful' : IsLawfulAreas (plan_of p s).areas = subst IsLawfulAreas areas_are lawful in
-    let within : IsWithin (state_of p h s) = states_within p h s lawful' turn.legal in
+    let within : IsWithinQuota (state_of p h s) = states_within p h s lawful' turn.legal in
     let taken : IsTaken (plan_of p s).areas words (state_of p h s) = step_taken p h s words lawful' within.bounded turn.obeys in
     record {
       state_is = state_is;
       areas_are = areas_are;
-      within = subst IsWithin (sym state_is) within;
+      within = subst IsWithinQuota (sym state_is) within;
       taken = subst (λ (x : State). IsTaken areas words x) (sym state_is) (subst (λ (a : Areas). IsTaken a words (state_of p h s)) (sym areas_are) taken);
     }
 

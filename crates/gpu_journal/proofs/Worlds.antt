@@ -26,7 +26,7 @@ use Rattle.stream_state.specs.declared.effect.Effect.TheVariants.{Release, Wait,
 use Rattle.gpu_journal.specs.Waits.{deed_asked, deed, sync_of, left_of, IsOpen}
 use Rattle.gpu_journal.specs.Facts.{put_of, verdict_at}
 use Rattle.gpu_journal.specs.Legal.{Obeys, IsLegal}
-use Rattle.gpu_journal.specs.Replaying.{total, IsWithin}
+use Rattle.gpu_journal.specs.Replaying.{total_errors, IsWithinQuota}
 
 -- ---- one event more
 
@@ -42,7 +42,7 @@ pub known_then : (p : PlansData) (e : Event) (h : List Event) (s : ℕ) → know
 unfolding world
 known_then p e h s = refl
 
-pub sync_then : (p : PlansData) (e : Event) (h : List Event) → sync_of p (e ∷ h) ≡ sync.noted (stream_in e) (deed p e (world p h)) (sync_of p h)
+pub sync_then : (p : PlansData) (e : Event) (h : List Event) → sync_of p (e ∷ h) ≡ sync.happened (stream_in e) (deed p e (world p h)) (sync_of p h)
 unfolding sync_of
 sync_then p e h = refl
 
@@ -61,18 +61,18 @@ step_taken p g s words lawful bounded o = by_verdict (verdict_at p g s words) re
 
 -- ---- the states stay bounded, and so do the counts of their errors
 
-one_more : (answer : Answer) (errors : Errors) → total (counted answer errors) ≤ total errors + 1
+one_more : (answer : Answer) (errors : Errors) → total_errors (counted answer errors) ≤ total_errors errors + 1
 one_more Done errors = omega arith
 one_more InvalidValue errors = omega arith
 one_more InvalidOperation errors = omega arith
 one_more OutOfTexels errors = omega arith
 
 -- a step that is taken keeps them so
-pub within_stepped : (areas : Areas) (words : List (ℕ × ℕ)) (state : State) (answer : Answer) → IsLawfulAreas areas → IsWithin state → IsTaken areas words state → IsWithin (noted answer (stepped areas words state))
+pub within_stepped : (areas : Areas) (words : List (ℕ × ℕ)) (state : State) (answer : Answer) → IsLawfulAreas areas → IsWithinQuota state → IsTaken areas words state → IsWithinQuota (noted answer (stepped areas words state))
 within_stepped areas words state answer lawful w taken =
     let next = step_is_bounded areas words state lawful w.bounded taken in
     let some : 1 ≤ length words = (finds areas words state _ _ lawful w.bounded taken.accepted).some in
-    let errors : total (stepped areas words state).errors ≡ total state.errors = ap total (stepped_errors areas words state) in
+    let errors : total_errors (stepped areas words state).errors ≡ total_errors state.errors = ap total_errors (stepped_errors areas words state) in
     let fetched = stepped_fetched areas words state in
     let more = one_more answer (stepped areas words state).errors in
     record {
@@ -80,10 +80,10 @@ within_stepped areas words state answer lawful w taken =
       few = omega (arith, w.few);
     }
 
-after_step : (p : PlansData) (g : List Event) (s : ℕ) (words : List (ℕ × ℕ)) (answer : Answer) → IsLawfulAreas (plan_of p s).areas → IsWithin (state_of p g s) → Obeys p g (Step s words) → IsWithin (noted answer (stepped (plan_of p s).areas words (state_of p g s)))
+after_step : (p : PlansData) (g : List Event) (s : ℕ) (words : List (ℕ × ℕ)) (answer : Answer) → IsLawfulAreas (plan_of p s).areas → IsWithinQuota (state_of p g s) → Obeys p g (Step s words) → IsWithinQuota (noted answer (stepped (plan_of p s).areas words (state_of p g s)))
 after_step p g s words answer lawful w o = within_stepped (plan_of p s).areas words (state_of p g s) answer lawful w (step_taken p g s words lawful w.bounded o)
 
-own_within : (p : PlansData) (h : List Event) (s : ℕ) (e : Event) → IsLawfulAreas (plan_of p s).areas → IsWithin (state_of p h s) → Obeys p h e → stream_in e ≡ s → IsWithin (known_after p e (world p h) (known p h s)).state
+own_within : (p : PlansData) (h : List Event) (s : ℕ) (e : Event) → IsLawfulAreas (plan_of p s).areas → IsWithinQuota (state_of p h s) → Obeys p h e → stream_in e ≡ s → IsWithinQuota (known_after p e (world p h) (known p h s)).state
 own_within p h s (Order t n c) lawful before o same = before
 own_within p h s (Step t words) lawful before o same =
     let here = subst (λ (t : ℕ). Obeys p h (Step t words)) same o in
@@ -92,18 +92,18 @@ own_within p h s (Finish t n) lawful before o same = before
 own_within p h s (Lost t why words) lawful before o same = before
 own_within p h s (Close t) lawful before o same = before
 
-next_within : (p : PlansData) (h : List Event) (s : ℕ) (e : Event) (b : Bool) → (stream_in e == s) ≡ b → IsLawfulAreas (plan_of p s).areas → IsWithin (state_of p h s) → Obeys p h e → IsWithin (if b then known_after p e (world p h) (known p h s) else known p h s).state
+next_within : (p : PlansData) (h : List Event) (s : ℕ) (e : Event) (b : Bool) → (stream_in e == s) ≡ b → IsLawfulAreas (plan_of p s).areas → IsWithinQuota (state_of p h s) → Obeys p h e → IsWithinQuota (if b then known_after p e (world p h) (known p h s) else known p h s).state
 next_within p h s e true same lawful before o = let own : stream_in e ≡ s = grind (arith, nat_tests) in own_within p h s e lawful before o own
 next_within p h s e false other lawful before o = before
 
-pub states_within : (p : PlansData) (h : List Event) (s : ℕ) → IsLawfulAreas (plan_of p s).areas → IsLegal p h → IsWithin (state_of p h s)
-states_within p [] s lawful legal = subst (λ (w : World). IsWithin (w.streams s).state) (sym (world_none p)) (record { bounded = record { fetched = omega arith; entries = omega arith }; few = omega arith })
-states_within p (e ∷ h) s lawful legal = subst (λ (k : Known). IsWithin k.state) (sym (known_then p e h s)) (next_within p h s e (stream_in e == s) refl lawful (states_within p h s lawful legal.1) legal.0)
+pub states_within : (p : PlansData) (h : List Event) (s : ℕ) → IsLawfulAreas (plan_of p s).areas → IsLegal p h → IsWithinQuota (state_of p h s)
+states_within p [] s lawful legal = subst (λ (w : World). IsWithinQuota (w.streams s).state) (sym (world_none p)) (record { bounded = record { fetched = omega arith; entries = omega arith }; few = omega arith })
+states_within p (e ∷ h) s lawful legal = subst (λ (k : Known). IsWithinQuota k.state) (sym (known_then p e h s)) (next_within p h s e (stream_in e == s) refl lawful (states_within p h s lawful legal.1) legal.0)
 
 -- errors that are those of a bounded stream are few
-pub few_errors : (old new : State) → IsWithin old → new.errors ≡ old.errors → total new.errors ≤ 1048576
+pub few_errors : (old new : State) → IsWithinQuota old → new.errors ≡ old.errors → total_errors new.errors ≤ 1048576
 few_errors old new within same =
-    let counts : total new.errors ≡ total old.errors = ap total same in
+    let counts : total_errors new.errors ≡ total_errors old.errors = ap total_errors same in
     let most : old.fetched ≤ 1048576 = within.bounded.fetched in
     omega (arith, within.few)
 
@@ -131,7 +131,7 @@ had_before sync.WasLost n old some = absurd (cc)
 had_before sync.WasClosed n old some = absurd (cc)
 
 -- what an event that draws no number leaves of one is left of an earlier one
-left_before : (s t : ℕ) (b : Bool) (d : Option sync.Deed) (g : List sync.SyncEvent) → (t == s) ≡ b → IsSome (first_order (sync.standing (sync.noted t d g) s).left)
+left_before : (s t : ℕ) (b : Bool) (d : Option sync.Deed) (g : List sync.SyncEvent) → (t == s) ≡ b → IsSome (first_order (sync.standing (sync.happened t d g) s).left)
     → ((deed : sync.Deed) × (d ≡ Some deed) × Draws deed × (t ≡ s)) ⊎ IsSome (first_order (sync.standing g s).left)
 left_before s t b None g e some = inr some
 left_before s t true (Some deed) g e some = ⊎_elim (λ draws. inl (deed, refl, draws, grind (arith, nat_tests))) inr (had_before deed (sync.orders g + 1) (sync.standing g s) (subst (λ (b : Bool). IsSome (first_order (if b then sync.moved deed (sync.orders g + 1) (sync.standing g s) else sync.standing g s).left)) e some))

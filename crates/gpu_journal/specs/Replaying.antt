@@ -7,13 +7,13 @@ use Rattle.gpu_journal.specs.declared.event.Event.{Event}
 use Rattle.gpu_journal.specs.World.{replay, state_of}
 
 -- how many errors there are
-abbrev pub total : Errors → ℕ
-total errors = errors.invalid_value + errors.invalid_operation + errors.out_of_texels
+abbrev pub total_errors : Errors → ℕ
+total_errors errors = errors.invalid_value + errors.invalid_operation + errors.out_of_texels
 
 -- a stream's words are within its quota, and each of its errors stands for at least one of them
-pub record IsWithin (state : State) : Type 0 where
+pub record IsWithinQuota (state : State) : Type 0 where
   pub bounded : IsBounded state
-  pub few : total state.errors ≤ state.fetched
+  pub few : total_errors state.errors ≤ state.fetched
 
 -- the state of stream s among those of the streams from 1 on
 abbrev pub state_in : List State → ℕ → State

@@ -8,7 +8,7 @@ use Rattle.sync_core.specs.declared.wait.Number.{Number}
 use Rattle.sync_core.specs.declared.wait.Wait as waits
 use Rattle.sync_core.specs.declared.ending.Ending.{Ending}
 use Rattle.sync_core.specs.Standing.{Standing, IsKnown, is_open, front_of}
-use Rattle.sync_core.specs.Events.{Deed, Ordered, Waited, Released, Finished, WasLost, WasClosed, SyncEvent, noted, orders, standing}
+use Rattle.sync_core.specs.Events.{Deed, Ordered, Waited, Released, Finished, WasLost, WasClosed, SyncEvent, happened, orders, standing}
 use Rattle.sync_core.specs.Pending.{pending, endings}
 use Rattle.gpu_journal.specs.declared.event.Event.{Event}
 use Rattle.gpu_journal.specs.declared.event.Event.TheVariants.{Order, Step, Finish, Lost, Close}
@@ -32,7 +32,7 @@ deed p (Close s) world = Some WasClosed
 -- the sync events of a history
 unfoldable pub sync_of : PlansData → List Event → List SyncEvent
 sync_of p [] = []
-sync_of p (e ∷ h) = noted (stream_in e) (deed p e (world p h)) (sync_of p h)
+sync_of p (e ∷ h) = happened (stream_in e) (deed p e (world p h)) (sync_of p h)
 
 -- what is known of the order numbers of stream s
 abbrev pub standing_of : PlansData → List Event → ℕ → Standing

@@ -50,9 +50,9 @@ drawn_by (Pixels op) images = apply images op
 drawn_by _ images = record { answer = Done; images = images }
 
 -- the tokens after what a step asks
-abbrev pub with_token : Effect → List ℕ → List ℕ
-with_token (Token token) tokens = token ∷ tokens
-with_token _ tokens = tokens
+abbrev pub tokens_after : Effect → List ℕ → List ℕ
+tokens_after (Token token) tokens = token ∷ tokens
+tokens_after _ tokens = tokens
 
 -- the greatest of them after what a step asks
 abbrev pub greatest_after : Effect → ℕ → ℕ
@@ -63,7 +63,7 @@ greatest_after _ greatest = greatest
 abbrev pub known_after_step : PlansData → ℕ → List (ℕ × ℕ) → Effect → Applied → Known → Known
 known_after_step p s words effect applied old = record old {
   state = noted applied.answer (stepped (plan_of p s).areas words old.state);
-  tokens = with_token effect old.tokens;
+  tokens = tokens_after effect old.tokens;
 }
 
 -- the facts of a stream after an event of it

@@ -9,7 +9,7 @@ use Rattle.gpu_journal.specs.World.{stream_in, state_of}
 
 -- what an event of stream s writes: a step its writes in rising order of places, a finish one finish
 abbrev pub written_by : PlansData → List Event → ℕ → Event → List results.Written
-written_by p g s (Step t taken) = results.writes_of (writes (plan_of p s).areas taken (state_of p g s))
+written_by p g s (Step t taken) = results.writes_listed (writes (plan_of p s).areas taken (state_of p g s))
 written_by p g s (Finish t n) = results.Finish ∷ []
 written_by p g s _ = []
 

@@ -8,7 +8,7 @@ ghost use Rattle.stream_state.specs.Steps.{values_of, header_in, command_in, eff
 ghost use Rattle.stream_state.specs.Laws.{IsTaken};
 ghost use Rattle.gpu_journal.specs.World.{drawn_by, replay};
 ghost use Rattle.gpu_journal.specs.Legal.{IsLegal};
-ghost use Rattle.gpu_journal.specs.Replaying.{IsWithin};
+ghost use Rattle.gpu_journal.specs.Replaying.{IsWithinQuota};
 
 use crate::event::Event;
 use gpu_cmd::{Areas, Command, command_of};
@@ -40,7 +40,7 @@ fn execute(
 ) -> Result<(), Memory>
     requires lawful { IsLawfulAreas areas.now }
     requires taken { IsTaken areas.now words.now state.old }
-    requires within { IsWithin state.old }
+    requires within { IsWithinQuota state.old }
     ensures images { OnOk result
         (images.new ≡ (drawn_by (effect areas.now words.now state.old) images.old).images) }
     ensures state { OnOk result

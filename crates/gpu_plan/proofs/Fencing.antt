@@ -17,7 +17,7 @@ use Rattle.gpu_plan.specs.declared.plan.Action.TheVariants.{Put, Flush, Finish, 
 use Rattle.gpu_plan.specs.Plans.{HasFewFences}
 use Rattle.gpu_plan.specs.Adding.{puts}
 use Rattle.gpu_plan.specs.Renumbered.{renumbered_fence, renumbered_note, renumbered_action}
-use Rattle.gpu_plan.specs.Fencing.{fences_in, noted, fenced_from, noted_at, IsBefore, Rise}
+use Rattle.gpu_plan.specs.Fencing.{fences_in, noted_fences, fenced_from, noted_at, IsBefore, Rise}
 use Rattle.gpu_plan.proofs.Partly.{partly, partly_long, partly_at}
 
 abbrev Notes : Type 0
@@ -25,11 +25,11 @@ Notes = List (ℕ × List (ℕ × ℕ))
 
 -- ---- what is noted of a place
 
-skips : (k at : ℕ) (fences : List (ℕ × ℕ)) (rest : Notes) → (at == k) ≡ false → noted_at k (noted at fences ++ rest) ≡ noted_at k rest
+skips : (k at : ℕ) (fences : List (ℕ × ℕ)) (rest : Notes) → (at == k) ≡ false → noted_at k (noted_fences at fences ++ rest) ≡ noted_at k rest
 skips k at [] rest other = refl
 skips k at (fence ∷ fences) rest other = ap (λ b. cond b (fence ∷ fences) (noted_at k rest)) other
 
-finds : (k at : ℕ) (fences : List (ℕ × ℕ)) (rest : Notes) → (at == k) ≡ true → noted_at k rest ≡ [] → noted_at k (noted at fences ++ rest) ≡ fences
+finds : (k at : ℕ) (fences : List (ℕ × ℕ)) (rest : Notes) → (at == k) ≡ true → noted_at k rest ≡ [] → noted_at k (noted_fences at fences ++ rest) ≡ fences
 finds k at [] rest same none = none
 finds k at (fence ∷ fences) rest same none = ap (λ b. cond b (fence ∷ fences) (noted_at k rest)) same
 
@@ -55,7 +55,7 @@ noted_here place fenced actions is =
 abbrev AheadOf : ℕ → ℕ × List (ℕ × ℕ) → Type 0
 AheadOf i next = i < next.0
 
-later_note : (i j : ℕ) (fences : List (ℕ × ℕ)) (rest : Notes) → i < j → All (AheadOf i) rest → All (AheadOf i) (noted j fences ++ rest)
+later_note : (i j : ℕ) (fences : List (ℕ × ℕ)) (rest : Notes) → i < j → All (AheadOf i) rest → All (AheadOf i) (noted_fences j fences ++ rest)
 later_note i j [] rest less h = h
 later_note i j (fence ∷ fences) rest less h = All-cons (AheadOf i) (j, fence ∷ fences) rest less h
 
@@ -63,7 +63,7 @@ later : (i j : ℕ) (actions : List Action) → i < j → All (AheadOf i) (fence
 later i j [] less = All-nil (AheadOf i)
 later i j (action ∷ actions) less = later_note i j (fences_in (Some action)) (fenced_from (j + 1) actions) less (later i (j + 1) actions (omega arith))
 
-rise_note : (j : ℕ) (fences : List (ℕ × ℕ)) (rest : Notes) → All (AheadOf j) rest → Rise rest → Rise (noted j fences ++ rest)
+rise_note : (j : ℕ) (fences : List (ℕ × ℕ)) (rest : Notes) → All (AheadOf j) rest → Rise rest → Rise (noted_fences j fences ++ rest)
 rise_note j [] rest ahead h = h
 rise_note j (fence ∷ fences) rest ahead h = AllPairs-cons IsBefore (j, fence ∷ fences) rest ahead h
 
@@ -116,8 +116,8 @@ behind : (j : ℕ) (old more : List Action) → fenced_from j (old ++ more) ≡ 
 behind j [] more = let same : j ≡ j + 0 = omega arith in ap (λ n. fenced_from n more) same
 behind j (action ∷ old) more =
     let further : j + 1 + length old ≡ j + suc (length old) = omega arith in
-    ap (λ notes. noted j (fences_in (Some action)) ++ notes) (behind (j + 1) old more ∙ ap (λ n. fenced_from (j + 1) old ++ fenced_from n more) further)
-    ∙ sym (append_assoc (noted j (fences_in (Some action))) (fenced_from (j + 1) old) (fenced_from (j + suc (length old)) more))
+    ap (λ notes. noted_fences j (fences_in (Some action)) ++ notes) (behind (j + 1) old more ∙ ap (λ n. fenced_from (j + 1) old ++ fenced_from n more) further)
+    ∙ sym (append_assoc (noted_fences j (fences_in (Some action))) (fenced_from (j + 1) old) (fenced_from (j + suc (length old)) more))
 
 all_behind : (old more : List Action) → fenced_from 0 (old ++ more) ≡ fenced_from 0 old ++ fenced_from (length old) more
 all_behind old more =
@@ -138,13 +138,13 @@ puts_unfenced k place (value ∷ values) = puts_unfenced (k + 1) (place + 1) val
 pub one_unfenced : (k : ℕ) (action : Action) → fences_in (Some action) ≡ [] → fenced_from k (action ∷ []) ≡ []
 one_unfenced k action none = rw none refl
 
-one_noted : (k : ℕ) (fences : List (ℕ × ℕ)) → (fences ≡ [] → ⊥) → noted k fences ≡ (k, fences) ∷ []
+one_noted : (k : ℕ) (fences : List (ℕ × ℕ)) → (fences ≡ [] → ⊥) → noted_fences k fences ≡ (k, fences) ∷ []
 one_noted k [] some = absurd (some refl)
 one_noted k (fence ∷ fences) some = refl
 
 pub notes_grow : (fenced grown : Notes) (old new : List Action) (at put : ℕ) (fences : List (ℕ × ℕ)) → fenced ≡ fenced_from 0 old → (fences ≡ [] → ⊥) → at ≡ length old → new ≡ old ++ Flush put fences ∷ [] → grown ≡ fenced ++ (at, fences) ∷ [] → grown ≡ fenced_from 0 new
 notes_grow fenced grown old new at put fences is some there added longer =
-    let one : fenced_from (length old) (Flush put fences ∷ []) ≡ (length old, fences) ∷ [] = with_nothing (noted (length old) fences) [] refl ∙ one_noted (length old) fences some in
+    let one : fenced_from (length old) (Flush put fences ∷ []) ≡ (length old, fences) ∷ [] = with_nothing (noted_fences (length old) fences) [] refl ∙ one_noted (length old) fences some in
     longer ∙ ap (λ n. fenced ++ (n, fences) ∷ []) there ∙ ap (λ notes. notes ++ (length old, fences) ∷ []) is ∙ sym (ap (fenced_from 0) added ∙ all_behind old (Flush put fences ∷ []) ∙ ap (λ notes. fenced_from 0 old ++ notes) one)
 
 -- fences that are not empty, as a test of their length says
@@ -180,17 +180,17 @@ module _ (numbers : List ℕ) where
       let bare : fences ≡ [] = none_moved fences (ap (λ (a : Action). map (renumbered_fence numbers) (fences_in (Some a))) (sym is) ∙ none) in
       ap (Flush put) (bare ∙ sym (ap (map (renumbered_fence numbers)) bare)) ∙ ap (renumbered_action numbers) (sym is)
 
-  note_moved : (k : ℕ) (fences : List (ℕ × ℕ)) → noted k (map (renumbered_fence numbers) fences) ≡ map (renumbered_note numbers) (noted k fences)
+  note_moved : (k : ℕ) (fences : List (ℕ × ℕ)) → noted_fences k (map (renumbered_fence numbers) fences) ≡ map (renumbered_note numbers) (noted_fences k fences)
   note_moved k [] = refl
   note_moved k (fence ∷ fences) = refl
 
   notes_moved : (k : ℕ) (actions : List Action) → fenced_from k (map (renumbered_action numbers) actions) ≡ map (renumbered_note numbers) (fenced_from k actions)
   notes_moved k [] = refl
   notes_moved k (action ∷ actions) =
-      ap (λ fences. noted k fences ++ fenced_from (k + 1) (map (renumbered_action numbers) actions)) (fences_moved action)
+      ap (λ fences. noted_fences k fences ++ fenced_from (k + 1) (map (renumbered_action numbers) actions)) (fences_moved action)
       ∙ ap (λ notes. notes ++ fenced_from (k + 1) (map (renumbered_action numbers) actions)) (note_moved k (fences_in (Some action)))
-      ∙ ap (λ notes. map (renumbered_note numbers) (noted k (fences_in (Some action))) ++ notes) (notes_moved (k + 1) actions)
-      ∙ sym (map-append (renumbered_note numbers) (noted k (fences_in (Some action))) (fenced_from (k + 1) actions))
+      ∙ ap (λ notes. map (renumbered_note numbers) (noted_fences k (fences_in (Some action))) ++ notes) (notes_moved (k + 1) actions)
+      ∙ sym (map-append (renumbered_note numbers) (noted_fences k (fences_in (Some action))) (fenced_from (k + 1) actions))
 
   pub moved_here : (fenced : Notes) (actions : List Action) → fenced ≡ map (renumbered_note numbers) (fenced_from 0 actions) → fenced ≡ fenced_from 0 (map (renumbered_action numbers) actions)
   moved_here fenced actions is = is ∙ sym (notes_moved 0 actions)

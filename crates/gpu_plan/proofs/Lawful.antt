@@ -12,7 +12,7 @@ use Rattle.gpu_cmd.specs.Lawful.{IsLawfulAreas, places_of}
 use Rattle.gpu_cmd.specs.Spans.{AreTiles, span_at}
 use Rattle.gpu_cmd.specs.declared.areas.Span.{Span}
 use Rattle.gpu_plan.specs.declared.plan.Action.{Action}
-use Rattle.script_lines.specs.Numbers.{number_of, value_of}
+use Rattle.script_lines.specs.Numbers.{number_said, value_of}
 use Rattle.gpu_plan.specs.Plans.{IsWithin, HasFewFences, stays_open, is_closed, IsLawfulPlan, ring_alone}
 use Rattle.gpu_plan.specs.Adding.{puts}
 
@@ -24,7 +24,7 @@ below_limit true value limit small some = small refl
 below_limit false value limit small some = some
 
 value_small : (word : List ℕ) → value_of word < 2 ^ 32
-unfolding number_of
+unfolding number_said
 value_small word = below_limit _ (digits_value 16 word) (2 ^ 32) (λ passes. ltb-true _ _ (and_parts _ (nat_lt (digits_value 16 word) (2 ^ 32)) passes).1) (lit< tt)
 
 pub length-puts : (place : ℕ) (values : List ℕ) → length (puts place values) ≡ length values

@@ -3,7 +3,7 @@ use Rattle.std.proofs.Common.{◌≡◌, ℕ, ◌+◌, Bool, true, false, cond, 
 use Rattle.script_lines.specs.Text.{lines_of, words_of}
 use Rattle.script_lines.specs.declared.fault.Kind.{Kind}
 use Rattle.script_lines.specs.Outcome.{◌>>=◌}
-use Rattle.script_lines.specs.Naming.{names_of}
+use Rattle.script_lines.specs.Naming.{fence_names}
 use Rattle.gpu_cmd.specs.declared.name.Name.{Name}
 use Rattle.gpu_plan.specs.Plans.{PlansData}
 use Rattle.gpu_plan.specs.Named.{names_in, AreLawfulNames}
@@ -28,7 +28,7 @@ body_named version names n d (line ∷ lines) lawful =
 version_named : (version : Option ℕ) (n : ℕ) (lines : List (List (List ℕ))) → IfOk (from_version version n lines) AreNamed
 unfolding from_version
 version_named None n lines = tt
-version_named (Some version) n lines = body_named version (names_of version lines) (n + 1) no_stream lines (lawful_none version)
+version_named (Some version) n lines = body_named version (fence_names version lines) (n + 1) no_stream lines (lawful_none version)
 
 -- what either of two answers tells, the one that is taken tells
 pub either : (P : PlansData → Type 0) (b : Bool) (r s : Result PlansData (ℕ × Kind)) → IfOk r P → IfOk s P → IfOk (cond b r s) P

@@ -14,7 +14,7 @@ use Rattle.script_lines.specs.declared.keyword.Keyword.{Keyword}
 use Rattle.script_lines.specs.declared.keyword.Keyword.TheVariants.{StreamLine, MemoryLine, ResultsLine, PutLine, FillLine, FlushLine, FinishLine, TokenLine, CloseLine, DumpLine}
 use Rattle.script_lines.specs.Outcome.{◌>>=◌, or_error, at_line, FailsAt}
 use Rattle.script_lines.specs.Said.{keyword_of, flush_said}
-use Rattle.script_lines.specs.Naming.{named_in, names_of}
+use Rattle.script_lines.specs.Naming.{named_in, fence_names}
 use Rattle.script_lines.specs.Mentioned.{mentioned_behind}
 use Rattle.script_lines.proofs.Steps.{shown_by, shown_step, test_step}
 use Rattle.script_lines.proofs.Moved.{moved, moved_flush, flush_moved}
@@ -140,7 +140,7 @@ unfolding mentioned_in
 none_in version names [] one = refl
 none_in version names (line ∷ lines) one = ap (λ ns. mentioned_in version ns lines) (none_on version names line one) ∙ none_in version names lines one
 
-one_means : (version n : ℕ) (lines : List (List (List ℕ))) → (version == 2) ≡ false → from_body version (names_of version lines) n no_stream lines ≡ shown_by (renumbered_script version (mentioned_in version [] lines)) (from_body version (mentioned_in version [] lines) n no_stream lines)
+one_means : (version n : ℕ) (lines : List (List (List ℕ))) → (version == 2) ≡ false → from_body version (fence_names version lines) n no_stream lines ≡ shown_by (renumbered_script version (mentioned_in version [] lines)) (from_body version (mentioned_in version [] lines) n no_stream lines)
 one_means version n lines one =
     let none = none_in version [] lines one in
     ap (λ two. from_body version (cond two (named_in [] lines) []) n no_stream lines) one
@@ -151,13 +151,13 @@ one_means version n lines one =
     by_answer (Ok script) = ap (λ two. Ok (record script { plans = cond two (map (renumbered_plan (numbers_of script.plans (mentioned_in version [] lines))) script.plans) script.plans })) (sym one)
     by_answer (Err k) = refl
 
-pub means : (version n : ℕ) (lines : List (List (List ℕ))) → from_body version (names_of version lines) n no_stream lines ≡ shown_by (renumbered_script version (mentioned_in version [] lines)) (from_body version (mentioned_in version [] lines) n no_stream lines)
+pub means : (version n : ℕ) (lines : List (List (List ℕ))) → from_body version (fence_names version lines) n no_stream lines ≡ shown_by (renumbered_script version (mentioned_in version [] lines)) (from_body version (mentioned_in version [] lines) n no_stream lines)
 means version n lines = by_version (version == 2) refl
   where
-    by_version : (two : Bool) → (version == 2) ≡ two → from_body version (names_of version lines) n no_stream lines ≡ shown_by (renumbered_script version (mentioned_in version [] lines)) (from_body version (mentioned_in version [] lines) n no_stream lines)
+    by_version : (two : Bool) → (version == 2) ≡ two → from_body version (fence_names version lines) n no_stream lines ≡ shown_by (renumbered_script version (mentioned_in version [] lines)) (from_body version (mentioned_in version [] lines) n no_stream lines)
     by_version true e = let is : version ≡ 2 = grind (arith, nat_tests) in rw is (two_means n lines)
     by_version false e = one_means version n lines e
 
-pub fails : (fault : ScriptFault) (version n : ℕ) (lines : List (List (List ℕ))) → FailsAt fault (from_body version (mentioned_in version [] lines) n no_stream lines) → FailsAt fault (from_body version (names_of version lines) n no_stream lines)
+pub fails : (fault : ScriptFault) (version n : ℕ) (lines : List (List (List ℕ))) → FailsAt fault (from_body version (mentioned_in version [] lines) n no_stream lines) → FailsAt fault (from_body version (fence_names version lines) n no_stream lines)
 fails faults.Memory version n lines h = tt
 fails (faults.Refused at kind) version n lines h = means version n lines ∙ ap (shown_by (renumbered_script version (mentioned_in version [] lines))) h

@@ -12,7 +12,7 @@ use Rattle.script_lines.specs.declared.keyword.Keyword.{Keyword}
 use Rattle.script_lines.specs.declared.keyword.Keyword.TheVariants.{StreamLine, MemoryLine, ResultsLine, PutLine, FillLine, FlushLine, FinishLine, TokenLine, CloseLine, DumpLine}
 use Rattle.script_lines.specs.Outcome.{◌>>=◌, or_error, at_line}
 use Rattle.script_lines.specs.Said.{keyword_of, named_said}
-use Rattle.script_lines.specs.Naming.{told, named_on, named_in}
+use Rattle.script_lines.specs.Naming.{names_with, named_on, named_in}
 use Rattle.gpu_plan.specs.Plans.{PlanData, PlansData, is_of, number_of}
 use Rattle.gpu_plan.specs.Named.{names_in}
 use Rattle.gpu_plan.specs.Adding.{Draft, streams, with_stream, with_line}
@@ -60,7 +60,7 @@ remark_is_none (c ∷ cs) e = let here : c ≡ 35 = grind (arith, nat_tests) in 
 
 -- ---- lines
 
-begun_told : (words : List (List ℕ)) (d e : Draft) → with_stream 2 words d ≡ Ok e → names_in (streams e) ≡ told (names_in (streams d)) (named_said words)
+begun_told : (words : List (List ℕ)) (d e : Draft) → with_stream 2 words d ≡ Ok e → names_in (streams e) ≡ names_with (names_in (streams d)) (named_said words)
 begun_told words d e h =
     let begins = stream_begins 2 words d e h in
     begins.names ∙ rw (begins.is, begins.new) refl

@@ -58,8 +58,8 @@ puts place [] = []
 puts place (value ∷ values) = Put place value ∷ puts (place + 1) values
 
 -- the draft with some actions added to the stream begun last, where it may still act
-unfoldable pub acted : List Action → Draft → Result Draft Kind
-acted actions d = do
+unfoldable pub with_actions : List Action → Draft → Result Draft Kind
+with_actions actions d = do
   last ← acting d
   added actions last d
 

@@ -9,14 +9,14 @@ fences_in (Some (Flush put fences)) = fences
 fences_in _ = []
 
 -- what is noted of the fences of an action at place k: nothing where it has none
-abbrev pub noted : ℕ → List (ℕ × ℕ) → List (ℕ × List (ℕ × ℕ))
-noted k [] = []
-noted k (fence ∷ fences) = (k, fence ∷ fences) ∷ []
+abbrev pub noted_fences : ℕ → List (ℕ × ℕ) → List (ℕ × List (ℕ × ℕ))
+noted_fences k [] = []
+noted_fences k (fence ∷ fences) = (k, fence ∷ fences) ∷ []
 
 -- what is noted of the flushes among actions of which the first has place k
 abbrev pub fenced_from : ℕ → List Action → List (ℕ × List (ℕ × ℕ))
 fenced_from k [] = []
-fenced_from k (action ∷ actions) = noted k (fences_in (Some action)) ++ fenced_from (k + 1) actions
+fenced_from k (action ∷ actions) = noted_fences k (fences_in (Some action)) ++ fenced_from (k + 1) actions
 
 -- the fences that are noted of a place
 abbrev pub noted_at : ℕ → List (ℕ × List (ℕ × ℕ)) → List (ℕ × ℕ)

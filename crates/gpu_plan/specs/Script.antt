@@ -6,7 +6,7 @@ use Rattle.script_lines.specs.declared.fault.Kind.TheVariants.{Head}
 use Rattle.script_lines.specs.Outcome.{◌>>=◌, at_line}
 use Rattle.gpu_plan.specs.Plans.{PlansData}
 use Rattle.gpu_cmd.specs.declared.name.Name.{Name}
-use Rattle.script_lines.specs.Naming.{names_of}
+use Rattle.script_lines.specs.Naming.{fence_names}
 use Rattle.gpu_plan.specs.Adding.{Draft, no_stream, streams, with_line}
 
 -- a word that begins with '#'
@@ -46,7 +46,7 @@ from_body version names n d (line ∷ lines) = do
 -- the lines after a line of this number, which says this version or is no head line
 unfoldable pub from_version : Option ℕ → ℕ → List (List (List ℕ)) → Result PlansData (ℕ × Kind)
 from_version None n lines = Err (n, Head)
-from_version (Some version) n lines = from_body version (names_of version lines) (n + 1) no_stream lines
+from_version (Some version) n lines = from_body version (fence_names version lines) (n + 1) no_stream lines
 
 -- the first line that is not skipped is the head line
 unfoldable pub from_head : ℕ → List (List (List ℕ)) → Result PlansData (ℕ × Kind)

@@ -3,7 +3,7 @@ ghost use Rattle.gpu_cmd.specs.Lawful.{IsLawfulAreas, places_of};
 ghost use Rattle.gpu_plan.specs.Plans.{IsWithin, is_flush};
 ghost use Rattle.script_lines.specs.Outcome.{Gives, or_error};
 ghost use Rattle.script_lines.specs.declared.fault.Kind.TheVariants.{Order};
-ghost use Rattle.gpu_plan.specs.Adding.{acting, fresh, acted, flushed, dumped, area_of};
+ghost use Rattle.gpu_plan.specs.Adding.{acting, fresh, with_actions, flushed, dumped, area_of};
 ghost use Rattle.gpu_plan.specs.Fencing.{fences_in};
 ghost use Rattle.gpu_plan.specs.Drafts.{shown, begun, Becomes, WerePut, WereRefused, TellsWhy};
 
@@ -76,12 +76,12 @@ impl Draft {
     }
 
     /// Adds an action, which is neither a put nor a flush.
-    #[tactic(auto, unfolding(crate::specs::Adding::acted, crate::specs::Adding::acting, crate::specs::Adding::added))]
+    #[tactic(auto, unfolding(crate::specs::Adding::with_actions, crate::specs::Adding::acting, crate::specs::Adding::added))]
     pub(crate) fn act(&mut self, action: Action) -> Result<(), LineError>
         requires within { (places : ℕ) → IsWithin places action }
         requires unfenced { fences_in (Some action) ≡ [] }
         requires other { is_flush action ≡ false }
-        ensures { Becomes self.new result (acted (action ∷ []) (shown self.old)) }
+        ensures { Becomes self.new result (with_actions (action ∷ []) (shown self.old)) }
     {
         let Some(plan) = &mut self.last else {
             return Err(LineError::Refused(Kind::Order));

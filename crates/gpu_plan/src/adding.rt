@@ -194,7 +194,7 @@ fn with_flush(
     draft.flush(put, fences)
 }
 
-#[tactic(auto, unfolding(crate::specs::Adding::with_finish, crate::specs::Adding::acted))]
+#[tactic(auto, unfolding(crate::specs::Adding::with_finish, crate::specs::Adding::with_actions))]
 fn with_finish(words: Words<'_>, draft: &mut Draft) -> Result<(), LineError>
     ensures { Becomes draft.new result (with_finish (words_left words.entry) (shown draft.old)) }
 {
@@ -202,7 +202,7 @@ fn with_finish(words: Words<'_>, draft: &mut Draft) -> Result<(), LineError>
     draft.act(Action::Finish)
 }
 
-#[tactic(auto, unfolding(crate::specs::Adding::with_token, crate::specs::Adding::acted))]
+#[tactic(auto, unfolding(crate::specs::Adding::with_token, crate::specs::Adding::with_actions))]
 fn with_token(words: Words<'_>, draft: &mut Draft) -> Result<(), LineError>
     ensures { Becomes draft.new result (with_token (words_left words.entry) (shown draft.old)) }
 {
@@ -210,7 +210,7 @@ fn with_token(words: Words<'_>, draft: &mut Draft) -> Result<(), LineError>
     draft.act(Action::Token { token })
 }
 
-#[tactic(auto, unfolding(crate::specs::Adding::with_close, crate::specs::Adding::acted))]
+#[tactic(auto, unfolding(crate::specs::Adding::with_close, crate::specs::Adding::with_actions))]
 fn with_close(words: Words<'_>, draft: &mut Draft) -> Result<(), LineError>
     ensures { Becomes draft.new result (with_close (words_left words.entry) (shown draft.old)) }
 {

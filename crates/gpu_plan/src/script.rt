@@ -1,7 +1,7 @@
 ghost use Rattle.std.specs.Prelude.{◌≡◌, ◌+◌, ◌<◌, ◌≤◌, ◌^◌, length, map, IfSome, OnOk};
 ghost use Rattle.script_lines.specs.Text.{lines_of, words_of};
 ghost use Rattle.script_lines.specs.Outcome.{GivesScript};
-ghost use Rattle.script_lines.specs.Naming.{names_of};
+ghost use Rattle.script_lines.specs.Naming.{fence_names};
 ghost use Rattle.gpu_plan.specs.Mentioning.{mentioned_on};
 ghost use Rattle.gpu_plan.specs.Script.{is_remark, is_skipped, version_named, version_of, numbered, from_body, from_version, from_head, script_of};
 ghost use Rattle.gpu_plan.specs.Named.{IsVersion};
@@ -97,7 +97,7 @@ fn from_body(
     requires long { first + length (lines_of lines.rest.now) < 2 ^ 32 }
     ensures { GivesScript (λ plans. plans) result
         (from_body version
-        (names_of version (map words_of (lines_of lines.entry.rest.now))) first no_stream
+        (fence_names version (map words_of (lines_of lines.entry.rest.now))) first no_stream
         (map words_of (lines_of lines.entry.rest.now))) }
 {
     let mut mentioned = Names::new(alloc);

@@ -15,7 +15,7 @@ use Rattle.gpu_journal.specs.Serial.{count, order_event, run_event}
 use Rattle.gpu_journal.proofs.Folding.{state_keeps_results}
 use Rattle.serial_laws.proofs.First.{nat_cases}
 use Rattle.gpu_house.proofs.Writings.{written_other, written_none}
-use Rattle.gpu_run.specs.Clients.{ClientData, fresh_client, no_client, client_at, done_at}
+use Rattle.gpu_run.specs.Clients.{RunClientData, fresh_run_client, no_client, client_of_stream, done_at}
 use Rattle.gpu_run.specs.Dumps.{dump_read, dumps_read}
 use Rattle.gpu_run.specs.Reading.{dump_now, read_with, read_left, HasRead, HaveRead}
 use Rattle.gpu_run.specs.Rounds.{GoesFurther, IsRising}
@@ -25,15 +25,15 @@ use Rattle.gpu_run.proofs.Turns.{IsRun, run_is_run}
 
 -- ---- one event more
 
-found_on : (p : PlansData) (e : Event) (h g : List Event) (clients : List ClientData) → g ≡ e ∷ h → ((t : ℕ) → (written p (e ∷ h) t ≡ written p h t) ⊎ (count p h t ≤ done_at clients t)) → HaveRead p h clients → HaveRead p g clients
-found_on p e h g clients is quiet old = subst (λ (x : List Event). HaveRead p x clients) (sym is) (λ t k. read_on p e h t (done_at clients t) (client_at clients t).read (quiet t) (old t k))
+found_on : (p : PlansData) (e : Event) (h g : List Event) (clients : List RunClientData) → g ≡ e ∷ h → ((t : ℕ) → (written p (e ∷ h) t ≡ written p h t) ⊎ (count p h t ≤ done_at clients t)) → HaveRead p h clients → HaveRead p g clients
+found_on p e h g clients is quiet old = subst (λ (x : List Event). HaveRead p x clients) (sym is) (λ t k. read_on p e h t (done_at clients t) (client_of_stream clients t).read (quiet t) (old t k))
 
 -- an order
-pub found_ordered : (p : PlansData) (h g : List Event) (s : ℕ) (clients : List ClientData) → g ≡ order_event p h s ∷ h → HaveRead p h clients → HaveRead p g clients
+pub found_ordered : (p : PlansData) (h g : List Event) (s : ℕ) (clients : List RunClientData) → g ≡ order_event p h s ∷ h → HaveRead p h clients → HaveRead p g clients
 found_ordered p h g s clients is = found_on p (order_event p h s) h g clients is (λ t. inl (written_none p (order_event p h s) h t refl))
 
 -- a close
-pub found_closed : (p : PlansData) (h g : List Event) (s : ℕ) (clients : List ClientData) → g ≡ Close s ∷ h → HaveRead p h clients → HaveRead p g clients
+pub found_closed : (p : PlansData) (h g : List Event) (s : ℕ) (clients : List RunClientData) → g ≡ Close s ∷ h → HaveRead p h clients → HaveRead p g clients
 found_closed p h g s clients is = found_on p (Close s) h g clients is (λ t. inl (written_none p (Close s) h t refl))
 
 is_in : (e : Event) (s : ℕ) → IsRun e s → stream_in e ≡ s
@@ -44,7 +44,7 @@ is_in (Lost t why words) s r = r
 is_in (Close t) s r = absurd r
 
 -- what a run does, whose client has done all that it could
-pub found_after : (p : PlansData) (h g : List Event) (clients : List ClientData) (s : ℕ) → g ≡ run_event p h s ∷ h → done_at clients s ≡ count p h s → HaveRead p h clients → HaveRead p g clients
+pub found_after : (p : PlansData) (h g : List Event) (clients : List RunClientData) (s : ℕ) → g ≡ run_event p h s ∷ h → done_at clients s ≡ count p h s → HaveRead p h clients → HaveRead p g clients
 found_after p h g clients s is there = found_on p (run_event p h s) h g clients is (λ t. by t (nat_cases t s))
   where
     by : (t : ℕ) → (t ≡ s) ⊎ (t ≢ s) → (written p (run_event p h s ∷ h) t ≡ written p h t) ⊎ (count p h t ≤ done_at clients t)
@@ -65,37 +65,37 @@ told_all p h s (dump ∷ dumps) =
     ap (λ (x : ℕ × ℕ × ℕ). x ∷ map (dump_now (result_of (state_of p h s))) dumps) one ∙ ap (λ (l : List (ℕ × ℕ × ℕ)). dump_now (result_at p h s) dump ∷ l) (told_all p h s dumps)
 
 -- what the code reads at an action, of the client of stream s
-pub read_is : (p : PlansData) (h : List Event) (clients : List ClientData) (s : ℕ) (client : ClientData) (plan : PlanData) (state : State) (read new : List (ℕ × ℕ × ℕ)) → client ≡ client_at clients s → plan_of p s ≡ plan → state ≡ state_of p h s → new ≡ read → read ≡ client.read ++ read_with (slice_get plan.dumps (length client.read)) client.words.done (result_of state)
-    → new ≡ (client_at clients s).read ++ read_with (slice_get (plan_of p s).dumps (length (client_at clients s).read)) (done_at clients s) (result_at p h s)
+pub read_is : (p : PlansData) (h : List Event) (clients : List RunClientData) (s : ℕ) (client : RunClientData) (plan : PlanData) (state : State) (read new : List (ℕ × ℕ × ℕ)) → client ≡ client_of_stream clients s → plan_of p s ≡ plan → state ≡ state_of p h s → new ≡ read → read ≡ client.read ++ read_with (slice_get plan.dumps (length client.read)) client.words.done (result_of state)
+    → new ≡ (client_of_stream clients s).read ++ read_with (slice_get (plan_of p s).dumps (length (client_of_stream clients s).read)) (done_at clients s) (result_at p h s)
 read_is p h clients s client plan state read new here its_plan told same is =
     same ∙ is
     ∙ ap (λ (x : State). client.read ++ read_with (slice_get plan.dumps (length client.read)) client.words.done (result_of x)) told
     ∙ ap (λ (l : List (ℕ × ℕ × ℕ)). client.read ++ l) (told_with p h s client.words.done (slice_get plan.dumps (length client.read)))
-    ∙ ap (λ (c : ClientData). c.read ++ read_with (slice_get plan.dumps (length c.read)) c.words.done (result_at p h s)) here
-    ∙ ap (λ (q : PlanData). (client_at clients s).read ++ read_with (slice_get q.dumps (length (client_at clients s).read)) (done_at clients s) (result_at p h s)) (sym its_plan)
+    ∙ ap (λ (c : RunClientData). c.read ++ read_with (slice_get plan.dumps (length c.read)) c.words.done (result_at p h s)) here
+    ∙ ap (λ (q : PlanData). (client_of_stream clients s).read ++ read_with (slice_get q.dumps (length (client_of_stream clients s).read)) (done_at clients s) (result_at p h s)) (sym its_plan)
 
 -- the client of stream s goes further, and reads the next dump where it is of its action
-pub found_further : (p : PlansData) (h : List Event) (clients : List ClientData) (s : ℕ) (now : ClientData) → IsKnown (length clients) s → IsRising p h → GoesFurther p h (done_at clients) (done_at (set clients (s - 1) now)) s
-    → now.read ≡ (client_at clients s).read ++ read_with (slice_get (plan_of p s).dumps (length (client_at clients s).read)) (done_at clients s) (result_at p h s) → HaveRead p h clients → HaveRead p h (set clients (s - 1) now)
+pub found_further : (p : PlansData) (h : List Event) (clients : List RunClientData) (s : ℕ) (now : RunClientData) → IsKnown (length clients) s → IsRising p h → GoesFurther p h (done_at clients) (done_at (set clients (s - 1) now)) s
+    → now.read ≡ (client_of_stream clients s).read ++ read_with (slice_get (plan_of p s).dumps (length (client_of_stream clients s).read)) (done_at clients s) (result_at p h s) → HaveRead p h clients → HaveRead p h (set clients (s - 1) now)
 found_further p h clients s now known rising on is old = λ t k. by t k (nat_cases t s)
   where
-    after : List ClientData
+    after : List RunClientData
     after = set clients (s - 1) now
 
-    own : IsKnown (length p.plans) s → HasRead p h s (done_at after s) (client_at after s).read
+    own : IsKnown (length p.plans) s → HasRead p h s (done_at after s) (client_of_stream after s).read
     own k =
         let below = on.below in
         let fresh = rising.fresh s in
-        let read : (client_at after s).read ≡ now.read = ap (λ (c : ClientData). c.read) (client_same clients s now known) in
-        subst (λ (d : ℕ). HasRead p h s d (client_at after s).read) (sym on.further)
-        (read_further p h s (done_at clients s) (client_at clients s).read (client_at after s).read (omega (arith, below, fresh)) (read ∙ is) (old s k))
+        let read : (client_of_stream after s).read ≡ now.read = ap (λ (c : RunClientData). c.read) (client_same clients s now known) in
+        subst (λ (d : ℕ). HasRead p h s d (client_of_stream after s).read) (sym on.further)
+        (read_further p h s (done_at clients s) (client_of_stream clients s).read (client_of_stream after s).read (omega (arith, below, fresh)) (read ∙ is) (old s k))
 
-    by : (t : ℕ) → IsKnown (length p.plans) t → (t ≡ s) ⊎ (t ≢ s) → HasRead p h t (done_at after t) (client_at after t).read
-    by t k (inl same) = subst (λ (u : ℕ). HasRead p h u (done_at after u) (client_at after u).read) (sym same) (own (subst (IsKnown (length p.plans)) same k))
-    by t k (inr off) = subst (λ (c : ClientData). HasRead p h t c.words.done c.read) (sym (client_other clients s t now known.0 off)) (old t k)
+    by : (t : ℕ) → IsKnown (length p.plans) t → (t ≡ s) ⊎ (t ≢ s) → HasRead p h t (done_at after t) (client_of_stream after t).read
+    by t k (inl same) = subst (λ (u : ℕ). HasRead p h u (done_at after u) (client_of_stream after u).read) (sym same) (own (subst (IsKnown (length p.plans)) same k))
+    by t k (inr off) = subst (λ (c : RunClientData). HasRead p h t c.words.done c.read) (sym (client_other clients s t now known.0 off)) (old t k)
 
 -- so it is for the client that the code takes from its row
-pub found_acted : (p : PlansData) (h : List Event) (clients : List ClientData) (s : ℕ) (other : ClientData) (plan : PlanData) (state : State) (read : List (ℕ × ℕ × ℕ)) (now : ClientData) → IsKnown (length clients) s → plan_of p s ≡ plan → state ≡ state_of p h s
+pub found_acted : (p : PlansData) (h : List Event) (clients : List RunClientData) (s : ℕ) (other : RunClientData) (plan : PlanData) (state : State) (read : List (ℕ × ℕ × ℕ)) (now : RunClientData) → IsKnown (length clients) s → plan_of p s ≡ plan → state ≡ state_of p h s
     → read ≡ (get_or clients (s - 1) other).read ++ read_with (slice_get plan.dumps (length (get_or clients (s - 1) other).read)) (get_or clients (s - 1) other).words.done (result_of state) → now.read ≡ read → IsRising p h → GoesFurther p h (done_at clients) (done_at (set clients (s - 1) now)) s
     → HaveRead p h clients → HaveRead p h (set clients (s - 1) now)
 found_acted p h clients s other plan state read now known its_plan told is same rising on = found_further p h clients s now known rising on (read_is p h clients s (get_or clients (s - 1) other) plan state read now.read (client_there clients s other known) its_plan told same is)
@@ -120,14 +120,14 @@ found_none p h s dumps lost is = is ∙ ap (λ (b : Bool). map (dump_read p h s)
 -- ---- before any event
 
 -- a client that has done nothing has read what it should
-fresh_found : (p : PlansData) (s : ℕ) (client : ClientData) → client ≡ fresh_client (plan_of p s) → HasRead p [] s client.words.done client.read
-fresh_found p s client is = subst (λ (c : ClientData). HasRead p [] s c.words.done c.read) (sym is) (nothing_read p s)
+fresh_found : (p : PlansData) (s : ℕ) (client : RunClientData) → client ≡ fresh_run_client (plan_of p s) → HasRead p [] s client.words.done client.read
+fresh_found p s client is = subst (λ (c : RunClientData). HasRead p [] s c.words.done c.read) (sym is) (nothing_read p s)
 
-pub found_fresh : (p : PlansData) (h : List Event) (clients : List ClientData) → h ≡ [] → clients ≡ map fresh_client p.plans → HaveRead p h clients
+pub found_fresh : (p : PlansData) (h : List Event) (clients : List RunClientData) → h ≡ [] → clients ≡ map fresh_run_client p.plans → HaveRead p h clients
 found_fresh p h clients none begun = subst (λ (x : List Event). HaveRead p x clients) (sym none) by
   where
     by : HaveRead p [] clients
     by zero known = absurd (let low = known.0 in omega (arith, low))
     by (suc k) known =
         let high = known.1 in
-        fresh_found p (suc k) (client_at clients (suc k)) (ap (λ (row : List ClientData). client_at row (suc k)) begun ∙ get_or-map fresh_client p.plans k no_plan no_client (omega (arith, high)))
+        fresh_found p (suc k) (client_of_stream clients (suc k)) (ap (λ (row : List RunClientData). client_of_stream row (suc k)) begun ∙ get_or-map fresh_run_client p.plans k no_plan no_client (omega (arith, high)))

@@ -8,7 +8,7 @@ use Rattle.std.proofs.lemmas.List.{append-nil, append_assoc, length-append, drop
 use Rattle.std.proofs.lemmas.List.FromFn.{map-range_with_len_more}
 use Rattle.std.proofs.lemmas.Option.{slice_get_past, slice_get-get_or}
 use Rattle.std.proofs.Math.Seq.{get_or-append_seam}
-use Rattle.gpu_run.specs.Clients.{ClientData, no_client, client_at}
+use Rattle.gpu_run.specs.Clients.{RunClientData, no_client, client_of_stream}
 use Rattle.gpu_run.specs.Reading.{dump_now, read_with, read_left}
 
 -- ---- the code that reads
@@ -59,10 +59,10 @@ one_more f n all now x old is pushed =
     pushed ∙ ap (λ l. l ++ x ∷ []) old ∙ ap (λ (y : _). map f (range_with_len 1 n) ++ y ∷ []) is ∙ sym (map-range_with_len_more f 1 n (n + 1) (omega arith))
 
 -- the next of a row is the client of the stream that is next
-pub next_client : (clients yielded rest left : List ClientData) (client : ClientData) (s : ℕ) → clients ≡ yielded ++ left → left ≡ client ∷ rest → s ≡ length yielded → (client_at clients (s + 1) ≡ client) × (s < length clients)
+pub next_client : (clients yielded rest left : List RunClientData) (client : RunClientData) (s : ℕ) → clients ≡ yielded ++ left → left ≡ client ∷ rest → s ≡ length yielded → (client_of_stream clients (s + 1) ≡ client) × (s < length clients)
 next_client clients yielded rest left client s all is at =
-    let whole : clients ≡ yielded ++ client ∷ rest = all ∙ ap (λ (l : List ClientData). yielded ++ l) is in
+    let whole : clients ≡ yielded ++ client ∷ rest = all ∙ ap (λ (l : List RunClientData). yielded ++ l) is in
     let next : s + 1 ≡ suc (length yielded) = omega (arith, at) in
     let long = ap length whole in
     let sum = length-append yielded (client ∷ rest) in
-    (ap (client_at clients) next ∙ ap (λ (l : List ClientData). get_or l (length yielded) no_client) whole ∙ get_or-append_seam yielded client rest no_client, omega (arith, at, long, sum))
+    (ap (client_of_stream clients) next ∙ ap (λ (l : List RunClientData). get_or l (length yielded) no_client) whole ∙ get_or-append_seam yielded client rest no_client, omega (arith, at, long, sum))

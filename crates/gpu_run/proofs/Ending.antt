@@ -24,7 +24,7 @@ use Rattle.gpu_house.specs.Slots.{SlotData, slot_at}
 use Rattle.gpu_house.specs.Changes.{Appends}
 use Rattle.gpu_fetch.specs.Side.{SideData}
 use Rattle.gpu_journal.proofs.Following.{plan_here}
-use Rattle.gpu_run.specs.Clients.{ClientData, client_at, done_at}
+use Rattle.gpu_run.specs.Clients.{RunClientData, client_of_stream, done_at}
 use Rattle.gpu_run.specs.Rounds.{IsRising, HaveActed, HaveClosed}
 use Rattle.gpu_run.specs.Served.{PlainHouse, IsServedAt, IsServed}
 use Rattle.gpu_run.proofs.Rows.{client_there}
@@ -51,36 +51,36 @@ closed_so closing.Lost x May lost early o may = absurd (let off = ap (λ (b : Bo
 closed_so closing.Early x May lost early o may = absurd ((early.0 refl).1 may)
 
 -- what the close leaves
-pub record Closes (p : PlansData) (house new : PlainHouse) (clients : List ClientData) (s : ℕ) : Type 0 where
+pub record Closes (p : PlansData) (house new : PlainHouse) (clients : List RunClientData) (s : ℕ) : Type 0 where
   pub rising : IsRising p new.core.past
   pub served : IsServed p new clients
   pub acted : HaveActed p new.core.past (done_at clients) (length p.plans)
   pub closed : HaveClosed p new.core.past s
   pub longer : length house.core.past ≤ length new.core.past
 
-served_close : (p : PlansData) (house new : PlainHouse) (clients : List ClientData) (s : ℕ) → IsKnown (length p.plans) s → IsServed p house clients → Appends house new (Close s) → IsServed p new clients
+served_close : (p : PlansData) (house new : PlainHouse) (clients : List RunClientData) (s : ℕ) → IsKnown (length p.plans) s → IsServed p house clients → Appends house new (Close s) → IsServed p new clients
 served_close p house new clients s is_known served appends =
     let own = served.each s is_known in
     let outs = appends.outs in
     let slots = appends.slots in
     served_all p new clients s record { as_clients = served.many.as_clients; as_slots = ap length slots ∙ served.many.as_slots; as_outs = ap length outs ∙ served.many.as_outs } (
       ap (λ (row : List Out). is_home row s) outs ∙ own.0,
-      subst (λ (row : List (SlotData SideData ℕ)). IsServedAt p new.core.past s (slot_at row s) (client_at clients s).words) (sym slots)
-          (subst (λ (g : List Event). IsServedAt p g s (slot_at house.slots s) (client_at clients s).words) (sym appends.past) record {
-            client = client_on p (Close s) house.core.past s (client_at clients s).words (ap (λ (k : Known). k.ordered) (known_close p house.core.past s)) own.1.client;
+      subst (λ (row : List (SlotData SideData ℕ)). IsServedAt p new.core.past s (slot_at row s) (client_of_stream clients s).words) (sym slots)
+          (subst (λ (g : List Event). IsServedAt p g s (slot_at house.slots s) (client_of_stream clients s).words) (sym appends.past) record {
+            client = client_on p (Close s) house.core.past s (client_of_stream clients s).words (ap (λ (k : Known). k.ordered) (known_close p house.core.past s)) own.1.client;
             beside = own.1.beside;
           }),
     )
     (λ u k off. other_home p house new clients clients u (has_event (Close s) appends.past (ne_eqb s u (λ q. off (sym q)))) (ap (λ (row : List Out). is_home row u) outs) (ap (λ (row : List (SlotData SideData ℕ)). slot_at row u) slots) refl (served.each u k))
 
 -- so it is where its client stands at its Close
-pub close_closes : (p : PlansData) (h : List Event) (clients : List ClientData) (s : ℕ) (r : Closing) → IsKnown (length p.plans) s → AreLawfulPlans p → IsRising p h → HaveActed p h (done_at clients) (length p.plans) → stays p h s ≡ true → is_close (slice_get (plan_of p s).actions (done_at clients s)) ≡ true
+pub close_closes : (p : PlansData) (h : List Event) (clients : List RunClientData) (s : ℕ) (r : Closing) → IsKnown (length p.plans) s → AreLawfulPlans p → IsRising p h → HaveActed p h (done_at clients) (length p.plans) → stays p h s ≡ true → is_close (slice_get (plan_of p s).actions (done_at clients s)) ≡ true
     → ((r ≡ closing.Lost) ↔ ((standing_of p h s).lost ≡ true)) → ((r ≡ closing.Early) ↔ ((is_open (standing_of p h s) ≡ true) × (MayClose p h s → ⊥))) → r ≡ closing.Closed
 close_closes p h clients s r is_known lawful rising acted o here lost early =
     let at = at_close_is p h (done_at clients) s true rising acted is_known.0 is_known.1 o here in
     closed_so r (standing_of p h s) (MayClose p h s) lost early o (may_close p h s lawful (played_is_legal p h lawful rising.played) is_known (acted.no_flush s is_known.0 is_known.1) at)
 
-pub closes : (p : PlansData) (house new : PlainHouse) (clients : List ClientData) (s : ℕ) (r : Closing) → IsKnown (length p.plans) s → AreLawfulPlans p → IsRising p house.core.past → IsServed p house clients → HaveActed p house.core.past (done_at clients) (length p.plans) → HaveClosed p house.core.past (s - 1)
+pub closes : (p : PlansData) (house new : PlainHouse) (clients : List RunClientData) (s : ℕ) (r : Closing) → IsKnown (length p.plans) s → AreLawfulPlans p → IsRising p house.core.past → IsServed p house clients → HaveActed p house.core.past (done_at clients) (length p.plans) → HaveClosed p house.core.past (s - 1)
     → stays p house.core.past s ≡ true → is_close (slice_get (plan_of p s).actions (done_at clients s)) ≡ true
     → ((r ≡ closing.Lost) ↔ ((standing_of p house.core.past s).lost ≡ true)) → ((r ≡ closing.Early) ↔ ((is_open (standing_of p house.core.past s) ≡ true) × (MayClose p house.core.past s → ⊥)))
     → (r ≡ closing.Closed → is_open (standing_of p house.core.past s) ≡ true → Appends house new (Close s)) → Closes p house new clients s
@@ -97,12 +97,12 @@ closes p house new clients s r is_known lawful rising served acted closed o here
     }
 
 -- the test that the code makes is that of the client of stream s
-pub close_test : (p plans : PlansData) (clients : List ClientData) (s position : ℕ) (plan : PlanData) (list : List Action) (client : ClientData) (b : Bool) → plans ≡ p → slice_get plans.plans (s - 1) ≡ Some plan → list ≡ plan.actions → IsKnown (length p.plans) s → length clients ≡ length p.plans
+pub close_test : (p plans : PlansData) (clients : List RunClientData) (s position : ℕ) (plan : PlanData) (list : List Action) (client : RunClientData) (b : Bool) → plans ≡ p → slice_get plans.plans (s - 1) ≡ Some plan → list ≡ plan.actions → IsKnown (length p.plans) s → length clients ≡ length p.plans
     → client ≡ get_or clients (s - 1) client → position ≡ client.words.done → b ≡ is_close (slice_get list position) → is_close (slice_get (plan_of p s).actions (done_at clients s)) ≡ b
 close_test p plans clients s position plan list client b same at listed is_known count read place test =
     let is : plan_of p s ≡ plan = plan_here p s plan is_known.0 (ap (λ (q : PlansData). slice_get q.plans (s - 1)) (sym same) ∙ at) in
     let high = is_known.1 in
-    let here : client ≡ client_at clients s = read ∙ client_there clients s client (is_known.0, omega (arith, high, count)) in
-    let done : position ≡ done_at clients s = place ∙ ap (λ (c : ClientData). c.words.done) here in
+    let here : client ≡ client_of_stream clients s = read ∙ client_there clients s client (is_known.0, omega (arith, high, count)) in
+    let done : position ≡ done_at clients s = place ∙ ap (λ (c : RunClientData). c.words.done) here in
     ap (λ (q : PlanData). is_close (slice_get q.actions (done_at clients s))) is ∙ ap (λ (l : List Action). is_close (slice_get l (done_at clients s))) (sym listed)
     ∙ ap (λ (k : ℕ). is_close (slice_get list k)) (sym done) ∙ sym test

@@ -10,7 +10,7 @@ use Rattle.gpu_plan.specs.Passes.{flush_count, flushes, passes_if_there, passes}
 use Rattle.gpu_plan.proofs.Passing.{flushes_one_further, flushes_within}
 use Rattle.serial_laws.proofs.Flushes.{within}
 use Rattle.gpu_fetch.specs.Plain.{PlainData, one_further, IsAwait}
-use Rattle.gpu_run.specs.Clients.{ClientData, flushes_to, IsCounted}
+use Rattle.gpu_run.specs.Clients.{RunClientData, flushes_to, IsCounted}
 
 -- what passes is there
 pub next_action : (xs actions : List Action) (position done f : ℕ) (tokens : List ℕ) (a : Action) → actions ≡ xs → position ≡ done → passes xs done f tokens ≡ true → a ≡ get_or actions position a → slice_get xs done ≡ Some a
@@ -65,20 +65,20 @@ pub flushes_quiet : (plan : PlanData) (done : ℕ) (a : Action) → slice_get pl
 flushes_quiet plan done a e is = let step = flushes_one_further plan.actions done a e in omega (arith, step, is)
 
 -- the facts of the next action, of the client as it is seen and as its fields are
-pub record Found (seen old : ClientData) (plan : PlanData) (f : ℕ) (tokens : List ℕ) (a : Action) : Type 0 where
+pub record Found (seen old : RunClientData) (plan : PlanData) (f : ℕ) (tokens : List ℕ) (a : Action) : Type 0 where
   pub same : plan ≡ seen.words.plan
   pub here : slice_get plan.actions seen.words.done ≡ Some a
   pub there : slice_get plan.actions old.words.done ≡ Some a
   pub passing : passes_if_there (flushes (take seen.words.done plan.actions)) f tokens (Some a) ≡ true
 
-pub found_in : (seen old : ClientData) (plan : PlanData) (actions : List Action) (position f : ℕ) (tokens : List ℕ) (a : Action) → seen ≡ old → plan ≡ old.words.plan → actions ≡ plan.actions → position ≡ seen.words.done
+pub found_in : (seen old : RunClientData) (plan : PlanData) (actions : List Action) (position f : ℕ) (tokens : List ℕ) (a : Action) → seen ≡ old → plan ≡ old.words.plan → actions ≡ plan.actions → position ≡ seen.words.done
     → passes plan.actions old.words.done f tokens ≡ true → a ≡ get_or actions position a → Found seen old plan f tokens a
 found_in seen old plan actions position f tokens a view same listed place p read =
-    let passing : passes plan.actions seen.words.done f tokens ≡ true = subst (λ (x : ClientData). passes plan.actions x.words.done f tokens ≡ true) (sym view) p in
+    let passing : passes plan.actions seen.words.done f tokens ≡ true = subst (λ (x : RunClientData). passes plan.actions x.words.done f tokens ≡ true) (sym view) p in
     let here = next_action plan.actions actions position seen.words.done f tokens a listed place passing read in
     record {
-      same = same ∙ ap (λ (x : ClientData). x.words.plan) (sym view);
+      same = same ∙ ap (λ (x : RunClientData). x.words.plan) (sym view);
       here = here;
-      there = subst (λ (x : ClientData). slice_get plan.actions x.words.done ≡ Some a) view here;
+      there = subst (λ (x : RunClientData). slice_get plan.actions x.words.done ≡ Some a) view here;
       passing = ap (passes_if_there (flushes (take seen.words.done plan.actions)) f tokens) (sym here) ∙ passing;
     }

@@ -23,9 +23,9 @@ use Rattle.serial_laws.specs.Scripts.{AreLawfulPlans}
 use Rattle.serial_laws.proofs.First.{nat_cases}
 use Rattle.serial_laws.proofs.Tokens.{reach_is}
 use Rattle.gpu_house.specs.Slots.{slot_at}
-use Rattle.gpu_run.specs.Clients.{ClientData, client_at, done_at, flushes_to, IsCounted}
+use Rattle.gpu_run.specs.Clients.{RunClientData, client_of_stream, done_at, flushes_to, IsCounted}
 use Rattle.gpu_run.specs.Reading.{HasRead, HaveRead}
-use Rattle.gpu_run.specs.Served.{PlainHouse, IsClientOf, IsServedAt, IsServed}
+use Rattle.gpu_run.specs.Served.{PlainHouse, IsOrderedClient, IsServedAt, IsServed}
 use Rattle.gpu_run.specs.Stands.{Acting, Stands}
 use Rattle.gpu_run.proofs.Rows.{client_there, client_same, client_other}
 use Rattle.gpu_run.proofs.Serving.{beside_puts, stays_so, other_home, served_all}
@@ -98,7 +98,7 @@ read_puts p h s from to read lawful is_known le within puts old =
 -- ---- the client of stream s has done puts
 
 -- what puts leave of a client
-pub record HasPut (actions : List Action) (old new : ClientData) : Type 0 where
+pub record HasPut (actions : List Action) (old new : RunClientData) : Type 0 where
   pub plan : new.words.plan ≡ old.words.plan
   pub read : new.read ≡ old.read
   pub further : old.words.done ≤ new.words.done
@@ -107,35 +107,35 @@ pub record HasPut (actions : List Action) (old new : ClientData) : Type 0 where
   pub notes : (side : SideData) (mark : ℕ) → IsNoteBeside side old.words mark → IsNoteBeside side new.words mark
 
 -- the plan that the code takes is the client's
-pub its_plan : (p : PlansData) (house : PlainHouse) (clients : List ClientData) (s : ℕ) (plan : PlanData) (other : ClientData) → IsKnown (length p.plans) s → IsServed p house clients → slice_get p.plans (s - 1) ≡ Some plan → plan ≡ (get_or clients (s - 1) other).words.plan
+pub its_plan : (p : PlansData) (house : PlainHouse) (clients : List RunClientData) (s : ℕ) (plan : PlanData) (other : RunClientData) → IsKnown (length p.plans) s → IsServed p house clients → slice_get p.plans (s - 1) ≡ Some plan → plan ≡ (get_or clients (s - 1) other).words.plan
 its_plan p house clients s plan other is_known served at =
     let high = is_known.1 in
     let many = served.many.as_clients in
-    let here : get_or clients (s - 1) other ≡ client_at clients s = client_there clients s other (is_known.0, omega (arith, high, many)) in
+    let here : get_or clients (s - 1) other ≡ client_of_stream clients s = client_there clients s other (is_known.0, omega (arith, high, many)) in
     let own = (served.each s is_known).1 in
-    sym (plan_here p s plan is_known.0 at) ∙ sym own.client.plan ∙ ap (λ (c : ClientData). c.words.plan) (sym here)
+    sym (plan_here p s plan is_known.0 at) ∙ sym own.client.plan ∙ ap (λ (c : RunClientData). c.words.plan) (sym here)
 
 -- the same by what the code tells of the plan and the client
-pub has_put : (p : PlansData) (clients : List ClientData) (s : ℕ) (plan : PlanData) (client other now : ClientData) → IsKnown (length p.plans) s → length clients ≡ length p.plans → client ≡ get_or clients (s - 1) other → slice_get p.plans (s - 1) ≡ Some plan → HasPut plan.actions client now → HasPut (plan_of p s).actions (client_at clients s) now
+pub has_put : (p : PlansData) (clients : List RunClientData) (s : ℕ) (plan : PlanData) (client other now : RunClientData) → IsKnown (length p.plans) s → length clients ≡ length p.plans → client ≡ get_or clients (s - 1) other → slice_get p.plans (s - 1) ≡ Some plan → HasPut plan.actions client now → HasPut (plan_of p s).actions (client_of_stream clients s) now
 has_put p clients s plan client other now is_known many read at has =
     let high = is_known.1 in
-    let here : client ≡ client_at clients s = read ∙ client_there clients s other (is_known.0, omega (arith, high, many)) in
-    subst (λ (c : ClientData). HasPut (plan_of p s).actions c now) here (subst (λ (q : PlanData). HasPut q.actions client now) (sym (plan_here p s plan is_known.0 at)) has)
+    let here : client ≡ client_of_stream clients s = read ∙ client_there clients s other (is_known.0, omega (arith, high, many)) in
+    subst (λ (c : RunClientData). HasPut (plan_of p s).actions c now) here (subst (λ (q : PlanData). HasPut q.actions client now) (sym (plan_here p s plan is_known.0 at)) has)
 
-module _ (p : PlansData) (house : PlainHouse) (clients : List ClientData) (s : ℕ) (now : ClientData) (is_known : IsKnown (length p.plans) s) (stands : Stands (Acting (s - 1)) p house clients) (has : HasPut (plan_of p s).actions (client_at clients s) now) where
-  abbrev after : List ClientData
+module _ (p : PlansData) (house : PlainHouse) (clients : List RunClientData) (s : ℕ) (now : RunClientData) (is_known : IsKnown (length p.plans) s) (stands : Stands (Acting (s - 1)) p house clients) (has : HasPut (plan_of p s).actions (client_of_stream clients s) now) where
+  abbrev after : List RunClientData
   after = set clients (s - 1) now
 
   in_row : IsKnown (length clients) s
   in_row = (is_known.0, (let high = is_known.1 in let many = stands.served.many.as_clients in omega (arith, high, many)))
 
-  there : client_at after s ≡ now
+  there : client_of_stream after s ≡ now
   there = client_same clients s now in_row
 
-  other : (t : ℕ) → t ≢ s → client_at after t ≡ client_at clients t
+  other : (t : ℕ) → t ≢ s → client_of_stream after t ≡ client_of_stream clients t
   other t off = client_other clients s t now is_known.0 off
 
-  own : IsServedAt p house.core.past s (slot_at house.slots s) (client_at clients s).words
+  own : IsServedAt p house.core.past s (slot_at house.slots s) (client_of_stream clients s).words
   own = (stands.served.each s is_known).1
 
   within : now.words.done ≤ count p house.core.past s
@@ -145,7 +145,7 @@ module _ (p : PlansData) (house : PlainHouse) (clients : List ClientData) (s : �
       let far = puts_reach p house.core.past s (done_at clients s) now.words.done has.further has.puts (omega (arith, fresh, low)) in
       omega (arith, fresh, far)
 
-  client : IsClientOf p house.core.past s now.words
+  client : IsOrderedClient p house.core.past s now.words
   client = record {
     plan = has.plan ∙ own.client.plan;
     within = within;
@@ -156,9 +156,9 @@ module _ (p : PlansData) (house : PlainHouse) (clients : List ClientData) (s : �
   served =
       served_all p house after s record { as_clients = length-set clients (s - 1) now ∙ stands.served.many.as_clients; as_slots = stands.served.many.as_slots; as_outs = stands.served.many.as_outs } (
         (stands.served.each s is_known).0,
-        subst (λ (c : ClientData). IsServedAt p house.core.past s (slot_at house.slots s) c.words) (sym there) record {
+        subst (λ (c : RunClientData). IsServedAt p house.core.past s (slot_at house.slots s) c.words) (sym there) record {
           client = client;
-          beside = beside_puts (client_at clients s).words now.words (slot_at house.slots s).side (slot_at house.slots s).first (slot_at house.slots s).notes (λ f t. record { beside = λ x a b. has.beside x; notes = λ x n a b. has.notes x n }) own.beside;
+          beside = beside_puts (client_of_stream clients s).words now.words (slot_at house.slots s).side (slot_at house.slots s).first (slot_at house.slots s).notes (λ f t. record { beside = λ x a b. has.beside x; notes = λ x n a b. has.notes x n }) own.beside;
         },
       )
       (λ t k off. other_home p house house clients after t (stays_so refl) refl refl (other t off) (stands.served.each t k))
@@ -167,11 +167,11 @@ module _ (p : PlansData) (house : PlainHouse) (clients : List ClientData) (s : �
   read t k = by (nat_cases t s)
     where
       mine : HasRead p house.core.past s now.words.done now.read
-      mine = subst (HasRead p house.core.past s now.words.done) (sym has.read) (read_puts p house.core.past s (done_at clients s) now.words.done (client_at clients s).read stands.lawful is_known has.further within has.puts (stands.read s is_known))
+      mine = subst (HasRead p house.core.past s now.words.done) (sym has.read) (read_puts p house.core.past s (done_at clients s) now.words.done (client_of_stream clients s).read stands.lawful is_known has.further within has.puts (stands.read s is_known))
 
-      by : (t ≡ s) ⊎ (t ≢ s) → HasRead p house.core.past t (done_at after t) (client_at after t).read
-      by (inl same) = subst (λ (u : ℕ). HasRead p house.core.past u (done_at after u) (client_at after u).read) (sym same) (subst (λ (c : ClientData). HasRead p house.core.past s c.words.done c.read) (sym there) mine)
-      by (inr off) = subst (λ (c : ClientData). HasRead p house.core.past t c.words.done c.read) (sym (other t off)) (stands.read t k)
+      by : (t ≡ s) ⊎ (t ≢ s) → HasRead p house.core.past t (done_at after t) (client_of_stream after t).read
+      by (inl same) = subst (λ (u : ℕ). HasRead p house.core.past u (done_at after u) (client_of_stream after u).read) (sym same) (subst (λ (c : RunClientData). HasRead p house.core.past s c.words.done c.read) (sym there) mine)
+      by (inr off) = subst (λ (c : RunClientData). HasRead p house.core.past t c.words.done c.read) (sym (other t off)) (stands.read t k)
 
   pub puts_stand : Stands (Acting (s - 1)) p house (set clients (s - 1) now)
   puts_stand = record {
@@ -179,8 +179,8 @@ module _ (p : PlansData) (house : PlainHouse) (clients : List ClientData) (s : �
     rising = stands.rising;
     served = served;
     read = read;
-    come = acted_passed p house.core.past (done_at clients) (done_at after) s stands.come (λ t off. ap (λ (c : ClientData). c.words.done) (other t off));
+    come = acted_passed p house.core.past (done_at clients) (done_at after) s stands.come (λ t off. ap (λ (c : RunClientData). c.words.done) (other t off));
   }
 
   pub puts_further : done_at clients s ≤ done_at (set clients (s - 1) now) s
-  puts_further = subst (λ (c : ClientData). done_at clients s ≤ c.words.done) (sym there) has.further
+  puts_further = subst (λ (c : RunClientData). done_at clients s ≤ c.words.done) (sym there) has.further

@@ -7,20 +7,20 @@ use Rattle.house_core.specs.Core.{is_home, with_out}
 use Rattle.house_core.specs.Desks.{Out, at_home}
 use Rattle.gpu_house.specs.Slots.{SlotData, no_slot, slot_at, with_slot}
 use Rattle.gpu_house.proofs.Rows.{slot_row, out_set_here, home_other}
-use Rattle.gpu_run.specs.Clients.{ClientData, no_client, client_at}
+use Rattle.gpu_run.specs.Clients.{RunClientData, no_client, client_of_stream}
 
 -- ---- clients
 
-client_row : (clients : List ClientData) (s : ℕ) → client_at clients s ≡ row no_client clients s
-client_row = row_is no_client client_at (λ clients. refl) (λ clients k. refl)
+client_row : (clients : List RunClientData) (s : ℕ) → client_of_stream clients s ≡ row no_client clients s
+client_row = row_is no_client client_of_stream (λ clients. refl) (λ clients k. refl)
 
-pub client_same : (clients : List ClientData) (s : ℕ) (client : ClientData) → IsKnown (length clients) s → client_at (set clients (s - 1) client) s ≡ client
+pub client_same : (clients : List RunClientData) (s : ℕ) (client : RunClientData) → IsKnown (length clients) s → client_of_stream (set clients (s - 1) client) s ≡ client
 client_same clients s client known = client_row (set clients (s - 1) client) s ∙ row_same no_client clients s client known
 
-pub client_other : (clients : List ClientData) (s t : ℕ) (client : ClientData) → 0 < s → t ≢ s → client_at (set clients (s - 1) client) t ≡ client_at clients t
+pub client_other : (clients : List RunClientData) (s t : ℕ) (client : RunClientData) → 0 < s → t ≢ s → client_of_stream (set clients (s - 1) client) t ≡ client_of_stream clients t
 client_other clients s t client low off = client_row (set clients (s - 1) client) t ∙ row_other no_client clients s t client low off ∙ sym (client_row clients t)
 
-pub client_there : (clients : List ClientData) (s : ℕ) (other : ClientData) → IsKnown (length clients) s → get_or clients (s - 1) other ≡ client_at clients s
+pub client_there : (clients : List RunClientData) (s : ℕ) (other : RunClientData) → IsKnown (length clients) s → get_or clients (s - 1) other ≡ client_of_stream clients s
 client_there clients s other known = row_there no_client clients s other known ∙ sym (client_row clients s)
 
 -- ---- slots

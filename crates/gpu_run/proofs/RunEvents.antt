@@ -9,7 +9,7 @@ use Rattle.gpu_cmd.specs.Copied.{fetched, fetched_places, places_listed}
 use Rattle.gpu_cmd.proofs.Memories.{words_of_memory}
 use Rattle.gpu_plan.specs.Plans.{PlansData, PlanData, plan_of}
 use Rattle.gpu_plan.specs.Values.{value_at}
-use Rattle.gpu_fetch.specs.Plain.{PlainData, IsHeld}
+use Rattle.gpu_fetch.specs.Plain.{PlainData, IsValueOfPlace}
 use Rattle.sync_core.specs.declared.wait.Number.{Number}
 use Rattle.sync_core.specs.Standing.{first_order, front_of}
 use Rattle.gpu_journal.specs.declared.event.Event.{Event}
@@ -20,7 +20,7 @@ use Rattle.gpu_journal.specs.Facts.{facts_at, verdict_at}
 use Rattle.gpu_journal.specs.Serial.{count, judged_event, next_words, run_event}
 
 -- words of the places to be fetched, with the values that the client has put, are those of the rule
-pub next_is_found : (p : PlansData) (h : List Event) (s : ℕ) (w : PlainData) (found : List (ℕ × ℕ)) (facts : StreamFacts) → places_listed found ≡ fetched_places found facts → All (IsHeld w) found → w.plan ≡ plan_of p s → w.done ≡ count p h s → facts ≡ facts_at p h s
+pub next_is_found : (p : PlansData) (h : List Event) (s : ℕ) (w : PlainData) (found : List (ℕ × ℕ)) (facts : StreamFacts) → places_listed found ≡ fetched_places found facts → All (IsValueOfPlace w) found → w.plan ≡ plan_of p s → w.done ≡ count p h s → facts ≡ facts_at p h s
     → found ≡ next_words p h s
 next_is_found p h s w found facts places held plan done is =
     words_of_memory (value_at w.plan.actions w.done) found facts places held

@@ -9,7 +9,7 @@ use Rattle.gpu_cmd.specs.Copied.{fetched_places, places_listed, IsCopy}
 use Rattle.std.specs.Prelude.{Result}
 use Rattle.gpu_plan.specs.Plans.{PlansData}
 use Rattle.gpu_fetch.specs.Side.{SideData}
-use Rattle.gpu_fetch.specs.Plain.{PlainData, IsBeside, IsNoteBeside, IsHeld}
+use Rattle.gpu_fetch.specs.Plain.{PlainData, IsBeside, IsNoteBeside, IsValueOfPlace}
 use Rattle.sync_core.specs.Standing.{IsKnown, is_open}
 use Rattle.gpu_journal.specs.declared.event.Event.{Event}
 use Rattle.gpu_journal.specs.declared.event.Event.TheVariants.{Finish}
@@ -28,11 +28,11 @@ use Rattle.gpu_house.specs.Steps.{Steps}
 use Rattle.gpu_house.specs.declared.answers.Next.{Next}
 use Rattle.gpu_house.specs.declared.answers.Next.TheVariants.{More, Paused, FlushEnd, Invalid, Lost, Closed}
 use Rattle.gpu_house.proofs.Going.{goes_further}
-use Rattle.gpu_run.specs.Clients.{ClientData, client_at, done_at}
+use Rattle.gpu_run.specs.Clients.{RunClientData, client_of_stream, done_at}
 use Rattle.gpu_run.specs.Reading.{HaveRead}
 use Rattle.gpu_run.specs.Rounds.{IsRunning, goes_on}
-use Rattle.gpu_run.specs.Served.{PlainHouse, IsClientOf, IsServed, IsOut}
-use Rattle.gpu_run.specs.Turning.{HasStepped}
+use Rattle.gpu_run.specs.Served.{PlainHouse, IsOrderedClient, IsServed, IsOut}
+use Rattle.gpu_run.specs.Turning.{HasTakenNext}
 use Rattle.gpu_run.proofs.Rows.{client_there}
 use Rattle.gpu_run.proofs.Serving.{client_on, has_event}
 use Rattle.gpu_run.proofs.AllFound.{found_after}
@@ -49,21 +49,21 @@ runs_open p h s lawful played runs =
     (left_open p h s legal (can_run p h s legal runs).some).0
 
 -- the words that the code takes are those of the run's client
-pub words_are : (p : PlansData) (clients : List ClientData) (s at : ℕ) (client : ClientData) (w : PlainData) → IsKnown (length p.plans) s → length clients ≡ length p.plans → at ≡ s → client ≡ get_or clients (at - 1) client → w ≡ client.words → w ≡ (client_at clients s).words
+pub words_are : (p : PlansData) (clients : List RunClientData) (s at : ℕ) (client : RunClientData) (w : PlainData) → IsKnown (length p.plans) s → length clients ≡ length p.plans → at ≡ s → client ≡ get_or clients (at - 1) client → w ≡ client.words → w ≡ (client_of_stream clients s).words
 words_are p clients s at client w is_known count same read is =
     let high = is_known.1 in
-    let here : client ≡ client_at clients s = read ∙ ap (λ (k : ℕ). get_or clients (k - 1) client) same ∙ client_there clients s client (is_known.0, omega (arith, high, count)) in
-    is ∙ ap (λ (c : ClientData). c.words) here
+    let here : client ≡ client_of_stream clients s = read ∙ ap (λ (k : ℕ). get_or clients (k - 1) client) same ∙ client_there clients s client (is_known.0, omega (arith, high, count)) in
+    is ∙ ap (λ (c : RunClientData). c.words) here
 
 -- ---- a finish
 
-pub record HasFinished (p : PlansData) (house new : PlainHouse) (clients : List ClientData) (s : ℕ) : Type 0 where
+pub record HasFinished (p : PlansData) (house new : PlainHouse) (clients : List RunClientData) (s : ℕ) : Type 0 where
   pub event : new.core.past ≡ run_event p house.core.past s ∷ house.core.past
   pub goes : false ≡ goes_on p new.core.past s
   pub served : IsServed p new clients
 
-pub has_finished : (p : PlansData) (house new : PlainHouse) (clients : List ClientData) (run : OutData SideData ℕ) (w : PlainData) → AreLawfulPlans p → IsPlayed p house.core.past → IsOut p house clients run → is_runnable p house.core.past run.run.stream ≡ true
-    → w ≡ (client_at clients run.run.stream).words → run.run.facts.get ≡ run.run.facts.put
+pub has_finished : (p : PlansData) (house new : PlainHouse) (clients : List RunClientData) (run : OutData SideData ℕ) (w : PlainData) → AreLawfulPlans p → IsPlayed p house.core.past → IsOut p house clients run → is_runnable p house.core.past run.run.stream ≡ true
+    → w ≡ (client_of_stream clients run.run.stream).words → run.run.facts.get ≡ run.run.facts.put
     → (is_open (standing_of p house.core.past run.run.stream) ≡ true → new.core.past ≡ Finish run.run.stream run.run.order ∷ house.core.past)
     → new.core.outs ≡ with_out house.core.outs run.run.stream at_home
     → (is_open (standing_of p house.core.past run.run.stream) ≡ true → CameDone (λ (x : SideData). x) (λ (n : ℕ). n) IsBeside IsNoteBeside w house.slots new.slots run.run.stream run.side run.note)
@@ -74,13 +74,13 @@ has_finished p house new clients run w lawful played out runs its_words ends eve
     let o = runs_open p h s lawful played runs in
     let past = event o in
     let came = done o in
-    let mine = (client_at clients s).words in
+    let mine = (client_of_stream clients s).words in
     let slot = slot_at house.slots s in
     record {
       event = past ∙ ap (λ (e : Event). e ∷ h) (sym (event_finish p h s run.run.order out.run.order (subst (λ (f : StreamFacts). f.get ≡ f.put) out.run.facts ends)));
       goes = subst (λ (g : List Event). false ≡ goes_on p g s) (sym past) refl;
       served = home_served p house new clients s record slot { side = Some came.done; begun = false; first = None } out.is_known out.many out.others (λ t off. has_event (Finish s run.run.order) past (ne_eqb s t (λ q. off (sym q))))
-          outs came.slots (subst (λ (g : List Event). IsClientOf p g s mine) (sym past) (client_on p (Finish s run.run.order) h s mine (run_ordered p (Finish s run.run.order) s h s refl) out.client))
+          outs came.slots (subst (λ (g : List Event). IsOrderedClient p g s mine) (sym past) (client_on p (Finish s run.run.order) h s mine (run_ordered p (Finish s run.run.order) s h s refl) out.client))
           record {
             side_beside = subst (IsBeside came.done) its_words came.still.beside;
             first_beside = tt;
@@ -90,13 +90,13 @@ has_finished p house new clients run w lawful played out runs its_words ends eve
 
 -- ---- a fetch
 
-pub fetched_with : (p : PlansData) (house : PlainHouse) (clients : List ClientData) (run new : OutData SideData ℕ) (words list : List (ℕ × ℕ)) (facts : StreamFacts) (verdict : Result Command CmdError) (w : PlainData) → IsOut p house clients run → done_at clients run.run.stream ≡ count p house.core.past run.run.stream
-    → w ≡ (client_at clients run.run.stream).words → run.run.facts.get ≢ run.run.facts.put → HasMetNote IsBeside IsNoteBeside w run new → new.side.fetched ≡ run.side.fetched ++ words → All (IsHeld w) words → list ≡ words → facts ≡ run.run.facts → IsCopy list facts verdict
+pub fetched_with : (p : PlansData) (house : PlainHouse) (clients : List RunClientData) (run new : OutData SideData ℕ) (words list : List (ℕ × ℕ)) (facts : StreamFacts) (verdict : Result Command CmdError) (w : PlainData) → IsOut p house clients run → done_at clients run.run.stream ≡ count p house.core.past run.run.stream
+    → w ≡ (client_of_stream clients run.run.stream).words → run.run.facts.get ≢ run.run.facts.put → HasMetNote IsBeside IsNoteBeside w run new → new.side.fetched ≡ run.side.fetched ++ words → All (IsValueOfPlace w) words → list ≡ words → facts ≡ run.run.facts → IsCopy list facts verdict
     → HasFetched p house clients new words
 fetched_with p house clients run new words list facts verdict w out there is more has grows held listed its_facts copy =
-    let mine = (client_at clients run.run.stream).words in
+    let mine = (client_of_stream clients run.run.stream).words in
     let still : StillBelongs IsBeside IsNoteBeside mine run.side new.side = subst (λ (v : PlainData). StillBelongs IsBeside IsNoteBeside v run.side new.side) is has.still in
-    has_fetched p house clients run new words out there more has.run has.met grows (subst (λ (v : PlainData). All (IsHeld v) words) is held)
+    has_fetched p house clients run new words out there more has.run has.met grows (subst (λ (v : PlainData). All (IsValueOfPlace v) words) is held)
     (subst (λ (f : StreamFacts). places_listed words ≡ fetched_places words f) its_facts (subst (λ (l : List (ℕ × ℕ)). places_listed l ≡ fetched_places l facts) listed copy.places))
     still.beside still.notes
 
@@ -111,17 +111,17 @@ stays_met side mark p house new run now words Closed met is = ap (λ (r : OutDat
 
 -- ---- the step on what was fetched
 
-pub stepped_with : (p : PlansData) (house new : PlainHouse) (clients : List ClientData) (out run now : OutData SideData ℕ) (words : List (ℕ × ℕ)) (w : PlainData) (next : Next) (more : Bool) → AreLawfulPlans p → IsPlayed p house.core.past → is_runnable p house.core.past out.run.stream ≡ true
-    → HasFetched p house clients run words → run.run ≡ out.run → run.note ≡ None → w ≡ (client_at clients out.run.stream).words → (side : SideData → SideData) (mark : ℕ → ℕ) → Steps side mark p house new run now words next → new.slots ≡ house.slots
-    → StillBelongs IsBeside IsNoteBeside w run.side now.side → now.side.fetched ≡ run.side.fetched → more ≡ goes_further next → HasStepped p house new clients out.run.stream now more
+pub stepped_with : (p : PlansData) (house new : PlainHouse) (clients : List RunClientData) (out run now : OutData SideData ℕ) (words : List (ℕ × ℕ)) (w : PlainData) (next : Next) (more : Bool) → AreLawfulPlans p → IsPlayed p house.core.past → is_runnable p house.core.past out.run.stream ≡ true
+    → HasFetched p house clients run words → run.run ≡ out.run → run.note ≡ None → w ≡ (client_of_stream clients out.run.stream).words → (side : SideData → SideData) (mark : ℕ → ℕ) → Steps side mark p house new run now words next → new.slots ≡ house.slots
+    → StillBelongs IsBeside IsNoteBeside w run.side now.side → now.side.fetched ≡ run.side.fetched → more ≡ goes_further next → HasTakenNext p house new clients out.run.stream now more
 stepped_with p house new clients out run now words w next more lawful played runs has same met is side mark steps slots still list answer =
     let stream : run.run.stream ≡ out.run.stream = ap (λ (r : RunData). r.stream) same in
-    let here : w ≡ (client_at clients run.run.stream).words = is ∙ ap (λ (u : ℕ). (client_at clients u).words) (sym stream) in
-    let mine = (client_at clients run.run.stream).words in
+    let here : w ≡ (client_of_stream clients run.run.stream).words = is ∙ ap (λ (u : ℕ). (client_of_stream clients u).words) (sym stream) in
+    let mine = (client_of_stream clients run.run.stream).words in
     let belongs : StillBelongs IsBeside IsNoteBeside mine run.side now.side = subst (λ (v : PlainData). StillBelongs IsBeside IsNoteBeside v run.side now.side) here still in
     let stepped = has_stepped p house new clients run now words has (played_is_legal p house.core.past lawful played) (subst (λ (u : ℕ). is_runnable p house.core.past u ≡ true) (sym stream) runs)
     slots (stays_met side mark p house new run now words next met steps) belongs.beside belongs.notes list side mark next steps in
-    subst (λ (u : ℕ). HasStepped p house new clients u now more) stream (subst (HasStepped p house new clients run.run.stream now) (sym answer) stepped)
+    subst (λ (u : ℕ). HasTakenNext p house new clients u now more) stream (subst (HasTakenNext p house new clients run.run.stream now) (sym answer) stepped)
 
 -- ---- the loop over turns
 
@@ -136,14 +136,14 @@ pub one_longer : (e : Event) (h g : List Event) → g ≡ e ∷ h → length h <
 one_longer e h g event = let l = ap length event in omega (arith, l)
 
 -- a run that does not go on: what its last event leaves
-pub record HasRunOut (p : PlansData) (h g : List Event) (clients : List ClientData) : Type 0 where
+pub record HasRunOut (p : PlansData) (h g : List Event) (clients : List RunClientData) : Type 0 where
   pub played : IsPlayed p g
   pub read : HaveRead p g clients
   pub chosen : runner p g ≡ choice p g
   pub running : begins_round p g ≡ false → IsRunning p g (done_at clients)
   pub longer : length h < length g
 
-pub run_out : (p : PlansData) (h g : List Event) (clients : List ClientData) (s : ℕ) → AreLawfulPlans p → IsPlayed p h → IsRunning p h (done_at clients) → IsKnown (length p.plans) s → runner p h ≡ Some s → is_runnable p h s ≡ true → HaveRead p h clients
+pub run_out : (p : PlansData) (h g : List Event) (clients : List RunClientData) (s : ℕ) → AreLawfulPlans p → IsPlayed p h → IsRunning p h (done_at clients) → IsKnown (length p.plans) s → runner p h ≡ Some s → is_runnable p h s ≡ true → HaveRead p h clients
     → g ≡ run_event p h s ∷ h → false ≡ goes_on p g s → HasRunOut p h g clients
 run_out p h g clients s lawful played running is_known chosen runs read event stops =
     let t = ran p h g (done_at clients) s event played running is_known chosen in

@@ -17,14 +17,14 @@ use Rattle.serial_laws.proofs.Counts.{count_grows}
 use Rattle.serial_laws.proofs.Knowns.{known_order}
 use Rattle.house_core.specs.Core.{is_home}
 use Rattle.gpu_house.specs.Slots.{SlotData, slot_at}
-use Rattle.gpu_run.specs.Clients.{ClientData, client_at, flushes_to}
-use Rattle.gpu_run.specs.Served.{PlainHouse, AreBeside, IsClientOf, IsServedAt, AreAsMany, IsAtHomeWith, IsServed}
+use Rattle.gpu_run.specs.Clients.{RunClientData, client_of_stream, flushes_to}
+use Rattle.gpu_run.specs.Served.{PlainHouse, AreBeside, IsOrderedClient, IsServedAt, HaveOneEach, IsAtHomeWith, IsServed}
 use Rattle.gpu_run.proofs.Phases.{was_open, count_fresh, reach_ordered}
 
 -- ---- one stream
 
 -- an event that orders nothing of a stream leaves its client
-pub client_on : (p : PlansData) (e : Event) (h : List Event) (t : ℕ) (words : PlainData) → (known p (e ∷ h) t).ordered ≡ (known p h t).ordered → IsClientOf p h t words → IsClientOf p (e ∷ h) t words
+pub client_on : (p : PlansData) (e : Event) (h : List Event) (t : ℕ) (words : PlainData) → (known p (e ∷ h) t).ordered ≡ (known p h t).ordered → IsOrderedClient p h t words → IsOrderedClient p (e ∷ h) t words
 client_on p e h t words same old =
     let grows = count_grows p e h t in
     let within = old.within in
@@ -35,23 +35,23 @@ client_on p e h t words same old =
     }
 
 -- and so does an event of another stream
-pub client_again : (p : PlansData) (e : Event) (h : List Event) (t : ℕ) (words : PlainData) → eqb (stream_in e) t ≡ false → IsClientOf p h t words → IsClientOf p (e ∷ h) t words
+pub client_again : (p : PlansData) (e : Event) (h : List Event) (t : ℕ) (words : PlainData) → eqb (stream_in e) t ≡ false → IsOrderedClient p h t words → IsOrderedClient p (e ∷ h) t words
 client_again p e h t words off = client_on p e h t words (ap (λ (k : Known). k.ordered) (known_other p e h t off))
 
 -- an action that is no flush
-pub client_passed : (p : PlansData) (h : List Event) (s : ℕ) (old new : PlainData) → count p h s ≡ reach p h s → old.done < reach p h s → new ≡ one_further old → flushes_to (plan_of p s) (old.done + 1) ≡ flushes_to (plan_of p s) old.done → IsClientOf p h s old → IsClientOf p h s new
-client_passed p h s old new fresh below is quiet was = subst (IsClientOf p h s) (sym is) record {
+pub client_passed : (p : PlansData) (h : List Event) (s : ℕ) (old new : PlainData) → count p h s ≡ reach p h s → old.done < reach p h s → new ≡ one_further old → flushes_to (plan_of p s) (old.done + 1) ≡ flushes_to (plan_of p s) old.done → IsOrderedClient p h s old → IsOrderedClient p h s new
+client_passed p h s old new fresh below is quiet was = subst (IsOrderedClient p h s) (sym is) record {
   plan = was.plan;
   within = omega (arith, fresh, below);
   passed = λ o. was.passed o ∙ sym quiet;
 }
 
 -- a flush with its order
-pub client_ordered : (p : PlansData) (h : List Event) (s : ℕ) (old new : PlainData) → count p h s ≡ reach p h s → old.done < reach p h s → new ≡ one_further old → flushes_to (plan_of p s) (old.done + 1) ≡ flushes_to (plan_of p s) old.done + 1 → IsClientOf p h s old
-    → IsClientOf p (order_event p h s ∷ h) s new
+pub client_ordered : (p : PlansData) (h : List Event) (s : ℕ) (old new : PlainData) → count p h s ≡ reach p h s → old.done < reach p h s → new ≡ one_further old → flushes_to (plan_of p s) (old.done + 1) ≡ flushes_to (plan_of p s) old.done + 1 → IsOrderedClient p h s old
+    → IsOrderedClient p (order_event p h s ∷ h) s new
 client_ordered p h s old new fresh below is one was =
     let far : count p (order_event p h s ∷ h) s ≡ reach p h s = count_fresh p (order_event p h s) h s fresh (reach_ordered p h s s) ∙ reach_ordered p h s s in
-    subst (IsClientOf p (order_event p h s ∷ h) s) (sym is) record {
+    subst (IsOrderedClient p (order_event p h s ∷ h) s) (sym is) record {
       plan = was.plan;
       within = omega (arith, far, below);
       passed = λ o.
@@ -105,23 +105,23 @@ pub data GoesOn (t : ℕ) (h g : List Event) : Type 0 where
   stays_so : g ≡ h → GoesOn t h g
   has_event : (e : Event) → g ≡ e ∷ h → eqb (stream_in e) t ≡ false → GoesOn t h g
 
-client_goes_on : (p : PlansData) (h g : List Event) (t : ℕ) (words : PlainData) → GoesOn t h g → IsClientOf p h t words → IsClientOf p g t words
-client_goes_on p h g t words (stays_so is) old = subst (λ (x : List Event). IsClientOf p x t words) (sym is) old
-client_goes_on p h g t words (has_event e is off) old = subst (λ (x : List Event). IsClientOf p x t words) (sym is) (client_again p e h t words off old)
+client_goes_on : (p : PlansData) (h g : List Event) (t : ℕ) (words : PlainData) → GoesOn t h g → IsOrderedClient p h t words → IsOrderedClient p g t words
+client_goes_on p h g t words (stays_so is) old = subst (λ (x : List Event). IsOrderedClient p x t words) (sym is) old
+client_goes_on p h g t words (has_event e is off) old = subst (λ (x : List Event). IsOrderedClient p x t words) (sym is) (client_again p e h t words off old)
 
 -- another stream stays at home and served
-pub other_home : (p : PlansData) (old new : PlainHouse) (clients now : List ClientData) (t : ℕ) → GoesOn t old.core.past new.core.past → is_home new.core.outs t ≡ is_home old.core.outs t → slot_at new.slots t ≡ slot_at old.slots t → client_at now t ≡ client_at clients t
+pub other_home : (p : PlansData) (old new : PlainHouse) (clients now : List RunClientData) (t : ℕ) → GoesOn t old.core.past new.core.past → is_home new.core.outs t ≡ is_home old.core.outs t → slot_at new.slots t ≡ slot_at old.slots t → client_of_stream now t ≡ client_of_stream clients t
     → IsAtHomeWith p old clients t → IsAtHomeWith p new now t
 other_home p old new clients now t on home slot client was =
     let here = was.1 in
-    let words : (client_at now t).words ≡ (client_at clients t).words = ap (λ (c : ClientData). c.words) client in (
+    let words : (client_of_stream now t).words ≡ (client_of_stream clients t).words = ap (λ (c : RunClientData). c.words) client in (
       home ∙ was.0,
       subst (λ (w : PlainData). IsServedAt p new.core.past t (slot_at new.slots t) w) (sym words)
-          (subst (λ (x : SlotData SideData ℕ). IsServedAt p new.core.past t x (client_at clients t).words) (sym slot) record { client = client_goes_on p old.core.past new.core.past t (client_at clients t).words on here.client; beside = here.beside }),
+          (subst (λ (x : SlotData SideData ℕ). IsServedAt p new.core.past t x (client_of_stream clients t).words) (sym slot) record { client = client_goes_on p old.core.past new.core.past t (client_of_stream clients t).words on here.client; beside = here.beside }),
     )
 
 -- one stream and all others
-pub served_all : (p : PlansData) (house : PlainHouse) (clients : List ClientData) (s : ℕ) → AreAsMany p house clients → IsAtHomeWith p house clients s → ((t : ℕ) → IsKnown (length p.plans) t → t ≢ s → IsAtHomeWith p house clients t) → IsServed p house clients
+pub served_all : (p : PlansData) (house : PlainHouse) (clients : List RunClientData) (s : ℕ) → HaveOneEach p house clients → IsAtHomeWith p house clients s → ((t : ℕ) → IsKnown (length p.plans) t → t ≢ s → IsAtHomeWith p house clients t) → IsServed p house clients
 served_all p house clients s many own others = record { many = many; each = λ t k. by t k (nat_cases t s) }
   where
     by : (t : ℕ) → IsKnown (length p.plans) t → (t ≡ s) ⊎ (t ≢ s) → IsAtHomeWith p house clients t

@@ -20,7 +20,7 @@ use Rattle.gpu_house.specs.Slots.{SlotData, no_slot, slot_at}
 use Rattle.gpu_house.specs.Making.{fresh_slot, fresh_slots, AreFreshResults}
 use Rattle.gpu_run.specs.declared.parts.Parts.{Parts}
 use Rattle.gpu_run.specs.Making.{AreFreshFor}
-use Rattle.gpu_run.specs.Clients.{ClientData, fresh_client, no_client, client_at}
+use Rattle.gpu_run.specs.Clients.{RunClientData, fresh_run_client, no_client, client_of_stream}
 use Rattle.gpu_run.specs.Served.{PlainHouse, IsServedAt, IsAtHomeWith, IsServed}
 
 -- ---- what the house wants
@@ -67,11 +67,11 @@ slot_there p k lt =
     get_or-map (fresh_slot {Note = ℕ}) (map fresh_side p.plans) k (fresh_side no_plan) no_slot (omega (arith, n, lt))
     ∙ ap (fresh_slot {Note = ℕ}) (get_or-map fresh_side p.plans k no_plan (fresh_side no_plan) lt)
 
-pub served_fresh : (p : PlansData) (house : PlainHouse) (sides : List SideData) (clients : List ClientData) → house.core.past ≡ [] → house.core.outs ≡ replicate (length p.plans) at_home → house.slots ≡ fresh_slots sides
-    → sides ≡ map fresh_side p.plans → clients ≡ map fresh_client p.plans → IsServed p house clients
+pub served_fresh : (p : PlansData) (house : PlainHouse) (sides : List SideData) (clients : List RunClientData) → house.core.past ≡ [] → house.core.outs ≡ replicate (length p.plans) at_home → house.slots ≡ fresh_slots sides
+    → sides ≡ map fresh_side p.plans → clients ≡ map fresh_run_client p.plans → IsServed p house clients
 served_fresh p house sides clients past outs slots made begun = record {
   many = record {
-    as_clients = ap length begun ∙ length-map p.plans fresh_client;
+    as_clients = ap length begun ∙ length-map p.plans fresh_run_client;
     as_slots = ap length rows ∙ length-map (map fresh_side p.plans) fresh_slot ∙ length-map p.plans fresh_side;
     as_outs = ap length outs ∙ length-replicate (length p.plans) at_home;
   };
@@ -87,16 +87,16 @@ served_fresh p house sides clients past outs slots made begun = record {
         let high = known.1 in
         let lt : k < length p.plans = omega (arith, high) in
         let slot : slot_at house.slots (suc k) ≡ fresh_slot (fresh_side (plan_of p (suc k))) = ap (λ (row : List (SlotData SideData ℕ)). slot_at row (suc k)) rows ∙ slot_there p k lt in
-        let client : client_at clients (suc k) ≡ fresh_client (plan_of p (suc k)) = ap (λ (row : List ClientData). client_at row (suc k)) begun ∙ get_or-map fresh_client p.plans k no_plan no_client lt in (
+        let client : client_of_stream clients (suc k) ≡ fresh_run_client (plan_of p (suc k)) = ap (λ (row : List RunClientData). client_of_stream row (suc k)) begun ∙ get_or-map fresh_run_client p.plans k no_plan no_client lt in (
           ap (λ (row : List Out). is_home row (suc k)) outs ∙ home_at (length p.plans) k lt,
-          subst (λ (h : List Event). IsServedAt p h (suc k) (slot_at house.slots (suc k)) (client_at clients (suc k)).words) (sym past)
-              (subst (λ (x : SlotData SideData ℕ). IsServedAt p [] (suc k) x (client_at clients (suc k)).words) (sym slot)
-              (subst (λ (c : ClientData). IsServedAt p [] (suc k) (fresh_slot (fresh_side (plan_of p (suc k)))) c.words) (sym client) (fresh_at p (suc k)))),
+          subst (λ (h : List Event). IsServedAt p h (suc k) (slot_at house.slots (suc k)) (client_of_stream clients (suc k)).words) (sym past)
+              (subst (λ (x : SlotData SideData ℕ). IsServedAt p [] (suc k) x (client_of_stream clients (suc k)).words) (sym slot)
+              (subst (λ (c : RunClientData). IsServedAt p [] (suc k) (fresh_slot (fresh_side (plan_of p (suc k)))) c.words) (sym client) (fresh_at p (suc k)))),
         )
 
 -- ---- one stream more
 
-pub one_more : (plans : List PlanData) (plan : PlanData) (old new : Parts) (client : ClientData) (side : SideData) (results : Unit {0}) (book : Booked) → client ≡ fresh_client plan → side ≡ fresh_side plan → IsFresh book
+pub one_more : (plans : List PlanData) (plan : PlanData) (old new : Parts) (client : RunClientData) (side : SideData) (results : Unit {0}) (book : Booked) → client ≡ fresh_run_client plan → side ≡ fresh_side plan → IsFresh book
     → new.clients.items ≡ old.clients.items ++ client ∷ [] → new.sides.items ≡ old.sides.items ++ side ∷ [] → new.results.items ≡ old.results.items ++ results ∷ [] → new.books.items ≡ old.books.items ++ book ∷ [] → AreFreshFor plans old → AreFreshFor (plans ++ plan ∷ []) new
 one_more plans plan old new client side results book its_client its_side blank clients sides more books was =
     let longer = length_push plans plan in
@@ -105,7 +105,7 @@ one_more plans plan old new client side results book its_client its_side blank c
     let c = was.results in
     let d = was.books in
     record {
-      clients = clients ∙ ap (λ (row : List ClientData). row ++ client ∷ []) was.clients ∙ ap (λ (x : ClientData). map fresh_client plans ++ x ∷ []) its_client ∙ sym (map_push fresh_client plans plan);
+      clients = clients ∙ ap (λ (row : List RunClientData). row ++ client ∷ []) was.clients ∙ ap (λ (x : RunClientData). map fresh_run_client plans ++ x ∷ []) its_client ∙ sym (map_push fresh_run_client plans plan);
       sides = sides ∙ ap (λ (row : List SideData). row ++ side ∷ []) was.sides ∙ ap (λ (x : SideData). map fresh_side plans ++ x ∷ []) its_side ∙ sym (map_push fresh_side plans plan);
       results = omega (arith, a, c, longer);
       books = omega (arith, b, d, longer);

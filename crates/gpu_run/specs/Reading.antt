@@ -7,7 +7,7 @@ use Rattle.gpu_journal.specs.declared.event.Event.{Event}
 use Rattle.gpu_journal.specs.Written.{result_at}
 use Rattle.gpu_journal.specs.Dumps.{passed_at}
 use Rattle.gpu_journal.specs.Serial.{count}
-use Rattle.gpu_run.specs.Clients.{ClientData, client_at, done_at}
+use Rattle.gpu_run.specs.Clients.{RunClientData, client_of_stream, done_at}
 use Rattle.gpu_run.specs.Dumps.{dump_read}
 
 -- a dump with what the results now are: the action place, the result place and the value
@@ -36,5 +36,5 @@ pub record HasRead (p : PlansData) (h : List Event) (s done : ℕ) (read : List 
   pub still : (action place : ℕ) → done ≤ action → result_at p (passed_at p h s action) s place ≡ result_at p h s place
 
 -- so have the clients of all streams
-abbrev pub HaveRead : PlansData → List Event → List ClientData → Type 0
-HaveRead p h clients = (s : ℕ) → IsKnown (length p.plans) s → HasRead p h s (done_at clients s) (client_at clients s).read
+abbrev pub HaveRead : PlansData → List Event → List RunClientData → Type 0
+HaveRead p h clients = (s : ℕ) → IsKnown (length p.plans) s → HasRead p h s (done_at clients s) (client_of_stream clients s).read

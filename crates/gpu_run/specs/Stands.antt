@@ -5,7 +5,7 @@ use Rattle.gpu_journal.specs.declared.event.Event.{Event}
 use Rattle.gpu_journal.specs.Serial.{next}
 use Rattle.serial_laws.specs.Scripts.{AreLawfulPlans}
 use Rattle.gpu_run.specs.declared.acting.Act.{Act}
-use Rattle.gpu_run.specs.Clients.{ClientData, done_at}
+use Rattle.gpu_run.specs.Clients.{RunClientData, done_at}
 use Rattle.gpu_run.specs.Reading.{HaveRead}
 use Rattle.gpu_run.specs.Rounds.{ActsAs, IsRising, HaveActed, HaveClosed, IsRunning}
 use Rattle.gpu_run.specs.Served.{PlainHouse, IsServed}
@@ -24,7 +24,7 @@ HasCome Running p h done = IsRunning p h done
 
 -- the plans are lawful, the journal is what the rule has played so far, the house serves the clients, they have read the
 -- dumps that they have passed, and the round has come to this phase
-pub record Stands (phase : Phase) (p : PlansData) (house : PlainHouse) (clients : List ClientData) : Type 0 where
+pub record Stands (phase : Phase) (p : PlansData) (house : PlainHouse) (clients : List RunClientData) : Type 0 where
   pub lawful : AreLawfulPlans p
   pub rising : IsRising p house.core.past
   pub served : IsServed p house clients
@@ -32,7 +32,7 @@ pub record Stands (phase : Phase) (p : PlansData) (house : PlainHouse) (clients 
   pub come : HasCome phase p house.core.past (done_at clients)
 
 -- what an act of the client of stream s made of the journal and of how far the clients are
-abbrev pub HasActed : PlansData → Act → PlainHouse → PlainHouse → List ClientData → List ClientData → ℕ → Type 0
+abbrev pub HasActed : PlansData → Act → PlainHouse → PlainHouse → List RunClientData → List RunClientData → ℕ → Type 0
 HasActed p act old new before after s = ActsAs p act old.core.past new.core.past (done_at before) (done_at after) s
 
 -- none follows where none came

@@ -7,7 +7,7 @@ use Rattle.house_core.specs.Core.{with_out}
 use Rattle.house_core.specs.Desks.{at_home}
 use Rattle.gpu_house.specs.House.{OutData}
 use Rattle.gpu_house.specs.Changes.{with_side}
-use Rattle.gpu_run.specs.Clients.{ClientData}
+use Rattle.gpu_run.specs.Clients.{RunClientData}
 use Rattle.gpu_run.specs.Rounds.{goes_on}
 use Rattle.gpu_run.specs.Served.{PlainHouse, IsServed, IsOut}
 
@@ -19,7 +19,7 @@ pub record IsTakenBack (before after : PlainHouse) (run : OutData SideData ℕ) 
 
 -- the run of stream s took its next command, and this is the run now: the journal has the event of the rule, and the answer
 -- says whether the run goes on. Where it does, it is out as it was; else each stream is served once the run is taken back
-pub record HasStepped (p : PlansData) (old new : PlainHouse) (clients : List ClientData) (s : ℕ) (now : OutData SideData ℕ) (more : Bool) : Type 0 where
+pub record HasTakenNext (p : PlansData) (old new : PlainHouse) (clients : List RunClientData) (s : ℕ) (now : OutData SideData ℕ) (more : Bool) : Type 0 where
   pub event : new.core.past ≡ run_event p old.core.past s ∷ old.core.past
   pub goes : more ≡ goes_on p new.core.past s
   pub same : now.run.stream ≡ s

@@ -4,7 +4,7 @@ ghost use Rattle.gpu_plan.specs.Passes.{passes};
 ghost use Rattle.gpu_fetch.specs.Side.{SideData, fresh_side};
 ghost use Rattle.gpu_fetch.specs.Plain.{ArePuts, IsBeside, IsNoteBeside, IsNext, IsPut, IsFlush, one_further};
 ghost use Rattle.stream_state.specs.State.{result_of};
-ghost use Rattle.gpu_run.specs.Clients.{fresh_client, flushes_to};
+ghost use Rattle.gpu_run.specs.Clients.{fresh_run_client, flushes_to};
 ghost use Rattle.gpu_run.specs.Reading.{read_with};
 
 use gpu_fetch::{PlainNote, PlainPass, PlainWords};
@@ -27,9 +27,9 @@ pub(crate) struct Client {
 }
 
 impl Model for Client {
-    ghost use Rattle.gpu_run.specs.Clients.{ClientData, IsCounted};
+    ghost use Rattle.gpu_run.specs.Clients.{RunClientData, IsCounted};
 
-    ghost Value = { ClientData };
+    ghost Value = { RunClientData };
 
     ghost view = { λ c. record { words = c.words; read = c.dumps } };
 
@@ -39,7 +39,7 @@ impl Model for Client {
 impl Client {
     /// The client of a plan, which has done nothing, and the service's side of its words.
     pub(crate) fn make(alloc: Global, plan: &Plan) -> Result<(Client, PlainPass), Memory>
-        ensures client { IfOk result (λ made. made.0 ≡ fresh_client plan.now) }
+        ensures client { IfOk result (λ made. made.0 ≡ fresh_run_client plan.now) }
         ensures side { IfOk result (λ made. made.1 ≡ fresh_side plan.now) }
         ensures beside { IfOk result (λ made. IsBeside made.1 made.0.words) }
     {

@@ -6,7 +6,7 @@ ghost use Rattle.gpu_run.specs.Clients.{done_at};
 ghost use Rattle.gpu_run.specs.Reading.{HaveRead};
 ghost use Rattle.gpu_run.specs.Rounds.{IsRunning};
 ghost use Rattle.gpu_run.specs.Served.{IsServed, IsOut};
-ghost use Rattle.gpu_run.specs.Turning.{HasStepped};
+ghost use Rattle.gpu_run.specs.Turning.{HasTakenNext};
 ghost use Rattle.gpu_run.specs.Stands.{Acting, Running, Stands, EndsWhereNoneCame};
 
 use crate::client::Client;
@@ -32,7 +32,7 @@ fn turn<N: Naming, H: Hook>(
     requires there { done_at clients.now run.old.run.stream
         ≡ count N.plans house.old.core.past run.old.run.stream }
     requires more { run.old.run.facts.get ≢ run.old.run.facts.put }
-    ensures { IfOk result (HasStepped N.plans house.old house.new clients.now
+    ensures { IfOk result (HasTakenNext N.plans house.old house.new clients.now
         run.old.run.stream run.new) }
 {
     let words = clients[run.stream() as usize - 1].words();

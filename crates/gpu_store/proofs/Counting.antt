@@ -14,12 +14,12 @@ use Rattle.std.proofs.lemmas.Bool.Decides.{nat_tests}
 use Rattle.std.proofs.lemmas.Map.Steps.{set_value_same}
 use Rattle.std.proofs.lemmas.Map.Views.{All-values-set_value, All-values-insert_entry, All-map-remove_entry, IfSome-lookup_from_All}
 use Rattle.gpu_store.specs.declared.rect.Rect.{Rect}
-use Rattle.gpu_store.specs.Picture.{Picture, texel_count, painted, drawn}
-use Rattle.gpu_store.specs.Images.{Pictures, AreCounted, picture_of, replaced, added, without, total, is_side}
+use Rattle.gpu_store.specs.Picture.{Picture, texel_count, painted, redrawn}
+use Rattle.gpu_store.specs.Images.{Pictures, AreCounted, picture_of, replaced, with_image, without, total_texels, is_side}
 
 -- an image that is drawn upon keeps its size
-pub texel_count-drawn : (picture : Picture) (rect : Rect) (texel : ℕ → ℕ → ℕ) → texel_count (drawn picture rect texel) ≡ texel_count picture
-unfolding drawn painted
+pub texel_count-drawn : (picture : Picture) (rect : Rect) (texel : ℕ → ℕ → ℕ) → texel_count (redrawn picture rect texel) ≡ texel_count picture
+unfolding redrawn painted
 texel_count-drawn picture rect texel = refl
 
 -- no image that is found is empty
@@ -50,8 +50,8 @@ pub counted-without : (texels image : ℕ) (images after : Pictures) (picture : 
     → after ≡ without images image → AreCounted (texels - texel_count picture) after
 counted-without texels image images after picture counted there is =
     let P : Picture → Type 0 = λ picture. 1 ≤ texel_count picture in
-    let less : total (without images image) + texel_count picture ≡ total images =
-    ap (λ found. total (without images image) + unwrap_or (option_map texel_count found) 0) (sym there) ∙ sum_by-remove_entry texel_count (is_at (nat_cmp image)) images in
+    let less : total_texels (without images image) + texel_count picture ≡ total_texels images =
+    ap (λ found. total_texels (without images image) + unwrap_or (option_map texel_count found) 0) (sym there) ∙ sum_by-remove_entry texel_count (is_at (nat_cmp image)) images in
     subst (AreCounted (texels - texel_count picture)) (sym is) record {
       counted = omega (arith, counted.counted, less);
       within = omega (arith, counted.within);
@@ -61,18 +61,18 @@ counted-without texels image images after picture counted there is =
 -- an image has no more texels than all images
 pub texel_count-le-total : (texels image : ℕ) (images : Pictures) (picture : Picture) → AreCounted texels images → picture_of images image ≡ Some picture → texel_count picture ≤ texels
 texel_count-le-total texels image images picture counted there =
-    let less : total (without images image) + texel_count picture ≡ total images =
-    ap (λ found. total (without images image) + unwrap_or (option_map texel_count found) 0) (sym there) ∙ sum_by-remove_entry texel_count (is_at (nat_cmp image)) images in
+    let less : total_texels (without images image) + texel_count picture ≡ total_texels images =
+    ap (λ found. total_texels (without images image) + unwrap_or (option_map texel_count found) 0) (sym there) ∙ sum_by-remove_entry texel_count (is_at (nat_cmp image)) images in
     omega (arith, counted.counted, less)
 
 -- one image more
 pub counted-added : (texels image : ℕ) (images after : Pictures) (new : Picture) → AreCounted texels images → picture_of images image ≡ None
     → IsStrictlySortedBy nat_cmp (keys_of images) → 1 ≤ texel_count new → texels + texel_count new ≤ 4194304
-    → after ≡ added images image new → AreCounted (texels + texel_count new) after
+    → after ≡ with_image images image new → AreCounted (texels + texel_count new) after
 counted-added texels image images after new counted missing sorted some room is =
     let P : Picture → Type 0 = λ picture. 1 ≤ texel_count picture in
-    let more : total (added images image new) + 0 ≡ total images + texel_count new =
-    ap (λ found. total (added images image new) + unwrap_or (option_map texel_count found) 0) (sym missing) ∙ sum_by-insert_entry texel_count nat_cmp_total images image new sorted in
+    let more : total_texels (with_image images image new) + 0 ≡ total_texels images + texel_count new =
+    ap (λ found. total_texels (with_image images image new) + unwrap_or (option_map texel_count found) 0) (sym missing) ∙ sum_by-insert_entry texel_count nat_cmp_total images image new sorted in
     subst (AreCounted (texels + texel_count new)) (sym is) record {
       counted = omega (arith, counted.counted, more);
       within = room;

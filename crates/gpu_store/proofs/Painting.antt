@@ -6,7 +6,7 @@ use Rattle.std.proofs.lemmas.List.{length-replicate, get_or-replicate, replicate
 use Rattle.std.proofs.lemmas.List.FromFn.{fill_by_all}
 use Rattle.std.proofs.lemmas.Bool.Decides.{nat_tests}
 use Rattle.gpu_store.specs.declared.rect.Rect.{Rect}
-use Rattle.gpu_store.specs.Picture.{Picture, texel_at, painted, is_inside, fits, drawn}
+use Rattle.gpu_store.specs.Picture.{Picture, texel_at, painted, is_inside, has_rect, redrawn}
 use Rattle.gpu_store.specs.Rows.{IsDrawn, canvas_texels}
 
 -- the image of this size with these texels
@@ -18,7 +18,7 @@ pub rows_fit : (rows width height n : ℕ) → rows ≤ height → n ≡ width *
 rows_fit rows width height n le is = let far : rows * width ≤ height * width = mul-le-mul_right width le in omega (arith, mul_comm width height)
 
 -- a rectangle that fits ends within the rows
-pub fits_rows : (image : Picture) (rect : Rect) → fits image rect ≡ true → rect.y + rect.h ≤ image.height
+pub fits_rows : (image : Picture) (rect : Rect) → has_rect image rect ≡ true → rect.y + rect.h ≤ image.height
 fits_rows image rect is = grind (arith, nat_tests)
 
 -- texels that are right at each column and row are those of the painted image
@@ -40,8 +40,8 @@ pub drawn_view : (width height : ℕ) (old new : List ℕ) (before : Picture) (r
     → picture width height old ≡ before → length old ≡ width * height
     → ((x y : ℕ) → texel x y ≡ shown x y)
     → IsDrawn width rect texel rect.y (rect.y + rect.h) old new
-    → picture width height new ≡ drawn before rect shown
-unfolding drawn
+    → picture width height new ≡ redrawn before rect shown
+unfolding redrawn
 drawn_view width height old new before rect texel shown view len same drawing =
     let P : Picture → Type 0 = λ image. picture width height new ≡ painted image.width image.height (λ x y. cond (is_inside rect x y) (shown (x - rect.x) (y - rect.y)) (texel_at image x y)) in
     subst P view
@@ -79,7 +79,7 @@ pub stored_texel : (width height : ℕ) (texels : List ℕ) (image : Picture) (x
 stored_texel width height texels image x y view = ap (λ image. texel_at image x y) view
 
 -- the rows above the end of a rectangle that fits lie inside the texels of the image
-pub rows_lent : (width height : ℕ) (texels : List ℕ) (image : Picture) (rect : Rect) (n : ℕ) → picture width height texels ≡ image → fits image rect ≡ true → n ≡ width * height
+pub rows_lent : (width height : ℕ) (texels : List ℕ) (image : Picture) (rect : Rect) (n : ℕ) → picture width height texels ≡ image → has_rect image rect ≡ true → n ≡ width * height
     → (rect.y + rect.h) * width ≤ n
 rows_lent width height texels image rect n view fit len =
     let P : Picture → Type 0 = λ image. rect.y + rect.h ≤ image.height in

@@ -7,8 +7,8 @@ use Rattle.gpu_store.specs.declared.op.Op.TheVariants.{Create, Delete, Clear, Co
 use Rattle.gpu_store.specs.declared.op.Answer.{Answer}
 use Rattle.gpu_store.specs.declared.op.Answer.TheVariants.{Done, InvalidValue, InvalidOperation, OutOfTexels}
 use Rattle.gpu_store.specs.declared.rect.Rect.{Rect}
-use Rattle.gpu_store.specs.Picture.{Picture, rectangle, texel_at, painted, fits, drawn}
-use Rattle.gpu_store.specs.Images.{Pictures, Applied, picture_of, replaced, added, without, created, deleted, drawn_upon, copied, is_side, total, outcome, settled, apply}
+use Rattle.gpu_store.specs.Picture.{Picture, rectangle, texel_at, painted, has_rect, redrawn}
+use Rattle.gpu_store.specs.Images.{Pictures, Applied, picture_of, replaced, with_image, without, created, deleted, drawn_upon, with_copy, is_side, total_texels, outcome, settled, apply}
 
 -- Create
 pub apply-Create : (images : Pictures) (image width height : ℕ) → apply images (Create image width height) ≡ settled images (created images image width height)
@@ -27,7 +27,7 @@ apply-Clear images image rect texel = refl
 
 -- Copy
 pub apply-Copy : (images : Pictures) (source sx sy target dx dy w h : ℕ)
-    → apply images (Copy source sx sy target dx dy w h) ≡ settled images (copied images source sx sy target (rectangle dx dy w h))
+    → apply images (Copy source sx sy target dx dy w h) ≡ settled images (with_copy images source sx sy target (rectangle dx dy w h))
 unfolding apply outcome
 apply-Copy images source sx sy target dx dy w h = refl
 
@@ -58,12 +58,12 @@ drawn_upon-missing : (images : Pictures) (image : ℕ) (rect : Rect) (texel : �
     → settled images (drawn_upon images image rect texel) ≡ refused images InvalidOperation
 drawn_upon-missing images image rect texel missing = rw missing refl
 
-drawn_upon-outside : (images : Pictures) (image : ℕ) (rect : Rect) (texel : ℕ → ℕ → ℕ) (picture : Picture) → picture_of images image ≡ Some picture → fits picture rect ≡ false
+drawn_upon-outside : (images : Pictures) (image : ℕ) (rect : Rect) (texel : ℕ → ℕ → ℕ) (picture : Picture) → picture_of images image ≡ Some picture → has_rect picture rect ≡ false
     → settled images (drawn_upon images image rect texel) ≡ refused images InvalidValue
 drawn_upon-outside images image rect texel picture there outside = rw (there, outside) refl
 
-drawn_upon-done : (images : Pictures) (image : ℕ) (rect : Rect) (texel : ℕ → ℕ → ℕ) (picture : Picture) → picture_of images image ≡ Some picture → fits picture rect ≡ true
-    → settled images (drawn_upon images image rect texel) ≡ done (replaced images image (drawn picture rect texel))
+drawn_upon-done : (images : Pictures) (image : ℕ) (rect : Rect) (texel : ℕ → ℕ → ℕ) (picture : Picture) → picture_of images image ≡ Some picture → has_rect picture rect ≡ true
+    → settled images (drawn_upon images image rect texel) ≡ done (replaced images image (redrawn picture rect texel))
 drawn_upon-done images image rect texel picture there fit = rw (there, fit) refl
 
 -- Clear, case by case
@@ -72,13 +72,13 @@ pub clear-missing : (images : Pictures) (image : ℕ) (rect : Rect) (texel : ℕ
 clear-missing images image rect texel missing =
     apply-Clear images image rect texel ∙ drawn_upon-missing images image rect (λ x y. texel) missing
 
-pub clear-outside : (images : Pictures) (image : ℕ) (rect : Rect) (texel : ℕ) (picture : Picture) → picture_of images image ≡ Some picture → fits picture rect ≡ false
+pub clear-outside : (images : Pictures) (image : ℕ) (rect : Rect) (texel : ℕ) (picture : Picture) → picture_of images image ≡ Some picture → has_rect picture rect ≡ false
     → apply images (Clear image rect texel) ≡ refused images InvalidValue
 clear-outside images image rect texel picture there outside =
     apply-Clear images image rect texel ∙ drawn_upon-outside images image rect (λ x y. texel) picture there outside
 
-pub clear-done : (images : Pictures) (image : ℕ) (rect : Rect) (texel : ℕ) (picture : Picture) → picture_of images image ≡ Some picture → fits picture rect ≡ true
-    → apply images (Clear image rect texel) ≡ done (replaced images image (drawn picture rect (λ x y. texel)))
+pub clear-done : (images : Pictures) (image : ℕ) (rect : Rect) (texel : ℕ) (picture : Picture) → picture_of images image ≡ Some picture → has_rect picture rect ≡ true
+    → apply images (Clear image rect texel) ≡ done (replaced images image (redrawn picture rect (λ x y. texel)))
 clear-done images image rect texel picture there fit =
     apply-Clear images image rect texel ∙ drawn_upon-done images image rect (λ x y. texel) picture there fit
 
@@ -88,13 +88,13 @@ pub upload-missing : (images : Pictures) (image : ℕ) (rect : Rect) (texels : L
 upload-missing images image rect texels missing =
     apply-Upload images image rect texels ∙ drawn_upon-missing images image rect (λ x y. slice_index texels (y * rect.w + x)) missing
 
-pub upload-outside : (images : Pictures) (image : ℕ) (rect : Rect) (texels : List ℕ) (picture : Picture) → picture_of images image ≡ Some picture → fits picture rect ≡ false
+pub upload-outside : (images : Pictures) (image : ℕ) (rect : Rect) (texels : List ℕ) (picture : Picture) → picture_of images image ≡ Some picture → has_rect picture rect ≡ false
     → apply images (Upload image rect texels) ≡ refused images InvalidValue
 upload-outside images image rect texels picture there outside =
     apply-Upload images image rect texels ∙ drawn_upon-outside images image rect (λ x y. slice_index texels (y * rect.w + x)) picture there outside
 
-pub upload-done : (images : Pictures) (image : ℕ) (rect : Rect) (texels : List ℕ) (picture : Picture) → picture_of images image ≡ Some picture → fits picture rect ≡ true
-    → apply images (Upload image rect texels) ≡ done (replaced images image (drawn picture rect (λ x y. slice_index texels (y * rect.w + x))))
+pub upload-done : (images : Pictures) (image : ℕ) (rect : Rect) (texels : List ℕ) (picture : Picture) → picture_of images image ≡ Some picture → has_rect picture rect ≡ true
+    → apply images (Upload image rect texels) ≡ done (replaced images image (redrawn picture rect (λ x y. slice_index texels (y * rect.w + x))))
 upload-done images image rect texels picture there fit =
     apply-Upload images image rect texels ∙ drawn_upon-done images image rect (λ x y. slice_index texels (y * rect.w + x)) picture there fit
 
@@ -124,13 +124,13 @@ pub create-sides : (images : Pictures) (image width height : ℕ) → picture_of
 create-sides images image width height missing sides = apply-Create images image width height ∙ (rw (missing, sides) refl)
 
 pub create-many : (images : Pictures) (image width height : ℕ) → picture_of images image ≡ None → (is_side width && is_side height) ≡ true
-    → nat_le (total images + width * height) 4194304 ≡ false
+    → nat_le (total_texels images + width * height) 4194304 ≡ false
     → apply images (Create image width height) ≡ refused images OutOfTexels
 create-many images image width height missing sides many = apply-Create images image width height ∙ (rw (missing, sides, many) refl)
 
 pub create-done : (images : Pictures) (image width height : ℕ) → picture_of images image ≡ None → (is_side width && is_side height) ≡ true
-    → nat_le (total images + width * height) 4194304 ≡ true
-    → apply images (Create image width height) ≡ done (added images image (painted width height (λ x y. 0)))
+    → nat_le (total_texels images + width * height) 4194304 ≡ true
+    → apply images (Create image width height) ≡ done (with_image images image (painted width height (λ x y. 0)))
 create-done images image width height missing sides room = apply-Create images image width height ∙ (rw (missing, sides, room) refl)
 
 -- Copy, case by case
@@ -143,14 +143,14 @@ pub copy-no_target : (images : Pictures) (source sx sy target dx dy w h : ℕ) (
 copy-no_target images source sx sy target dx dy w h from there missing = apply-Copy images source sx sy target dx dy w h ∙ (rw (there, missing) refl)
 
 pub copy-outside : (images : Pictures) (source sx sy target dx dy w h : ℕ) (from to : Picture) → picture_of images source ≡ Some from → picture_of images target ≡ Some to
-    → (fits from (rectangle sx sy w h) && fits to (rectangle dx dy w h)) ≡ false
+    → (has_rect from (rectangle sx sy w h) && has_rect to (rectangle dx dy w h)) ≡ false
     → apply images (Copy source sx sy target dx dy w h) ≡ refused images InvalidValue
 copy-outside images source sx sy target dx dy w h from to source_there target_there outside =
     apply-Copy images source sx sy target dx dy w h ∙ (rw (source_there, target_there, outside) refl)
 
 pub copy-done : (images : Pictures) (source sx sy target dx dy w h : ℕ) (from to : Picture) → picture_of images source ≡ Some from → picture_of images target ≡ Some to
-    → (fits from (rectangle sx sy w h) && fits to (rectangle dx dy w h)) ≡ true
-    → apply images (Copy source sx sy target dx dy w h) ≡ done (replaced images target (drawn to (rectangle dx dy w h) (λ x y. texel_at from (sx + x) (sy + y))))
+    → (has_rect from (rectangle sx sy w h) && has_rect to (rectangle dx dy w h)) ≡ true
+    → apply images (Copy source sx sy target dx dy w h) ≡ done (replaced images target (redrawn to (rectangle dx dy w h) (λ x y. texel_at from (sx + x) (sy + y))))
 copy-done images source sx sy target dx dy w h from to source_there target_there fit =
     apply-Copy images source sx sy target dx dy w h ∙ (rw (source_there, target_there, fit) refl)
 
@@ -160,8 +160,8 @@ pub record Copies (images : Pictures) (source sx sy target dx dy w h : ℕ) : Ty
   pub to : Picture
   pub source_there : picture_of images source ≡ Some from
   pub target_there : picture_of images target ≡ Some to
-  pub source_fits : fits from (rectangle sx sy w h) ≡ true
-  pub target_fits : fits to (rectangle dx dy w h) ≡ true
+  pub source_fits : has_rect from (rectangle sx sy w h) ≡ true
+  pub target_fits : has_rect to (rectangle dx dy w h) ≡ true
 
 not_done : (images : Pictures) (end : Applied) (answer : Answer) → end ≡ refused images answer → end.answer ≡ Done → answer ≡ Done
 not_done images end answer is isdone = sym (ap (λ end. end.answer) is) ∙ isdone
@@ -171,7 +171,7 @@ pub copy-is_done : (images : Pictures) (source sx sy target dx dy w h : ℕ) →
 copy-is_done images source sx sy target dx dy w h isdone = by_source (picture_of images source) refl
   where
     by_fit : (from to : Picture) → picture_of images source ≡ Some from → picture_of images target ≡ Some to
-        → (first second : Bool) → fits from (rectangle sx sy w h) ≡ first → fits to (rectangle dx dy w h) ≡ second → Copies images source sx sy target dx dy w h
+        → (first second : Bool) → has_rect from (rectangle sx sy w h) ≡ first → has_rect to (rectangle dx dy w h) ≡ second → Copies images source sx sy target dx dy w h
     by_fit from to source_there target_there true true first second =
         record { from = from; to = to; source_there = source_there; target_there = target_there; source_fits = first; target_fits = second }
     by_fit from to source_there target_there true false first second =
@@ -192,11 +192,11 @@ copy-is_done images source sx sy target dx dy w h isdone = by_source (picture_of
 -- the rectangles of a copy that is done lie inside the images
 pub copy-fits : (images : Pictures) (source sx sy target dx dy w h : ℕ) (from to : Picture) → (apply images (Copy source sx sy target dx dy w h)).answer ≡ Done
     → picture_of images source ≡ Some from → picture_of images target ≡ Some to
-    → (fits from (rectangle sx sy w h) ≡ true) × (fits to (rectangle dx dy w h) ≡ true)
+    → (has_rect from (rectangle sx sy w h) ≡ true) × (has_rect to (rectangle dx dy w h) ≡ true)
 copy-fits images source sx sy target dx dy w h from to isdone source_there target_there =
     let copies = copy-is_done images source sx sy target dx dy w h isdone in
     let same_source : Some copies.from ≡ Some from = sym copies.source_there ∙ source_there in
     let same_target : Some copies.to ≡ Some to = sym copies.target_there ∙ target_there in
     let from_is : copies.from ≡ from = cc in
     let to_is : copies.to ≡ to = cc in
-    (subst (λ (picture : Picture). fits picture (rectangle sx sy w h) ≡ true) from_is copies.source_fits, subst (λ (picture : Picture). fits picture (rectangle dx dy w h) ≡ true) to_is copies.target_fits)
+    (subst (λ (picture : Picture). has_rect picture (rectangle sx sy w h) ≡ true) from_is copies.source_fits, subst (λ (picture : Picture). has_rect picture (rectangle dx dy w h) ≡ true) to_is copies.target_fits)

@@ -4,7 +4,7 @@ use Rattle.std.specs.Prelude.{IfSome, option_map, unwrap_or}
 use Rattle.std.specs.List.{sum, sum_by}
 use Rattle.std.proofs.Math.Seq.{take-add, take-length}
 use Rattle.std.proofs.lemmas.List.Sums.{sum_by-append, sum_by_more}
-use Rattle.gpu_store.specs.Picture.{Picture, row_of, IsWhole}
+use Rattle.gpu_store.specs.Picture.{Picture, texel_row, IsWhole}
 use Rattle.gpu_store.specs.Images.{Pictures, picture_of}
 use Rattle.gpu_store.proofs.Lookups.{Stands}
 
@@ -17,7 +17,7 @@ pub row_more : (before total i : ℕ) (row : List ℕ) → i < length row → to
 row_more before total i row lt so_far = omega (arith, so_far, sum_by_more (λ texel. texel) row i 0 lt)
 
 -- the sum of the first rows of an image, and of one row more
-pub rows_more : (found : Option Picture) (before total new y : ℕ) (row : List ℕ) → IfSome found (λ picture. row ≡ row_of picture y) → new ≡ (total + sum row) % 2 ^ 32
+pub rows_more : (found : Option Picture) (before total new y : ℕ) (row : List ℕ) → IfSome found (λ picture. row ≡ texel_row picture y) → new ≡ (total + sum row) % 2 ^ 32
     → IfSome found (λ picture. total ≡ (before + sum (take (y * picture.width) picture.texels)) % 2 ^ 32)
     → IfSome found (λ picture. new ≡ (before + sum (take ((y + 1) * picture.width) picture.texels)) % 2 ^ 32)
 rows_more None before total new y row is added so_far = tt
@@ -25,8 +25,8 @@ rows_more (Some picture) before total new y row is added so_far =
     let w = picture.width in
     let front = take (y * w) picture.texels in
     let further : (y + 1) * w ≡ y * w + w = omega arith in
-    let cut : take ((y + 1) * w) picture.texels ≡ front ++ row_of picture y = ap (λ n. take n picture.texels) further ∙ take-add (y * w) w picture.texels in
-    let all : sum (take ((y + 1) * w) picture.texels) ≡ sum front + sum row = ap sum cut ∙ sum_by-append (λ texel. texel) front (row_of picture y) ∙ ap (λ (r : List ℕ). sum front + sum r) (sym is) in
+    let cut : take ((y + 1) * w) picture.texels ≡ front ++ texel_row picture y = ap (λ n. take n picture.texels) further ∙ take-add (y * w) w picture.texels in
+    let all : sum (take ((y + 1) * w) picture.texels) ≡ sum front + sum row = ap sum cut ∙ sum_by-append (λ texel. texel) front (texel_row picture y) ∙ ap (λ (r : List ℕ). sum front + sum r) (sym is) in
     omega (arith, added, so_far, all)
 
 -- all rows of an image are the image

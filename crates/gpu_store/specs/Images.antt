@@ -10,7 +10,7 @@ use Rattle.gpu_store.specs.declared.op.Op.TheVariants.{Create, Delete, Clear, Co
 use Rattle.gpu_store.specs.declared.op.Answer.{Answer}
 use Rattle.gpu_store.specs.declared.op.Answer.TheVariants.{Done, InvalidValue, InvalidOperation, OutOfTexels}
 use Rattle.gpu_store.specs.declared.rect.Rect.{Rect}
-use Rattle.gpu_store.specs.Picture.{Picture, texel_at, painted, rectangle, fits, texel_count, drawn}
+use Rattle.gpu_store.specs.Picture.{Picture, texel_at, painted, rectangle, has_rect, texel_count, redrawn}
 
 -- the images in rising order of their numbers
 abbrev pub Pictures : Type 0
@@ -25,16 +25,16 @@ abbrev pub replaced : Pictures → ℕ → Picture → Pictures
 replaced images image picture = set_value (is_at (nat_cmp image)) images picture
 
 -- the images with one more, in its place in the order
-abbrev pub added : Pictures → ℕ → Picture → Pictures
-added images image picture = insert_entry nat_cmp images image picture
+abbrev pub with_image : Pictures → ℕ → Picture → Pictures
+with_image images image picture = insert_entry nat_cmp images image picture
 
 -- the images without this one
 abbrev pub without : Pictures → ℕ → Pictures
 without images image = remove_entry (is_at (nat_cmp image)) images
 
 -- how many texels all images have together
-abbrev pub total : Pictures → ℕ
-total images = sum_by texel_count (values_of images)
+abbrev pub total_texels : Pictures → ℕ
+total_texels images = sum_by texel_count (values_of images)
 
 -- the numbers of the images, in rising order
 abbrev pub numbers : Pictures → List ℕ
@@ -42,7 +42,7 @@ numbers images = keys_of images
 
 -- the count of all texels is right and within 4,194,304, and no image is empty
 pub record AreCounted (texels : ℕ) (images : Pictures) : Type 0 where
-  pub counted : texels ≡ total images
+  pub counted : texels ≡ total_texels images
   pub within : texels ≤ 4194304
   pub filled : All (λ picture. 1 ≤ texel_count picture) (values_of images)
 
@@ -76,8 +76,8 @@ abbrev pub created : Pictures → ℕ → ℕ → ℕ → Result Pictures Answer
 created images image width height = do
   _ ← unless (is_none (picture_of images image)) InvalidOperation
   _ ← unless (is_side width && is_side height) InvalidValue
-  _ ← unless (nat_le (total images + width * height) 4194304) OutOfTexels
-  Ok (added images image (painted width height (λ x y. 0)))
+  _ ← unless (nat_le (total_texels images + width * height) 4194304) OutOfTexels
+  Ok (with_image images image (painted width height (λ x y. 0)))
 
 -- one image less, unless it is missing
 abbrev pub deleted : Pictures → ℕ → Result Pictures Answer
@@ -89,23 +89,23 @@ deleted images image = do
 abbrev pub drawn_upon : Pictures → ℕ → Rect → (ℕ → ℕ → ℕ) → Result Pictures Answer
 drawn_upon images image rect texel = do
   picture ← present (picture_of images image)
-  _ ← unless (fits picture rect) InvalidValue
-  Ok (replaced images image (drawn picture rect texel))
+  _ ← unless (has_rect picture rect) InvalidValue
+  Ok (replaced images image (redrawn picture rect texel))
 
 -- the target shows what the source showed before, unless one of them is missing or one of the rectangles lies outside
-abbrev pub copied : Pictures → ℕ → ℕ → ℕ → ℕ → Rect → Result Pictures Answer
-copied images source sx sy target rect = do
+abbrev pub with_copy : Pictures → ℕ → ℕ → ℕ → ℕ → Rect → Result Pictures Answer
+with_copy images source sx sy target rect = do
   from ← present (picture_of images source)
   to ← present (picture_of images target)
-  _ ← unless (fits from (rectangle sx sy rect.w rect.h) && fits to rect) InvalidValue
-  Ok (replaced images target (drawn to rect (λ x y. texel_at from (sx + x) (sy + y))))
+  _ ← unless (has_rect from (rectangle sx sy rect.w rect.h) && has_rect to rect) InvalidValue
+  Ok (replaced images target (redrawn to rect (λ x y. texel_at from (sx + x) (sy + y))))
 
 -- the images after an operation, or the answer that refuses it
 unfoldable pub outcome : Pictures → Op → Result Pictures Answer
 outcome images (Create image width height) = created images image width height
 outcome images (Delete image) = deleted images image
 outcome images (Clear image rect texel) = drawn_upon images image rect (λ x y. texel)
-outcome images (Copy source sx sy target dx dy w h) = copied images source sx sy target (rectangle dx dy w h)
+outcome images (Copy source sx sy target dx dy w h) = with_copy images source sx sy target (rectangle dx dy w h)
 outcome images (Upload image rect texels) = drawn_upon images image rect (λ x y. slice_index texels (y * rect.w + x))
 
 -- the answer of an operation, and the images after it

@@ -28,8 +28,8 @@ abbrev pub texel_at : Picture → ℕ → ℕ → ℕ
 texel_at picture x y = slice_index picture.texels (y * picture.width + x)
 
 -- the texels of row y, from left to right
-abbrev pub row_of : Picture → ℕ → List ℕ
-row_of picture y = take picture.width (drop (y * picture.width) picture.texels)
+abbrev pub texel_row : Picture → ℕ → List ℕ
+texel_row picture y = take picture.width (drop (y * picture.width) picture.texels)
 
 -- the image of this size whose texel in column x of row y is `texel x y`
 unfoldable pub painted : ℕ → ℕ → (ℕ → ℕ → ℕ) → Picture
@@ -48,10 +48,10 @@ abbrev pub is_inside : Rect → ℕ → ℕ → Bool
 is_inside rect x y = nat_le rect.x x && nat_lt x (rect.x + rect.w) && nat_le rect.y y && nat_lt y (rect.y + rect.h)
 
 -- the image has room for the rectangle
-abbrev pub fits : Picture → Rect → Bool
-fits picture rect = nat_le (rect.x + rect.w) picture.width && nat_le (rect.y + rect.h) picture.height
+abbrev pub has_rect : Picture → Rect → Bool
+has_rect picture rect = nat_le (rect.x + rect.w) picture.width && nat_le (rect.y + rect.h) picture.height
 
 -- the image whose rectangle shows `texel` of its own columns and rows, and which is as before elsewhere
-unfoldable pub drawn : Picture → Rect → (ℕ → ℕ → ℕ) → Picture
-drawn picture rect texel =
+unfoldable pub redrawn : Picture → Rect → (ℕ → ℕ → ℕ) → Picture
+redrawn picture rect texel =
     painted picture.width picture.height (λ x y. if is_inside rect x y then texel (x - rect.x) (y - rect.y) else texel_at picture x y)

@@ -1,5 +1,5 @@
 ghost use Rattle.std.specs.Prelude.{◌≡◌, ◌+◌, ◌*◌, ◌≤◌, ◌<◌, [], length, slice_index, IfOk, IsTrue};
-ghost use Rattle.gpu_store.specs.Picture.{texel_at, row_of, IsWhole, painted, rectangle, fits, texel_count, drawn};
+ghost use Rattle.gpu_store.specs.Picture.{texel_at, texel_row, IsWhole, painted, rectangle, has_rect, texel_count, redrawn};
 
 use crate::canvas::Canvas;
 use crate::rect::Rect;
@@ -72,7 +72,7 @@ impl Image {
 
     /// Whether the rectangle lies in the image.
     pub fn fits(&self, rect: Rect) -> bool
-        ensures { result ≡ fits self.now rect }
+        ensures { result ≡ has_rect self.now rect }
     {
         rect.w <= self.width
             && rect.x <= self.width - rect.w
@@ -83,7 +83,7 @@ impl Image {
     /// The texels of a row.
     pub fn row(&self, y: u32) -> &[u32]
         requires { y < self.now.height }
-        ensures row { result.now ≡ row_of self.now y }
+        ensures row { result.now ≡ texel_row self.now y }
         ensures len { length result.now ≡ self.now.width }
         ensures narrow { length result.now ≤ 4096 }
     {
@@ -93,17 +93,18 @@ impl Image {
 
     /// Writes one texel into a rectangle.
     pub fn clear(&mut self, rect: Rect, texel: u32)
-        requires { IsTrue (fits self.old rect) }
-        ensures { self.new ≡ drawn self.old rect (λ x y. texel) }
+        requires { IsTrue (has_rect self.old rect) }
+        ensures { self.new ≡ redrawn self.old rect (λ x y. texel) }
     {
         self.texels.fill(self.width as usize, rect, texel);
     }
 
     /// Writes texels into a rectangle, row by row.
     pub fn upload(&mut self, rect: Rect, texels: &[u32])
-        requires fits { IsTrue (fits self.old rect) }
+        requires fits { IsTrue (has_rect self.old rect) }
         requires count { length texels.now ≡ rect.w * rect.h }
-        ensures { self.new ≡ drawn self.old rect (λ x y. slice_index texels.now (y * rect.w + x)) }
+        ensures { self.new
+            ≡ redrawn self.old rect (λ x y. slice_index texels.now (y * rect.w + x)) }
     {
         self.texels
             .put(self.width as usize, rect, texels, rect.w as usize, 0, 0);
@@ -111,9 +112,9 @@ impl Image {
 
     /// Copies a rectangle of another image, from column `sx` of row `sy` on, into a rectangle of this one.
     pub fn copy(&mut self, rect: Rect, source: &Image, sx: u32, sy: u32)
-        requires fits { IsTrue (fits self.old rect) }
-        requires source_fits { IsTrue (fits source.now (rectangle sx sy rect.w rect.h)) }
-        ensures { self.new ≡ drawn self.old rect (λ x y. texel_at source.now (sx + x) (sy + y)) }
+        requires fits { IsTrue (has_rect self.old rect) }
+        requires source_fits { IsTrue (has_rect source.now (rectangle sx sy rect.w rect.h)) }
+        ensures { self.new ≡ redrawn self.old rect (λ x y. texel_at source.now (sx + x) (sy + y)) }
     {
         self.texels.copy(
             self.width as usize,
@@ -127,9 +128,9 @@ impl Image {
 
     /// Copies a rectangle of this image, from column `sx` of row `sy` on, into another, as it was before.
     pub fn shift(&mut self, rect: Rect, sx: u32, sy: u32)
-        requires fits { IsTrue (fits self.old rect) }
-        requires source_fits { IsTrue (fits self.old (rectangle sx sy rect.w rect.h)) }
-        ensures { self.new ≡ drawn self.old rect (λ x y. texel_at self.old (sx + x) (sy + y)) }
+        requires fits { IsTrue (has_rect self.old rect) }
+        requires source_fits { IsTrue (has_rect self.old (rectangle sx sy rect.w rect.h)) }
+        ensures { self.new ≡ redrawn self.old rect (λ x y. texel_at self.old (sx + x) (sy + y)) }
     {
         self.texels.shift(self.width as usize, rect, sx, sy);
     }

@@ -2,8 +2,8 @@ ghost use Rattle.std.specs.Prelude.{◌≡◌, ◌&&◌, ◌≤◌, ◌<◌, ◌
 ghost use Rattle.std.specs.Ordering.{nat_cmp};
 ghost use Rattle.std.specs.List.{All};
 ghost use Rattle.std.specs.List.Sorted.{IsStrictlyIncreasing, IsStrictlySortedBy};
-ghost use Rattle.gpu_store.specs.Images.{picture_of, numbers, total, apply, is_side, HasItsTexels, IsCreate};
-ghost use Rattle.gpu_store.specs.Picture.{row_of, IsWhole};
+ghost use Rattle.gpu_store.specs.Images.{picture_of, numbers, total_texels, apply, is_side, HasItsTexels, IsCreate};
+ghost use Rattle.gpu_store.specs.Picture.{texel_row, IsWhole};
 
 use crate::image::Image;
 use crate::numbers::Numbers;
@@ -243,7 +243,7 @@ impl Images {
     pub fn count(&self) -> u32
         ensures count { result ≡ length self.now }
         ensures rising { IsStrictlyIncreasing (numbers self.now) }
-        ensures within { total self.now ≤ MOST_TEXELS }
+        ensures within { total_texels self.now ≤ MOST_TEXELS }
     {
         self.images.len() as u32
     }
@@ -290,7 +290,7 @@ impl Images {
     pub fn row(&self, image: u32, y: u32) -> &[u32]
         requires { IsSomeAnd (picture_of self.now image) (λ picture. y < picture.height) }
         ensures row { IfSome (picture_of self.now image)
-            (λ picture. result.now ≡ row_of picture y) }
+            (λ picture. result.now ≡ texel_row picture y) }
         ensures len { IfSome (picture_of self.now image)
             (λ picture. length result.now ≡ picture.width) }
         ensures narrow { length result.now ≤ MOST_SIDE }

@@ -6,7 +6,7 @@ use Rattle.std.proofs.lemmas.Bool.Decides.{nat_tests}
 use Rattle.std.proofs.lemmas.List.{take-append-le, take-map, take_all}
 use Rattle.std.proofs.lemmas.List.Kept.{AllPairs-from_increasing}
 use Rattle.std.proofs.Math.Seq.{take-append-add}
-use Rattle.gpu_word.specs.Results.{Written, Write, finishes_in, last_or, last_written, writes_of, WasLast}
+use Rattle.gpu_word.specs.Results.{Written, Write, finishes_in, last_or, last_written, writes_listed, WasLast}
 use Rattle.gpu_word.specs.Results.{Finish as finish}
 use Rattle.gpu_word.proofs.Written.{last_of_both, finishes_of_both}
 use Rattle.gpu_plan.specs.Plans.{PlansData, plan_of, RiseFrom}
@@ -93,12 +93,12 @@ rising k (pair ∷ pairs) rise low = (
     map_length [] = refl
     map_length (x ∷ xs) = ap suc (map_length xs)
 
-absent : (i v k : ℕ) (pairs : List (ℕ × ℕ)) → RiseFrom k pairs → i < k → last_or i v (writes_of pairs) ≡ v
+absent : (i v k : ℕ) (pairs : List (ℕ × ℕ)) → RiseFrom k pairs → i < k → last_or i v (writes_listed pairs) ≡ v
 absent i v k [] rise low = refl
 absent i v k (pair ∷ pairs) rise low =
     let first = rise.0 in
     let off : eqb pair.0 i ≡ false = ne_eqb pair.0 i (λ same. absurd (omega (arith, first, low, same))) in
-    ap (λ (b : Bool). last_or i (cond b pair.1 v) (writes_of pairs)) off ∙ absent i v (pair.0 + 1) pairs rise.1 (omega (arith, first, low))
+    ap (λ (b : Bool). last_or i (cond b pair.1 v) (writes_listed pairs)) off ∙ absent i v (pair.0 + 1) pairs rise.1 (omega (arith, first, low))
 
 rise_take : (k j : ℕ) (pairs : List (ℕ × ℕ)) → RiseFrom k pairs → RiseFrom k (take j pairs)
 rise_take k zero pairs rise = tt
@@ -106,23 +106,23 @@ rise_take k (suc j) [] rise = tt
 rise_take k (suc j) (pair ∷ pairs) rise = (rise.0, rise_take (pair.0 + 1) j pairs rise.1)
 
 -- the first writes leave at a place what was there, or what all of them leave there
-once : (i v k j : ℕ) (pairs : List (ℕ × ℕ)) → RiseFrom k pairs → (last_or i v (writes_of (take j pairs)) ≡ v) ⊎ (last_or i v (writes_of (take j pairs)) ≡ last_or i v (writes_of pairs))
+once : (i v k j : ℕ) (pairs : List (ℕ × ℕ)) → RiseFrom k pairs → (last_or i v (writes_listed (take j pairs)) ≡ v) ⊎ (last_or i v (writes_listed (take j pairs)) ≡ last_or i v (writes_listed pairs))
 once i v k zero pairs rise = inl refl
 once i v k (suc j) [] rise = inl refl
 once i v k (suc j) (pair ∷ pairs) rise = by (eqb pair.0 i) refl (once i v (pair.0 + 1) j pairs rise.1)
   where
-    by : (b : Bool) → eqb pair.0 i ≡ b → (last_or i v (writes_of (take j pairs)) ≡ v) ⊎ (last_or i v (writes_of (take j pairs)) ≡ last_or i v (writes_of pairs))
-        → (last_or i (cond b pair.1 v) (writes_of (take j pairs)) ≡ v) ⊎ (last_or i (cond b pair.1 v) (writes_of (take j pairs)) ≡ last_or i (cond b pair.1 v) (writes_of pairs))
+    by : (b : Bool) → eqb pair.0 i ≡ b → (last_or i v (writes_listed (take j pairs)) ≡ v) ⊎ (last_or i v (writes_listed (take j pairs)) ≡ last_or i v (writes_listed pairs))
+        → (last_or i (cond b pair.1 v) (writes_listed (take j pairs)) ≡ v) ⊎ (last_or i (cond b pair.1 v) (writes_listed (take j pairs)) ≡ last_or i (cond b pair.1 v) (writes_listed pairs))
     by true q rest =
         let here : pair.0 ≡ i = grind (arith, nat_tests) in
         let low : i < pair.0 + 1 = omega (arith, here) in
         inr (absent i pair.1 (pair.0 + 1) (take j pairs) (rise_take (pair.0 + 1) j pairs rise.1) low ∙ sym (absent i pair.1 (pair.0 + 1) pairs rise.1 low))
     by false q rest = rest
 
-pairs_clean : (pairs : List (ℕ × ℕ)) → RiseFrom 0 pairs → CutsCleanly (writes_of pairs)
+pairs_clean : (pairs : List (ℕ × ℕ)) → RiseFrom 0 pairs → CutsCleanly (writes_listed pairs)
 pairs_clean pairs rise j i v =
-    let part : take j (writes_of pairs) ≡ writes_of (take j pairs) = take-map (λ (pair : ℕ × ℕ). Write pair.0 pair.1) j pairs in
-    let none : finishes_in (take j (writes_of pairs)) ≡ 0 = ap finishes_in part ∙ no_finish (take j pairs) in
+    let part : take j (writes_listed pairs) ≡ writes_listed (take j pairs) = take-map (λ (pair : ℕ × ℕ). Write pair.0 pair.1) j pairs in
+    let none : finishes_in (take j (writes_listed pairs)) ≡ 0 = ap finishes_in part ∙ no_finish (take j pairs) in
     let same = ap (λ (l : List Written). last_or i v l) part in
     ⊎_elim (λ was. inl (none, same ∙ was)) (λ new. inr (omega (arith, none), same ∙ new)) (once i v 0 j pairs rise)
 

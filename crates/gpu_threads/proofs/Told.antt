@@ -3,7 +3,7 @@ use Rattle.std.proofs.Common.{◌≡◌, ℕ, zero, suc, ◌+◌, Bool, true, fa
 use Rattle.std.specs.List.{range_with_len}
 use Rattle.std.proofs.lemmas.List.Elements.{All-head, All-tail}
 use Rattle.gpu_word.specs.Results.{Written, WasLast, Settles}
-use Rattle.result_words.specs.Seen.{WriterData}
+use Rattle.result_words.specs.Seen.{ResultWriterData}
 use Rattle.gpu_plan.specs.Plans.{PlansData, PlanData, plan_of}
 use Rattle.sync_core.specs.Standing.{Standing, is_open}
 use Rattle.gpu_journal.specs.declared.event.Event.{Event}
@@ -37,7 +37,7 @@ module _ (p : PlansData) (h : List Event) (s : ℕ) where
       (subst (λ (dumps : List (ℕ × ℕ)). AreRead p h s dumps reads) all (each_read reads (subst (λ (plan : PlanData). Settles (written p h s) (map (read_for plan) reads)) its settles)))
 
   -- what the reader was given settles, once the hall has taken it back
-  pub settled_so : (plan : PlanData) (stream : ℕ) (reads list : List (ℕ × ℕ × ℕ)) → stream ≡ s → reads ≡ map (read_for plan) list → AreSettled (λ (w : WriterData). Some w.written) p h stream reads → Settles (written p h s) (map (read_for plan) list)
+  pub settled_so : (plan : PlanData) (stream : ℕ) (reads list : List (ℕ × ℕ × ℕ)) → stream ≡ s → reads ≡ map (read_for plan) list → AreSettled (λ (w : ResultWriterData). Some w.written) p h stream reads → Settles (written p h s) (map (read_for plan) list)
   settled_so plan stream reads list at are settled =
       subst (Settles (written p h s)) are (subst (λ (told : List Written). Settles told reads) (settled.told ∙ ap (written p h) at) settled.settled)
 

@@ -4,7 +4,7 @@ use Rattle.gpu_plan.specs.Plans.{PlansData}
 use Rattle.gpu_journal.specs.declared.event.Event.{Event}
 use Rattle.gpu_journal.specs.Waits.{standing_of}
 use Rattle.gpu_journal.specs.Dumps.{MayDump, dumps_of}
-use Rattle.thread_parts.specs.Clients.{ClientData, IsWhole}
+use Rattle.thread_parts.specs.Clients.{ThreadClientData, HasReadAll}
 
 -- this was read of a dump of stream s: the dump's action place and result place, and a value that may be told of it
 pub record IsRead (p : PlansData) (h : List Event) (s : ℕ) (dump : ℕ × ℕ) (read : ℕ × ℕ × ℕ) : Type 0 where
@@ -25,5 +25,5 @@ AreAllRead p h (s ∷ streams) (reads ∷ more) = AreRead p h s (dumps_of p h s)
 AreAllRead p h _ _ = ⊥
 
 -- the client has read each dump of its plan, unless its stream is lost
-abbrev pub IsThrough : PlansData → List Event → ClientData → Type 0
-IsThrough p h client = (standing_of p h client.stream).lost ≡ false → IsWhole client
+abbrev pub IsThrough : PlansData → List Event → ThreadClientData → Type 0
+IsThrough p h client = (standing_of p h client.stream).lost ≡ false → HasReadAll client

@@ -5,37 +5,37 @@ use Rattle.atomic_table.specs.Seated.{TableId}
 use Rattle.gpu_cmd.specs.Spans.{words_in}
 use Rattle.gpu_plan.specs.Plans.{PlanData}
 use Rattle.gpu_fetch.specs.Shared.{side_of}
-use Rattle.result_words.specs.Seen.{WriterData}
+use Rattle.result_words.specs.Seen.{ResultWriterData}
 use Rattle.house_core.specs.Core.{IsFresh, names_of}
 use Rattle.gpu_house.specs.Making.{AreFreshSides}
 use Rattle.gpu_hall.specs.Takers.{AreFreshTakers}
 use Rattle.gpu_threads.specs.declared.full_pass.FullPass.{FullPass}
 use Rattle.gpu_threads.specs.declared.parts.Parts.{Parts}
-use Rattle.thread_parts.specs.Clients.{ClientData}
+use Rattle.thread_parts.specs.Clients.{ThreadClientData}
 use Rattle.gpu_threads.specs.Rows.{shared_in, results_in}
 
 -- the clients are of the streams from s on, in order
-abbrev pub AreNumbered : ℕ → List ClientData → Type 0
-AreNumbered s [] = Unit {0}
-AreNumbered s (client ∷ clients) = (client.stream ≡ s) × AreNumbered (suc s) clients
+abbrev pub AreOfStreamsFrom : ℕ → List ThreadClientData → Type 0
+AreOfStreamsFrom s [] = Unit {0}
+AreOfStreamsFrom s (client ∷ clients) = (client.stream ≡ s) × AreOfStreamsFrom (suc s) clients
 
 -- there is a client for each plan, in order, of its words, of its result words and of its queue
-pub record AreClients (plans : List PlanData) (words results queues : List TableId) (clients : List ClientData) : Type 0 where
-  pub numbered : AreNumbered 1 clients
-  pub plans_are : map (λ (client : ClientData). client.pass.plan) clients ≡ plans
-  pub words_are : map (λ (client : ClientData). client.pass.table) clients ≡ words
-  pub results_are : map (λ (client : ClientData). client.reader.table) clients ≡ results
-  pub queues_are : map (λ (client : ClientData). client.poster.queue) clients ≡ queues
+pub record AreClients (plans : List PlanData) (words results queues : List TableId) (clients : List ThreadClientData) : Type 0 where
+  pub numbered : AreOfStreamsFrom 1 clients
+  pub plans_are : map (λ (client : ThreadClientData). client.pass.plan) clients ≡ plans
+  pub words_are : map (λ (client : ThreadClientData). client.pass.table) clients ≡ words
+  pub results_are : map (λ (client : ThreadClientData). client.reader.table) clients ≡ results
+  pub queues_are : map (λ (client : ThreadClientData). client.poster.queue) clients ≡ queues
 
 -- there is a writer for each plan, in order, of its result words; it has each result place of the plan, and has written nothing
-pub record AreFreshWriters (plans : List PlanData) (results : List TableId) (writers : List WriterData) : Type 0 where
-  pub tables_are : map (λ (writer : WriterData). writer.table) writers ≡ results
-  pub places_are : map (λ (writer : WriterData). writer.places) writers ≡ map (λ (plan : PlanData). words_in plan.areas.results) plans
-  pub none_written : All (λ (writer : WriterData). writer.written ≡ []) writers
+pub record AreFreshWriters (plans : List PlanData) (results : List TableId) (writers : List ResultWriterData) : Type 0 where
+  pub tables_are : map (λ (writer : ResultWriterData). writer.table) writers ≡ results
+  pub places_are : map (λ (writer : ResultWriterData). writer.places) writers ≡ map (λ (plan : PlanData). words_in plan.areas.results) plans
+  pub none_written : All (λ (writer : ResultWriterData). writer.written ≡ []) writers
 
 -- of each of these plans, in order: words and result words, a client, a side, a writer and a taker that have done nothing, a queue, and a
 -- book whose numbers are all 0
-pub record AreFreshFor (plans : List PlanData) (parts : Parts) : Type 0 where
+pub record HaveDoneNothing (plans : List PlanData) (parts : Parts) : Type 0 where
   pub clients : AreClients plans (shared_in parts.words.items) (results_in parts.words.items) parts.queues.items parts.clients.items
   pub sides : AreFreshSides (λ (side : FullPass). side_of side.pass) (λ (side : FullPass). side.pass.table) plans (shared_in parts.words.items) parts.sides.items
   pub takers : AreFreshTakers plans (shared_in parts.words.items) parts.queues.items parts.takers.items

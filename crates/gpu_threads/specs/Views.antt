@@ -21,12 +21,12 @@ pub record AreAllLooks (p : PlansData) (h : List Event) (viewers : ℕ) (all : L
 -- ---- the end
 
 -- the view was reported
-pub record IsTold (shown : ShownData) (told : FrontData) : Type 0 where
+pub record IsViewTold (shown : ShownData) (told : FrontData) : Type 0 where
   pub its : shown.view ≡ Some told
   pub all : ShowAll shown.plans shown.past told.versions
 
 -- each look of the viewer was at a version that was reported
 pub record SawTold (shown : ShownData) (viewer : ViewerData) : Type 0 where
   pub told : FrontData
-  pub is_told : IsTold shown told
+  pub is_told : IsViewTold shown told
   pub each : All (IsOf told.versions) viewer.looks

@@ -1,7 +1,7 @@
 //! The turns of a thread that serves, one after the other.
 ghost use Rattle.std.specs.Prelude.{◌≡◌, length, Some, IfSome};
 ghost use Rattle.sync_core.specs.Standing.{IsKnown};
-ghost use Rattle.gpu_hall.specs.Ready.{IsReady};
+ghost use Rattle.gpu_hall.specs.Ready.{IsReadyRun};
 
 use crate::ground::Ground;
 use crate::over::{all_over, is_lost};
@@ -39,8 +39,9 @@ fn next<N: Naming, P: NamedSide, H: Hook, R: Wait, G: Gate>(
     shift: &mut Shift<'_>,
     on: Option<Run<N, P>>,
 ) -> Option<Run<N, P>>
-    requires ready { IfSome on (IsReady P.side P.table P.mark P.note_of N.plans N.words N.books) }
-    ensures ready { IfSome result (IsReady P.side P.table P.mark P.note_of N.plans N.words N.books) }
+    requires ready { IfSome on
+        (IsReadyRun P.side P.table P.mark P.note_of N.plans N.words N.books) }
+    ensures ready { IfSome result (IsReadyRun P.side P.table P.mark P.note_of N.plans N.words N.books) }
     ensures same { IfSome on (λ run. result ≡ Some run) }
 {
     match on {
@@ -100,11 +101,11 @@ fn advance<N: Naming, P: NamedSide, H: Hook, R: Wait, G: Gate>(
     shift: &mut Shift<'_>,
     run: Run<N, P>,
 ) -> Option<Run<N, P>>
-    requires { IsReady P.side P.table P.mark P.note_of N.plans N.words N.books run }
-    ensures { IfSome result (IsReady P.side P.table P.mark P.note_of N.plans N.words N.books) }
+    requires { IsReadyRun P.side P.table P.mark P.note_of N.plans N.words N.books run }
+    ensures { IfSome result (IsReadyRun P.side P.table P.mark P.note_of N.plans N.words N.books) }
 {
     let mut run = run;
-    run.holds();
+    run.shows_fit();
     let stream = run.stream();
     let order = run.order();
     let own = ground.words_of(stream);

@@ -1,6 +1,6 @@
 //! The service's side of a stream whose client reads its results.
 ghost use Rattle.std.specs.Prelude.{◌≡◌};
-ghost use Rattle.gpu_fetch.specs.Shared.{side_of, IsOf, IsNoteOf};
+ghost use Rattle.gpu_fetch.specs.Shared.{side_of, IsPassOf, IsNoteOf};
 
 use gpu_fetch::ServiceSide;
 use gpu_hall::NamedSide;
@@ -39,7 +39,7 @@ impl ServiceSide for FullPass {
 
     ghost reader_of = { λ r t. r.table ≡ t };
 
-    ghost belongs = { λ s w. IsOf s.pass w.0 };
+    ghost belongs = { λ s w. IsPassOf s.pass w.0 };
 
     ghost note_belongs = { λ s w n. IsNoteOf s.pass w.0 n };
 

@@ -1,7 +1,7 @@
 ghost use Rattle.std.specs.Prelude.{◌≡◌, ◌+◌, [], ◌∷◌, ◌++◌, length, List, IfOk, OnOk};
 ghost use Rattle.gpu_cmd.specs.Spans.{words_in};
 ghost use Rattle.gpu_plan.specs.Plans.{PlanData};
-ghost use Rattle.gpu_threads.specs.Making.{AreFreshFor};
+ghost use Rattle.gpu_threads.specs.Making.{HaveDoneNothing};
 
 use crate::full_pass::FullPass;
 use flush_queue::{FlushQueue, Taker};
@@ -38,7 +38,7 @@ fn result_places(plan: &Plan) -> u32
 impl Parts {
     // Those of no stream, with room for a given number.
     fn none(alloc: Global, streams: usize) -> Result<Parts, Memory>
-        ensures { IfOk result (AreFreshFor []) }
+        ensures { IfOk result (HaveDoneNothing []) }
     {
         Ok(Parts {
             words: Vec::with_capacity(alloc, streams)?,
@@ -60,8 +60,8 @@ impl Parts {
         plan: &Plan,
     ) -> Result<(), Memory>
         ensures { OnOk result ((plans : List PlanData) → stream ≡ length plans + 1
-            → AreFreshFor plans self.old
-            → AreFreshFor (plans ++ plan.now ∷ []) self.new) }
+            → HaveDoneNothing plans self.old
+            → HaveDoneNothing (plans ++ plan.now ∷ []) self.new) }
     {
         let (words, pass, side) = shm_words::make(alloc, plan)?;
         let (queue, poster, taker, pass) = flush_queue::make(rt, alloc, pass)?;
@@ -80,7 +80,7 @@ impl Parts {
 
     /// Those of the streams of a script, of which nothing is done.
     pub(crate) fn make<R: Wait>(rt: &R, alloc: Global, plans: &Plans) -> Result<Parts, Memory>
-        ensures { IfOk result (AreFreshFor plans.now.plans) }
+        ensures { IfOk result (HaveDoneNothing plans.now.plans) }
     {
         let mut parts = Parts::none(alloc, plans.count() as usize)?;
         for done in 0..plans.count() {

@@ -5,7 +5,7 @@ ghost use Rattle.gpu_journal.specs.Complete.{IsComplete};
 ghost use Rattle.gpu_hall.specs.Views.{IsFreshView};
 ghost use Rattle.gpu_threads.specs.Dumps.{IsThrough};
 ghost use Rattle.gpu_threads.specs.Clients.{AreClientsOf};
-ghost use Rattle.gpu_threads.specs.Making.{AreFreshFor, AreNamed};
+ghost use Rattle.gpu_threads.specs.Making.{HaveDoneNothing, AreNamed};
 ghost use Rattle.gpu_threads.specs.Runs.{IsThreadedRun};
 ghost use Rattle.thread_parts.specs.Watches.{HasNotLooked, HasWatched, HaveWatched};
 
@@ -179,7 +179,7 @@ fn finish<N: Naming, H: Hook, R: Wait, G: Gate>(
     let Crew { clients, watches } = crew;
     let mut clients = clients;
     let mut hall = play_left(rt, ground, &mut clients);
-    hall.holds();
+    hall.shows_laws();
     let Ok(dumps) = all_read(alloc, &mut hall, words, clients) else {
         hall.end(rt);
         return Err(Memory);
@@ -203,7 +203,7 @@ fn run_named<N: Naming + Send + Sync, H: Hook + Send, G: Gate + Sync, R: Threads
 ) -> Result<ThreadedRun, Memory>
     requires plans { setup.plans ≡ N.plans }
     requires base { H.base setup.hook ≡ N.base }
-    requires fresh { AreFreshFor N.plans.plans setup.parts }
+    requires fresh { HaveDoneNothing N.plans.plans setup.parts }
     requires named { AreNamed N.words N.result_words N.books N.queues setup.parts }
     requires writer { IfSome setup.views.writer (IsFreshView N.view) }
     requires watches { All (HasWatched N.view 0) setup.views.watches.items }

@@ -5,7 +5,7 @@ ghost use mathlib.Core.List.{IsPrefix};
 ghost use Rattle.gpu_threads.specs.Viewers.{AreFreshViews};
 ghost use Rattle.gpu_hall.specs.Looks.{AreViewerLooks};
 ghost use Rattle.thread_parts.specs.Watches.{HasNotLooked, HasWatched, HaveWatched};
-ghost use Rattle.gpu_threads.specs.Views.{AreAllLooks, IsTold, SawTold};
+ghost use Rattle.gpu_threads.specs.Views.{AreAllLooks, IsViewTold, SawTold};
 
 use gpu_hall::{Hall, NamedSide, Shown};
 use gpu_house::{Naming, Report};
@@ -102,7 +102,7 @@ pub(crate) fn watch_all<G: Gate + Sync, R: Threads + Wait + Sync>(
 
 // What the writer tells. There is one, but no hall that comes out of a lock says so: it is asked until it answers.
 fn tell<R: Wait>(rt: &R, shown: &mut Shown) -> Told
-    ensures told { IsTold shown.old result }
+    ensures told { IsViewTold shown.old result }
     ensures same { shown.new ≡ shown.old }
 {
     for _ in rt.forever() {

@@ -10,6 +10,6 @@ words_kept (Own items) = items.items
 words_kept (Part list from end) = slice_range (arc_value list).items from end
 
 -- the indices lie in the list
-abbrev pub IsKept : Kept → Type 0
-IsKept (Own items) = Unit {0}
-IsKept (Part list from end) = (from ≤ end) × (end ≤ length (arc_value list).items)
+abbrev pub LiesInList : Kept → Type 0
+LiesInList (Own items) = Unit {0}
+LiesInList (Part list from end) = (from ≤ end) × (end ≤ length (arc_value list).items)

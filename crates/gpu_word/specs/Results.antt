@@ -8,8 +8,8 @@ pub data Written : Type 0 where
   Finish : Written
 
 -- the writes of places and values, in order
-abbrev pub writes_of : List (ℕ × ℕ) → List Written
-writes_of pairs = map (λ pair. Write pair.0 pair.1) pairs
+abbrev pub writes_listed : List (ℕ × ℕ) → List Written
+writes_listed pairs = map (λ pair. Write pair.0 pair.1) pairs
 
 abbrev pub is_finish : Written → Bool
 is_finish (Write place value) = false

@@ -25,13 +25,13 @@ enum Kept {
 
 impl Model for Words {
     ghost use Rattle.std.specs.Prelude.{ℕ, List};
-    ghost use Rattle.gpu_word.specs.Kept.{words_kept, IsKept};
+    ghost use Rattle.gpu_word.specs.Kept.{words_kept, LiesInList};
 
     ghost Value = { List (ℕ × ℕ) };
 
     ghost view = { λ words. words_kept words.kept };
 
-    ghost invariant = { λ words. IsKept words.kept };
+    ghost invariant = { λ words. LiesInList words.kept };
 }
 
 impl Words {

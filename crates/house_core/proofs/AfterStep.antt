@@ -21,7 +21,7 @@ use Rattle.gpu_journal.proofs.Worlds.{states_within}
 use Rattle.serial_laws.proofs.Others.{standing_own}
 use Rattle.serial_laws.proofs.Rooms.{step_consumes}
 use Rattle.serial_laws.proofs.Spent.{asked_same}
-use Rattle.serial_laws.specs.Runs.{MayGoOn, keeps}
+use Rattle.serial_laws.specs.Runs.{MayGoOn, step_keeps}
 use Rattle.gpu_journal.specs.World.{greatest_after}
 use Rattle.serial_laws.proofs.Going.{step_goes_on}
 use Rattle.serial_laws.proofs.Runs.{step_open}
@@ -64,7 +64,7 @@ fits_step p h s words acted desk was told may =
       lost = was.lost ∙ sym (ap (λ (x : Standing). x.lost) own ∙ ends.0);
       closed = was.closed ∙ sym (ap (λ (x : Standing). x.closed) own ∙ ends.1);
       walked = walked_on (plan_of p s).actions desk.finished desk.finished desk.greatest (greatest_after acted.effect desk.greatest) desk.walk (omega arith) (greatest_grows acted.effect desk.greatest) was.walked;
-      runs = λ out. step_goes_on p h s words desk.out.order acted.kept (told.kept ∙ ap (keeps p h s) told.effect) may;
+      runs = λ out. step_goes_on p h s words desk.out.order acted.kept (told.kept ∙ ap (step_keeps p h s) told.effect) may;
     }
 
 -- ---- the run

@@ -4,7 +4,7 @@ use Rattle.std.proofs.lemmas.Bool.{eqb-true}
 use Rattle.std.proofs.lemmas.List.{length-set}
 use Rattle.gpu_plan.specs.Plans.{plan_of}
 use Rattle.sync_core.specs.Standing.{IsKnown}
-use Rattle.sync_core.specs.Events.{noted}
+use Rattle.sync_core.specs.Events.{happened}
 use Rattle.sync_core.specs.Core.{StandsFor, HasRoom}
 use Rattle.sync_core.proofs.Rows.{position_of}
 use Rattle.sync_core.proofs.Targets.{waits_go_down}
@@ -107,7 +107,7 @@ pub record Turn (c now : Parts) (event : Event) (desk : DeskData) : Type 0 where
   pub plans : now.plans ≡ c.plans
   pub past : now.past ≡ event ∷ c.past
   pub obeys : Obeys c.plans c.past event
-  pub stands : StandsFor now.sync (noted (stream_in event) (deed c.plans event (world c.plans c.past)) (sync_of c.plans c.past))
+  pub stands : StandsFor now.sync (happened (stream_in event) (deed c.plans event (world c.plans c.past)) (sync_of c.plans c.past))
   pub count : length now.sync.streams ≡ length c.sync.streams
   pub images : now.images ≡ replay c.plans (event ∷ c.past)
   pub owed : now.owed + need c.plans c.past (stream_in event) ≡ c.owed + need c.plans (event ∷ c.past) (stream_in event)

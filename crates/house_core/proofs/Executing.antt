@@ -20,7 +20,7 @@ use Rattle.gpu_journal.specs.declared.event.Event.TheVariants.{Step}
 use Rattle.gpu_journal.specs.World.{drawn_by, state_of}
 use Rattle.gpu_journal.specs.Facts.{put_of, verdict_at}
 use Rattle.gpu_journal.specs.Legal.{Obeys}
-use Rattle.gpu_journal.specs.Replaying.{IsWithin}
+use Rattle.gpu_journal.specs.Replaying.{IsWithinQuota}
 use Rattle.gpu_journal.proofs.Worlds.{states_within}
 use Rattle.serial_laws.proofs.Passed.{lawful_of}
 use Rattle.serial_laws.specs.Runs as histories
@@ -59,14 +59,14 @@ ready c t desk was place plans read obeys verdict =
         known = subst (λ (p : PlansData). IsKnown (length p.plans) s) (sym plans) place.plan;
         accepted = subst (λ (p : PlansData). IsTaken (plan_of p s).areas words desk.state) (sym plans) (subst (IsTaken areas words) (sym state) taken.1);
         command = sym taken.0;
-        within = subst IsWithin (sym state) within;
+        within = subst IsWithinQuota (sym state) within;
       };
       streams = was.many.streams ∙ ap (λ (p : PlansData). length p.plans) (sym plans);
       front = rw (core_left p h c.sync place.stands s) left;
     }
 
 -- the core keeps a wait as the journal says
-core_keeps : (p : PlansData) (h : List Event) (core : cores.Core) (is : IsCoreOf p h core) (s : ℕ) (effect : Effect) → keeps p core s effect ≡ histories.keeps p h s effect
+core_keeps : (p : PlansData) (h : List Event) (core : cores.Core) (is : IsCoreOf p h core) (s : ℕ) (effect : Effect) → keeps p core s effect ≡ histories.step_keeps p h s effect
 core_keeps p h core is s Nothing = refl
 core_keeps p h core is s (Token token) = refl
 core_keeps p h core is s (Release release) = refl

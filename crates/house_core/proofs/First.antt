@@ -65,7 +65,7 @@ homes_first p books zero same is = absurd (let low = is.0 in omega arith)
 homes_first p books (suc k) same is =
     let high = is.1 in
     let count = length-map p.plans (λ (plan : PlanData). rank plan.priority) in
-    get_or-map (λ (n : ℕ). record { priority = n; home = true }) (ranks_of p.plans) k 0 seats.nobody (omega (arith, count, high))
+    get_or-map (λ (n : ℕ). record { priority = n; home = true }) (ranks_of p.plans) k 0 seats.empty_seat (omega (arith, count, high))
     ∙ ap (λ (n : ℕ). record { priority = n; home = true }) (get_or-map (λ (plan : PlanData). rank plan.priority) p.plans k no_plan 0 (omega (arith, high)))
     ∙ ap (λ (desk : DeskData). record { priority = rank (get_or p.plans k no_plan).priority; home = eqb desk.out.order 0 }) (sym (desk_first p.plans books k no_desk same (omega (arith, high))))
 

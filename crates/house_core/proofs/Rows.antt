@@ -8,7 +8,7 @@ use Rattle.std.proofs.Math.Seq.{map-set_same}
 use Rattle.sync_core.specs.Standing.{IsKnown}
 use Rattle.sync_core.proofs.Rows.{position_of, apart, row, row_is, row_same, row_other, row_there}
 use Rattle.seq_sched.specs.declared.seat.Seat.{Seat}
-use Rattle.seq_sched.specs.Seats.{nobody, seat_of}
+use Rattle.seq_sched.specs.Seats.{empty_seat, seat_of}
 use Rattle.house_core.specs.Desks.{DeskData, no_desk, desk_at}
 use Rattle.house_core.specs.Core.{book_at, out_at, with_out, books_of, outs_of}
 
@@ -63,14 +63,14 @@ desk_set_other desks s t desk low off = desk_row (set desks (s - 1) desk) t ∙ 
 
 -- ---- seats
 
-seat_row : (seats : List Seat) (s : ℕ) → seat_of seats s ≡ row nobody seats s
-seat_row = row_is nobody seat_of (λ seats. refl) (λ seats k. refl)
+seat_row : (seats : List Seat) (s : ℕ) → seat_of seats s ≡ row empty_seat seats s
+seat_row = row_is empty_seat seat_of (λ seats. refl) (λ seats k. refl)
 
 pub seat_set_here : (seats : List Seat) (s : ℕ) (seat : Seat) → IsKnown (length seats) s → seat_of (set seats (s - 1) seat) s ≡ seat
-seat_set_here seats s seat known = seat_row (set seats (s - 1) seat) s ∙ row_same nobody seats s seat known
+seat_set_here seats s seat known = seat_row (set seats (s - 1) seat) s ∙ row_same empty_seat seats s seat known
 
 pub seat_set_other : (seats : List Seat) (s t : ℕ) (seat : Seat) → 0 < s → eqb s t ≡ false → seat_of (set seats (s - 1) seat) t ≡ seat_of seats t
-seat_set_other seats s t seat low off = seat_row (set seats (s - 1) seat) t ∙ row_other nobody seats s t seat low (other_than s t off) ∙ sym (seat_row seats t)
+seat_set_other seats s t seat low off = seat_row (set seats (s - 1) seat) t ∙ row_other empty_seat seats s t seat low (other_than s t off) ∙ sym (seat_row seats t)
 
 -- ---- what contracts see of the desks
 

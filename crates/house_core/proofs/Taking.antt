@@ -39,7 +39,7 @@ seated c was = record {
 }
 
 -- so the scheduler makes the choice among those
-pub chooses : (c : Parts) → CoreInvariant c → seats.choice c.seats c.sync ≡ choice_at_home c.plans c.past (is_home (outs_of c.desks))
+pub chooses : (c : Parts) → CoreInvariant c → seats.least_runnable c.seats c.sync ≡ choice_at_home c.plans c.past (is_home (outs_of c.desks))
 chooses c was = scheduler_chooses c.plans c.past (is_home (outs_of c.desks)) c.seats c.sync (seated c was) record { count = was.many.streams; stands = was.sync }
 
 -- the facts of the stream that is chosen: it can run, and its next flush is that of its first number
@@ -48,7 +48,7 @@ pub record IsChosen (c : Parts) (s : ℕ) : Type 0 where
   pub runs : CanRun c.plans c.past s
   pub flush : slice_get (desk_at c.desks s).places (desk_at c.desks s).finished ≡ Some (flush_of c.plans c.past s)
 
-pub chosen : (c : Parts) (s : ℕ) → CoreInvariant c → seats.choice c.seats c.sync ≡ Some s → IsChosen c s
+pub chosen : (c : Parts) (s : ℕ) → CoreInvariant c → seats.least_runnable c.seats c.sync ≡ Some s → IsChosen c s
 chosen c s was e =
     let q = chosen_runs c.plans c.past (is_home (outs_of c.desks)) s (sym (chooses c was) ∙ e) in
     let place = place_of c s was q.0 in
@@ -62,7 +62,7 @@ chosen c s was e =
 -- ---- the run
 
 -- the first number of a stream, as the core has it, is that of the journal, and positive
-pub first_of : (c : Parts) (s n : ℕ) → CoreInvariant c → Some n ≡ first_order (cores.left_of c.sync s) → first_order (left_of c.plans c.past s) ≡ Some n
+pub first_of : (c : Parts) (s n : ℕ) → CoreInvariant c → Some n ≡ first_order (cores.unprocessed_of c.sync s) → first_order (left_of c.plans c.past s) ≡ Some n
 first_of c s n was e = ap first_order (sym (core_left c.plans c.past c.sync (record { count = was.many.streams; stands = was.sync }) s)) ∙ sym e
 
 pub first_positive : (p : PlansData) (h : List Event) (s n : ℕ) → first_order (left_of p h s) ≡ Some n → 0 < n

@@ -11,7 +11,7 @@ use Rattle.gpu_journal.specs.declared.event.Why.TheVariants.{Error}
 use Rattle.gpu_journal.specs.World.{replay, state_of}
 use Rattle.gpu_journal.specs.Waits.{standing_of}
 use Rattle.gpu_journal.specs.Facts.{verdict_at}
-use Rattle.serial_laws.specs.Runs.{keeps}
+use Rattle.serial_laws.specs.Runs.{step_keeps}
 use Rattle.step_parts.specs.declared.acted.Acted.{Acted}
 use Rattle.step_parts.specs.Executing.{IsToldOf}
 use Rattle.house_core.specs.declared.steps.Stepped.{Stepped}
@@ -21,7 +21,7 @@ use Rattle.house_core.specs.Core.{CoreData, Stays, Grows, IsRunOf, with_out}
 
 -- the report of a step of stream s on these words, by the journal before it
 abbrev pub WasExecuted : PlansData → List Event → ℕ → List (ℕ × ℕ) → Acted → Type 0
-WasExecuted p h s words = IsToldOf (plan_of p s).areas words (state_of p h s) (replay p h) (keeps p h s)
+WasExecuted p h s words = IsToldOf (plan_of p s).areas words (state_of p h s) (replay p h) (step_keeps p h s)
 
 -- the place of the next header, after a command of this size
 abbrev pub further : ℕ → ℕ → ℕ → ℕ
@@ -50,13 +50,13 @@ pub record HasStepped (old new : CoreData) (out left : RunData) (words : List (�
   pub run : IsRunOf new.plans new.past left
 
 -- the stream is open and the words are a valid command, whose step was executed
-pub record IsDone (old new : CoreData) (out left : RunData) (words : List (ℕ × ℕ)) (acted : Acted) : Type 0 where
+pub record IsStepDone (old new : CoreData) (out left : RunData) (words : List (ℕ × ℕ)) (acted : Acted) : Type 0 where
   pub still_open : is_open (standing_of old.plans old.past out.stream) ≡ true
   pub valid : IsOk (verdict_at old.plans old.past out.stream words)
   pub stepped : HasStepped old new out left words acted
 
 -- the stream is open and the words are no valid command, so the stream is lost by this error
-pub record IsRefused (old new : CoreData) (out left : RunData) (words : List (ℕ × ℕ)) (error : CmdError) : Type 0 where
+pub record IsStepRefused (old new : CoreData) (out left : RunData) (words : List (ℕ × ℕ)) (error : CmdError) : Type 0 where
   pub still_open : is_open (standing_of old.plans old.past out.stream) ≡ true
   pub verdict : verdict_at old.plans old.past out.stream words ≡ Err error
   pub event : Grows old new (Lost out.stream (Error error) words)
@@ -64,15 +64,15 @@ pub record IsRefused (old new : CoreData) (out left : RunData) (words : List (�
   pub run : left ≡ out
 
 -- the stream was over before, and nothing has changed
-pub record IsOver (old new : CoreData) (out left : RunData) (cause : Type 0) : Type 0 where
+pub record IsStepOver (old new : CoreData) (out left : RunData) (cause : Type 0) : Type 0 where
   pub over : cause
   pub stays : Stays old new
   pub run : left ≡ out
 
 -- how a step is answered: the stream was lost or closed before, it is lost by an error now, or its command was executed
-abbrev pub Steps : CoreData → CoreData → RunData → RunData → List (ℕ × ℕ) → Stepped → Type 0
-Steps old new out left words stepped.Lost = IsOver old new out left ((standing_of old.plans old.past out.stream).lost ≡ true)
-Steps old new out left words stepped.Closed =
-    IsOver old new out left (((standing_of old.plans old.past out.stream).lost ≡ false) × ((standing_of old.plans old.past out.stream).closed ≡ true))
-Steps old new out left words (stepped.Invalid error) = IsRefused old new out left words error
-Steps old new out left words (stepped.Done acted) = IsDone old new out left words acted
+abbrev pub AnswersStep : CoreData → CoreData → RunData → RunData → List (ℕ × ℕ) → Stepped → Type 0
+AnswersStep old new out left words stepped.Lost = IsStepOver old new out left ((standing_of old.plans old.past out.stream).lost ≡ true)
+AnswersStep old new out left words stepped.Closed =
+    IsStepOver old new out left (((standing_of old.plans old.past out.stream).lost ≡ false) × ((standing_of old.plans old.past out.stream).closed ≡ true))
+AnswersStep old new out left words (stepped.Invalid error) = IsStepRefused old new out left words error
+AnswersStep old new out left words (stepped.Done acted) = IsStepDone old new out left words acted

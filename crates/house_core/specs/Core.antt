@@ -63,7 +63,7 @@ pub record Grows (old new : CoreData) (event : Event) : Type 0 where
   pub books : new.books ≡ old.books
 
 -- the journal, the plans and the books are the same
-pub record Waits (old new : CoreData) : Type 0 where
+pub record KeepsJournal (old new : CoreData) : Type 0 where
   pub plans : new.plans ≡ old.plans
   pub past : new.past ≡ old.past
   pub books : new.books ≡ old.books

@@ -82,7 +82,7 @@ impl Core {
         plans_are_lawful(&plans);
         let count = plans.count();
         let sync = SyncCore::make(alloc, count)?;
-        sync.has_room();
+        sync.shows_room();
         let ranks = ranks(alloc, &plans)?;
         let scheduler = Scheduler::make(alloc, ranks.as_slice())?;
         let mut journal = Journal::make(alloc);
@@ -124,7 +124,7 @@ impl Core {
     }
 
     /// The law of each core: what contracts see of it is seen of parts that keep the core's invariant. It does nothing.
-    pub fn holds(&self)
+    pub fn shows_core(&self)
         ensures { IsCore self.now }
     {
         let _ = &self.journal;

@@ -42,7 +42,7 @@ impl Core {
         *owed -= desk.unfinished() as usize + 1;
         desk.lose();
         scene.sync.lose(stream);
-        scene.sync.has_room();
+        scene.sync.shows_room();
         journal.push(Event::Lost { stream, why, words });
     }
 
@@ -63,7 +63,7 @@ impl Core {
         *owed -= desk.unfinished() as usize + 1;
         desk.close();
         scene.sync.close(stream);
-        scene.sync.has_room();
+        scene.sync.shows_room();
         journal.push(Event::Close { stream });
     }
 

@@ -54,7 +54,7 @@ impl Core {
         };
         let fences = plans.plan(stream).fences_at(place);
         let order = scene.sync.order(stream, fences)?;
-        scene.sync.has_room();
+        scene.sync.shows_room();
         let desk = &mut desks[stream as usize - 1];
         desk.order();
         *owed += 1;

@@ -9,7 +9,7 @@ ghost use Rattle.serial_laws.specs.Scripts.{AreLawfulPlans};
 ghost use Rattle.serial_laws.specs.Runs.{MayGoOn};
 ghost use Rattle.serial_laws.specs.Choosing.{choice_at_home};
 ghost use Rattle.house_core.specs.Desks.{RunData, at_home};
-ghost use Rattle.house_core.specs.Core.{Stays, Grows, Waits, IsOfPlans, IsRunOf, is_home, with_out, book_at, out_at};
+ghost use Rattle.house_core.specs.Core.{Stays, Grows, KeepsJournal, IsOfPlans, IsRunOf, is_home, with_out, book_at, out_at};
 
 use crate::carried::Carried;
 use crate::core_of::Core;
@@ -22,7 +22,7 @@ impl Core {
         ensures choice { option_map (λ (run : RunData). run.stream) result
             ≡ choice_at_home self.old.plans self.old.past (is_home self.old.outs) }
         ensures none { IfNone result (Stays self.old self.new) }
-        ensures same { Waits self.old self.new }
+        ensures same { KeepsJournal self.old self.new }
         ensures plan { IfSome result (IsOfPlans self.old.plans) }
         ensures run { IfSome result (IsRunOf self.old.plans self.old.past) }
         ensures book { IfSome result (λ run. run.book ≡ book_at self.old.books run.stream) }
@@ -80,7 +80,7 @@ impl Core {
     pub fn back(&mut self, mut run: Carried)
         requires plan { IsOfPlans self.old.plans run }
         requires book { run.book ≡ book_at self.old.books run.stream }
-        ensures same { Waits self.old self.new }
+        ensures same { KeepsJournal self.old self.new }
         ensures outs { self.new.outs ≡ with_out self.old.outs run.stream at_home }
         ensures spare { self.old.spare ≤ self.new.spare }
         ensures out { out_at self.old.outs run.stream
@@ -124,7 +124,7 @@ impl Core {
         } = self;
         *owed -= 1;
         scene.sync.finish(stream);
-        scene.sync.has_room();
+        scene.sync.shows_room();
         scheduler.give_back(stream);
         run.finish(&mut desks[stream as usize - 1]);
         journal.push(Event::Finish { stream, order });
@@ -141,7 +141,7 @@ impl Core {
         ensures event { is_open (standing_of self.old.plans self.old.past run.stream) ≡ true
             → Grows self.old self.new (Finish run.stream run.order) }
         ensures over { is_open (standing_of self.old.plans self.old.past run.stream) ≡ false
-            → Waits self.old self.new }
+            → KeepsJournal self.old self.new }
         ensures outs { self.new.outs ≡ with_out self.old.outs run.stream at_home }
         ensures out { out_at self.old.outs run.stream
             ≡ record { order = run.order; paused = false } }
@@ -164,7 +164,7 @@ impl Core {
         ensures event { is_open (standing_of self.old.plans self.old.past run.stream) ≡ true
             → Grows self.old self.new (Lost run.stream Memory []) }
         ensures over { is_open (standing_of self.old.plans self.old.past run.stream) ≡ false
-            → Waits self.old self.new }
+            → KeepsJournal self.old self.new }
         ensures outs { self.new.outs ≡ with_out self.old.outs run.stream at_home }
         ensures out { out_at self.old.outs run.stream
             ≡ record { order = run.order; paused = run.paused } }

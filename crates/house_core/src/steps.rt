@@ -6,7 +6,7 @@ ghost use Rattle.gpu_journal.specs.declared.event.Event.TheVariants.{Step};
 ghost use Rattle.gpu_journal.specs.Waits.{standing_of};
 ghost use Rattle.gpu_journal.specs.Facts.{facts_at, verdict_at};
 ghost use Rattle.gpu_journal.specs.Legal.{Obeys};
-ghost use Rattle.house_core.specs.Answers.{HasStepped, Steps};
+ghost use Rattle.house_core.specs.Answers.{HasStepped, AnswersStep};
 ghost use Rattle.house_core.specs.Core.{Stays, IsOfPlans, IsRunOf, MayHavePut, book_at, out_at};
 
 use crate::carried::Carried;
@@ -75,7 +75,7 @@ impl Core {
             words: words.as_slice(),
         };
         let acted = run.step(desk, &mut self.scene, &taken)?;
-        self.scene.sync.has_room();
+        self.scene.sync.shows_room();
         self.journal.push(Event::Step { stream, words });
         Ok(acted)
     }
@@ -93,7 +93,7 @@ impl Core {
         requires going { run.old.paused ≡ false }
         requires facts { fetched.facts ≡ run.old.facts }
         requires may { All (MayHavePut self.old.plans run.old) fetched.words }
-        ensures steps { IfOk result (Steps self.old self.new run.old run.new fetched.words) }
+        ensures steps { IfOk result (AnswersStep self.old self.new run.old run.new fetched.words) }
         ensures out { out_at self.old.outs run.old.stream
             ≡ record { order = run.old.order; paused = false } }
         ensures shows { is_open (standing_of self.old.plans self.old.past run.old.stream) ≡ true

@@ -10,7 +10,7 @@ use Rattle.gpu_house.specs.declared.answers.Next.{Next}
 use Rattle.gpu_house.specs.declared.answers.Next.TheVariants.{More, Paused, FlushEnd, Invalid, Closed}
 use Rattle.gpu_house.specs.declared.answers.Next.TheVariants as nexts
 use Rattle.gpu_house.proofs.Going.{goes_further}
-use Rattle.house_tests.specs.Alone.{AllBelong, IsOut}
+use Rattle.house_tests.specs.Alone.{AllBelong, IsOutAlone}
 use Rattle.house_tests.proofs.Belonging.{still}
 
 never : {T : Type 0} → false ≡ true → T
@@ -29,11 +29,11 @@ module _ {Side Note Results Words : Type 0} (belongs : Side → Words → Type 0
 
     module _ (mark : Note → ℕ) where
       -- all were executed
-      done : AreDone seen mark p old new members false → length (seen new.out.side).fetched ≡ new.out.run.facts.fetched → IsOut belongs note_belongs results_belong seen words new.house new.out
+      done : AreDone seen mark p old new members false → length (seen new.out.side).fetched ≡ new.out.run.facts.fetched → IsOutAlone belongs note_belongs results_belong seen words new.house new.out
       done are ready = record { stream = are.moved.stream ∙ one; going = are.moved.paused; list = ready; all = all_now are.met; results = results_now }
 
       -- a run that goes on is still out
-      pub committed : (next : Next) → Commits seen mark p old new members next → (is_executed next ≡ true → length (seen new.out.side).fetched ≡ new.out.run.facts.fetched) → goes_further next ≡ true → IsOut belongs note_belongs results_belong seen words new.house new.out
+      pub committed : (next : Next) → Commits seen mark p old new members next → (is_executed next ≡ true → length (seen new.out.side).fetched ≡ new.out.run.facts.fetched) → goes_further next ≡ true → IsOutAlone belongs note_belongs results_belong seen words new.house new.out
       committed More is ready on = done is (ready refl)
       committed FlushEnd is ready on = done is (ready refl)
       committed Paused is ready on = never on

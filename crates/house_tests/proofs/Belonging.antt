@@ -9,7 +9,7 @@ use Rattle.gpu_house.specs.House.{HouseData, OutData}
 use Rattle.gpu_house.specs.Changes.{StillBelongs, ResultsBelong, with_note}
 use Rattle.gpu_house.specs.Making.{fresh_slots}
 use Rattle.gpu_house.proofs.Sides.{first_of}
-use Rattle.house_tests.specs.Alone.{AllBelong, IsHome, IsOut}
+use Rattle.house_tests.specs.Alone.{AllBelong, IsHome, IsOutAlone}
 
 module _ {Side Note Results Words : Type 0} (belongs : Side → Words → Type 0) (note_belongs : Side → Words → Note → Type 0) (results_belong : Words → Results → Type 0) (words : Words) where
   abbrev Slot : Type 0
@@ -65,7 +65,7 @@ module _ {Side Note Results Words : Type 0} (belongs : Side → Words → Type 0
 
   module _ (seen : Side → SideData) where
     pub taken : (house new : House) (out : OutData Side Note) → Home house → out.run.stream ≡ 1 → out.run.paused ≡ false → length (seen out.side).fetched ≡ out.run.facts.fetched → Some out.side ≡ (slot_at house.slots out.run.stream).side → out.note ≡ note_ahead (slot_at house.slots out.run.stream)
-        → new.slots ≡ with_slot house.slots out.run.stream (left_slot (slot_at house.slots out.run.stream)) → new.results ≡ house.results → IsOut belongs note_belongs results_belong seen words new out
+        → new.slots ≡ with_slot house.slots out.run.stream (left_slot (slot_at house.slots out.run.stream)) → new.results ≡ house.results → IsOutAlone belongs note_belongs results_belong seen words new out
     taken house new out home one going list side note slots results =
         let its_side : Some out.side ≡ (slot_at house.slots 1).side = side ∙ ap (λ (s : ℕ). (slot_at house.slots s).side) one in
         let its_note : out.note ≡ note_ahead (slot_at house.slots 1) = note ∙ ap (λ (s : ℕ). note_ahead (slot_at house.slots s)) one in

@@ -23,7 +23,7 @@ use Rattle.gpu_house.specs.declared.answers.Next.{Next}
 use Rattle.gpu_house.specs.declared.answers.Next.TheVariants.{More, Paused, FlushEnd, Invalid, Closed}
 use Rattle.gpu_house.specs.declared.answers.Next.TheVariants as nexts
 use Rattle.gpu_house.proofs.Going.{goes_further, not_lost, not_closed}
-use Rattle.house_tests.specs.Alone.{AllBelong, IsOut}
+use Rattle.house_tests.specs.Alone.{AllBelong, IsOutAlone}
 use Rattle.house_tests.proofs.Belonging.{still}
 
 -- ---- the answers of a step
@@ -38,7 +38,7 @@ module _ {Side Note Results Words : Type 0} (belongs : Side → Words → Type 0
     pub all : AllBelong belongs note_belongs words out.side None (slot_at house.slots 1).notes
     pub results : ResultsBelong results_belong words house.results 1
 
-  pub fetched : (house : HouseData Side Note Results) (old new : OutData Side Note) (found : List (ℕ × ℕ)) → IsOut belongs note_belongs results_belong seen words house old → HasMetNote belongs note_belongs words old new → (seen new.side).fetched ≡ (seen old.side).fetched ++ found → HasFetched house new found
+  pub fetched : (house : HouseData Side Note Results) (old new : OutData Side Note) (found : List (ℕ × ℕ)) → IsOutAlone belongs note_belongs results_belong seen words house old → HasMetNote belongs note_belongs words old new → (seen new.side).fetched ≡ (seen old.side).fetched ++ found → HasFetched house new found
   fetched house old new found out has grows = record {
     stream = ap (λ (r : RunData). r.stream) has.run ∙ out.stream;
     going = ap (λ (r : RunData). r.paused) has.run ∙ out.going;
@@ -55,7 +55,7 @@ module _ {Side Note Results Words : Type 0} (belongs : Side → Words → Type 0
 
   -- what a step leaves
   pub record HasStepped (p : PlansData) (new : HouseData Side Note Results) (now : OutData Side Note) (more : Bool) : Type 0 where
-    pub on : more ≡ true → IsOut belongs note_belongs results_belong seen words new now
+    pub on : more ≡ true → IsOutAlone belongs note_belongs results_belong seen words new now
     pub list : is_open (standing_of p new.core.past now.run.stream) ≡ true → length (seen now.side).fetched ≡ now.run.facts.fetched
 
   module _ (p : PlansData) (house new : HouseData Side Note Results) (run now : OutData Side Note) (found : List (ℕ × ℕ)) (has : HasFetched house run found)

@@ -28,7 +28,7 @@ module _ {Side Note Results Words : Type 0} (belongs : Side → Words → Type 0
 
   module _ (seen : Side → SideData) where
     -- a run of the stream is out and may go on, and what it and the house have belongs with these words
-    pub record IsOut (words : Words) (house : HouseData Side Note Results) (out : OutData Side Note) : Type 0 where
+    pub record IsOutAlone (words : Words) (house : HouseData Side Note Results) (out : OutData Side Note) : Type 0 where
       pub stream : out.run.stream ≡ 1
       pub going : out.run.paused ≡ false
       pub list : length (seen out.side).fetched ≡ out.run.facts.fetched

@@ -4,7 +4,7 @@ use Rattle.gpu_store.specs.Images.{Pictures}
 use Rattle.journal_text.specs.Text.{stream_text}
 use Rattle.journal_text.specs.Picture.{head_text, image_text, picture_text}
 use Rattle.journal_text.specs.Lines.{name_text, mark_text, dump_text, view_text}
-use Rattle.journal_text.specs.Laws.{is_other, OthersBegin}
+use Rattle.journal_text.specs.Laws.{begins_other_part, OthersBegin}
 
 pub others_begin : OthersBegin
 unfolding name_text head_text stream_text mark_text dump_text view_text
@@ -19,7 +19,7 @@ others_begin = record {
 }
 
 -- so does the text of images, where there is one
-pub picture_begins : (images : Pictures) (behind : List ℕ) → IsTrue (is_other behind) → IsTrue (is_other (picture_text images ++ behind))
+pub picture_begins : (images : Pictures) (behind : List ℕ) → IsTrue (begins_other_part behind) → IsTrue (begins_other_part (picture_text images ++ behind))
 unfolding picture_text image_text head_text
 picture_begins [] behind other = other
 picture_begins (entry ∷ images) behind other = refl

@@ -3,7 +3,7 @@ use Rattle.std.proofs.Common.{◌≡◌, ℕ, zero, suc, ◌+◌, ◌≤◌, Lis
 use Rattle.std.specs.Prelude.{IfSome, option_map, unwrap_or, codes}
 use Rattle.std.specs.List.{flat_map, join_with_byte, range_with_len}
 use Rattle.std.proofs.lemmas.List.{append-nil, take_more, flat_map_more}
-use Rattle.gpu_store.specs.Picture.{Picture, row_of}
+use Rattle.gpu_store.specs.Picture.{Picture, texel_row}
 use Rattle.gpu_store.specs.Images.{Pictures, picture_of}
 use Rattle.gpu_store.proofs.Lookups.{Stands}
 use Rattle.journal_text.specs.Digits.{hex8}
@@ -27,15 +27,15 @@ range_more from (suc count) =
 
 -- the lines of the first rows, and one row more
 abbrev pub rows_text : Picture → ℕ → List ℕ
-rows_text picture count = flat_map (λ y. row_text (row_of picture y)) (range_with_len 0 count)
+rows_text picture count = flat_map (λ y. row_text (texel_row picture y)) (range_with_len 0 count)
 
-pub rows_more : (found : Option Picture) (image y : ℕ) (front old new row : List ℕ) → IfSome found (λ picture. row ≡ row_of picture y) → new ≡ old ++ row_text row
+pub rows_more : (found : Option Picture) (image y : ℕ) (front old new row : List ℕ) → IfSome found (λ picture. row ≡ texel_row picture y) → new ≡ old ++ row_text row
     → IfSome found (λ picture. old ≡ (front ++ head_text image picture.width picture.height) ++ rows_text picture y)
     → IfSome found (λ picture. new ≡ (front ++ head_text image picture.width picture.height) ++ rows_text picture (y + 1))
 rows_more None image y front old new row is pushed so_far = tt
 rows_more (Some picture) image y front old new row is pushed so_far =
     let before = front ++ head_text image picture.width picture.height in
-    let f : ℕ → List ℕ = λ y. row_text (row_of picture y) in
+    let f : ℕ → List ℕ = λ y. row_text (texel_row picture y) in
     pushed
     ∙ ap (λ (text : List ℕ). text ++ row_text row) so_far
     ∙ ap (λ (r : List ℕ). (before ++ rows_text picture y) ++ row_text r) is

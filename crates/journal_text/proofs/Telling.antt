@@ -13,7 +13,7 @@ use Rattle.gpu_journal.specs.declared.event.Why.TheVariants.{Error, Memory}
 use Rattle.gpu_journal.proofs.Errors.{same_error}
 use Rattle.journal_text.specs.Digits.{hex8, number_text}
 use Rattle.journal_text.specs.Text.{word_text, why_text, event_text, journal_text}
-use Rattle.journal_text.specs.Laws.{HasWords, is_other}
+use Rattle.journal_text.specs.Laws.{HasWords, begins_other_part}
 use Rattle.journal_text.proofs.Numerals.{ends, behind_first, numeral_first, number_cut, hex_cut}
 
 -- the first byte, or 0
@@ -148,7 +148,7 @@ event_cut (Close s) (Close t) x y small_a small_b e = close_cut s t x y e
 event_cut a b x y small_a small_b e = absurd (omega (arith, ap first e))
 
 -- no line of a journal begins with the first word of another part
-pub events_are_apart : (event : Event) (behind : List ℕ) → is_other (event_text event ++ behind) ≡ false
+pub events_are_apart : (event : Event) (behind : List ℕ) → begins_other_part (event_text event ++ behind) ≡ false
 unfolding event_text
 events_are_apart (Order stream order place) behind = refl
 events_are_apart (Step stream words) behind = refl
@@ -157,13 +157,13 @@ events_are_apart (Lost stream why words) behind = refl
 events_are_apart (Close stream) behind = refl
 
 -- a text that begins with an event is none of the other parts
-not_other : (event : Event) (more x y : List ℕ) → is_other x ≡ true → x ≡ (event_text event ++ more) ++ y → ⊥
+not_other : (event : Event) (more x y : List ℕ) → begins_other_part x ≡ true → x ≡ (event_text event ++ more) ++ y → ⊥
 not_other event more x y other e =
-    let is : is_other (event_text event ++ (more ++ y)) ≡ true = ap is_other (sym (e ∙ append_assoc (event_text event) more y)) ∙ other in
-    let apart : is_other (event_text event ++ (more ++ y)) ≡ false = events_are_apart event (more ++ y) in
+    let is : begins_other_part (event_text event ++ (more ++ y)) ≡ true = ap begins_other_part (sym (e ∙ append_assoc (event_text event) more y)) ∙ other in
+    let apart : begins_other_part (event_text event ++ (more ++ y)) ≡ false = events_are_apart event (more ++ y) in
     absurd cc
 
-pub journal_cut : (g h : List Event) (x y : List ℕ) → All HasWords g → All HasWords h → is_other x ≡ true → is_other y ≡ true
+pub journal_cut : (g h : List Event) (x y : List ℕ) → All HasWords g → All HasWords h → begins_other_part x ≡ true → begins_other_part y ≡ true
     → flat_map event_text g ++ x ≡ flat_map event_text h ++ y → (g ≡ h) × (x ≡ y)
 journal_cut [] [] x y small_g small_h ox oy e = (refl, e)
 journal_cut [] (b ∷ h) x y small_g small_h ox oy e = absurd (not_other b (flat_map event_text h) x y ox e)
@@ -176,7 +176,7 @@ journal_cut (a ∷ g) (b ∷ h) x y small_g small_h ox oy e =
     let rest : g ≡ h = more.0 in
     (cc, more.1)
 
-pub output_tells : (g h : List Event) (x y : List ℕ) → All HasWords g → All HasWords h → is_other x ≡ true → is_other y ≡ true
+pub output_tells : (g h : List Event) (x y : List ℕ) → All HasWords g → All HasWords h → begins_other_part x ≡ true → begins_other_part y ≡ true
     → journal_text g ++ x ≡ journal_text h ++ y → (g ≡ h) × (x ≡ y)
 unfolding journal_text
 output_tells g h x y small_g small_h ox oy e = journal_cut g h x y small_g small_h ox oy e

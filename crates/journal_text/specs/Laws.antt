@@ -7,13 +7,13 @@ use Rattle.gpu_journal.specs.declared.event.Event.{Event}
 use Rattle.gpu_journal.specs.declared.end.End.{End}
 use Rattle.journal_text.specs.declared.tally.Tally.{Tally}
 use Rattle.journal_text.specs.Digits.{hex8, number_text}
-use Rattle.journal_text.specs.Text.{words_of, event_text, journal_text, stream_text}
+use Rattle.journal_text.specs.Text.{event_words, event_text, journal_text, stream_text}
 use Rattle.journal_text.specs.Picture.{head_text}
 use Rattle.journal_text.specs.Lines.{journal_head, name_text, mark_text, dump_text, view_text}
 
 -- every word of the event has a value of 32 bits
 abbrev pub HasWords : Event → Type 0
-HasWords event = All (λ word. word.1 < 2 ^ 32) (words_of event)
+HasWords event = All (λ word. word.1 < 2 ^ 32) (event_words event)
 
 -- what stands before the first space
 abbrev pub first_word : List ℕ → List ℕ
@@ -25,9 +25,9 @@ abbrev pub other_words : List (List ℕ)
 other_words = codes "gpu-journal" ∷ codes "name" ∷ codes "image" ∷ codes "stream" ∷ codes "mark" ∷ codes "dump" ∷ codes "view" ∷ []
 
 -- a text is empty or begins with the first word of another part
-abbrev pub is_other : List ℕ → Bool
-is_other [] = true
-is_other (byte ∷ text) = list_any (bytes_eq (first_word (byte ∷ text))) other_words
+abbrev pub begins_other_part : List ℕ → Bool
+begins_other_part [] = true
+begins_other_part (byte ∷ text) = list_any (bytes_eq (first_word (byte ∷ text))) other_words
 
 -- different numbers have different decimal digits
 abbrev pub DifferentNumbers : Type 0
@@ -43,19 +43,19 @@ DifferentTexts = (g h : List Event) → All HasWords g → All HasWords h → jo
 
 -- no line of a journal begins with the first word of another part
 abbrev pub EventsAreApart : Type 0
-EventsAreApart = (event : Event) (behind : List ℕ) → is_other (event_text event ++ behind) ≡ false
+EventsAreApart = (event : Event) (behind : List ℕ) → begins_other_part (event_text event ++ behind) ≡ false
 
 -- the lines of the other parts begin with their words
 pub record OthersBegin : Type 0 where
-  pub head : (behind : List ℕ) → IsTrue (is_other (journal_head ++ behind))
-  pub name : (stream : ℕ) (name : Name) (behind : List ℕ) → IsTrue (is_other (name_text stream name ++ behind))
-  pub image : (image width height : ℕ) (behind : List ℕ) → IsTrue (is_other (head_text image width height ++ behind))
-  pub stream : (stream : ℕ) (tally : Tally) (ended : End) (behind : List ℕ) → IsTrue (is_other (stream_text stream tally ended ++ behind))
-  pub mark : (ending : Ending) (value : ℕ) (behind : List ℕ) → IsTrue (is_other (mark_text ending value ++ behind))
-  pub dump : (stream place index value : ℕ) (behind : List ℕ) → IsTrue (is_other (dump_text stream place index value ++ behind))
-  pub view : (viewer events sum : ℕ) (behind : List ℕ) → IsTrue (is_other (view_text viewer events sum ++ behind))
+  pub head : (behind : List ℕ) → IsTrue (begins_other_part (journal_head ++ behind))
+  pub name : (stream : ℕ) (name : Name) (behind : List ℕ) → IsTrue (begins_other_part (name_text stream name ++ behind))
+  pub image : (image width height : ℕ) (behind : List ℕ) → IsTrue (begins_other_part (head_text image width height ++ behind))
+  pub stream : (stream : ℕ) (tally : Tally) (ended : End) (behind : List ℕ) → IsTrue (begins_other_part (stream_text stream tally ended ++ behind))
+  pub mark : (ending : Ending) (value : ℕ) (behind : List ℕ) → IsTrue (begins_other_part (mark_text ending value ++ behind))
+  pub dump : (stream place index value : ℕ) (behind : List ℕ) → IsTrue (begins_other_part (dump_text stream place index value ++ behind))
+  pub view : (viewer events sum : ℕ) (behind : List ℕ) → IsTrue (begins_other_part (view_text viewer events sum ++ behind))
 
 -- a journal with the other parts after it tells the history and these parts
 abbrev pub OutputTells : Type 0
-OutputTells = (g h : List Event) (x y : List ℕ) → All HasWords g → All HasWords h → IsTrue (is_other x) → IsTrue (is_other y)
+OutputTells = (g h : List Event) (x y : List ℕ) → All HasWords g → All HasWords h → IsTrue (begins_other_part x) → IsTrue (begins_other_part y)
     → journal_text g ++ x ≡ journal_text h ++ y → (g ≡ h) × (x ≡ y)

@@ -22,12 +22,12 @@ why_text (Error error) = number_text (code_of error)
 why_text Memory = codes " memory"
 
 -- the words that an event carries
-abbrev pub words_of : Event → List (ℕ × ℕ)
-words_of (Order stream order place) = []
-words_of (Step stream words) = words
-words_of (Finish stream order) = []
-words_of (Lost stream why words) = words
-words_of (Close stream) = []
+abbrev pub event_words : Event → List (ℕ × ℕ)
+event_words (Order stream order place) = []
+event_words (Step stream words) = words
+event_words (Finish stream order) = []
+event_words (Lost stream why words) = words
+event_words (Close stream) = []
 
 -- the line of an event
 unfoldable pub event_text : Event → List ℕ

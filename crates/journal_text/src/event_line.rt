@@ -1,7 +1,7 @@
 ghost use Rattle.std.specs.Prelude.{◌≡◌, ◌+◌, ◌≤◌, ◌++◌, length, vec_len, vec_capacity, IfSome};
 ghost use Rattle.std.specs.List.{flat_map};
 ghost use Rattle.journal_text.specs.Digits.{numeral};
-ghost use Rattle.journal_text.specs.Text.{word_text, why_text, words_of, event_text};
+ghost use Rattle.journal_text.specs.Text.{word_text, why_text, event_words, event_text};
 
 use crate::digits::{NUMBER, digit, hex, put_decimal, put_hex, put_number};
 use crate::put::put;
@@ -76,7 +76,7 @@ pub(crate) fn put_why(out: &mut Vec<u8>, why: Why)
 /// Appends the line of an event.
 #[tactic(auto, unfolding(crate::specs::Text::event_text))]
 pub(crate) fn put_event(out: &mut Vec<u8>, event: &Event)
-    requires { vec_len out.old + EVENT + length (flat_map word_text (words_of event.now))
+    requires { vec_len out.old + EVENT + length (flat_map word_text (event_words event.now))
         ≤ vec_capacity out.old }
     ensures items { out.new.items ≡ out.old.items ++ event_text event.now }
     ensures room { vec_capacity out.old ≤ vec_capacity out.new }
@@ -139,7 +139,7 @@ fn room_with(words: &[(u32, u32)]) -> Option<usize>
 /// How many bytes hold the line of an event, where that many can be counted.
 pub(crate) fn room_of(event: &Event) -> Option<usize>
     ensures { IfSome result (λ room. EVENT + length
-        (flat_map word_text (words_of event.now)) ≤ room) }
+        (flat_map word_text (event_words event.now)) ≤ room) }
 {
     match event {
         Event::Step { words, .. } | Event::Lost { words, .. } => room_with(words.as_slice()),

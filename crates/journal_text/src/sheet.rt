@@ -1,8 +1,8 @@
 ghost use Rattle.std.specs.Prelude.{◌≡◌, ◌+◌, ◌<◌, ◌≤◌, [], ◌++◌, length, IfOk, IfSome, IsSome, IsSomeAnd};
 ghost use Rattle.std.specs.List.{All};
 ghost use Rattle.gpu_store.specs.Images.{picture_of};
-ghost use Rattle.gpu_store.specs.Picture.{row_of};
-ghost use Rattle.journal_text.specs.Text.{words_of, event_text, tally_of, stream_text};
+ghost use Rattle.gpu_store.specs.Picture.{texel_row};
+ghost use Rattle.journal_text.specs.Text.{event_words, event_text, tally_of, stream_text};
 ghost use Rattle.journal_text.specs.Picture.{head_text, row_text};
 ghost use Rattle.journal_text.specs.Lines.{journal_head, name_text, mark_text, dump_text, view_text};
 
@@ -64,7 +64,7 @@ impl Sheet {
     }
 
     /// Puts a text, with which there are at most 1,048,576 bytes more than the limit.
-    pub fn text(&mut self, text: &[u8])
+    pub fn put_text(&mut self, text: &[u8])
         requires { length self.old.bytes + length text.now ≤ self.old.limit + 1048576 }
         ensures bytes { self.new.bytes ≡ self.old.bytes ++ text.now }
         ensures limit { self.new.limit ≡ self.old.limit }
@@ -73,7 +73,7 @@ impl Sheet {
     }
 
     /// Puts the first line of the output of a script of version 2.
-    pub fn head(&mut self)
+    pub fn put_head(&mut self)
         requires { length self.old.bytes ≤ self.old.limit }
         ensures bytes { self.new.bytes ≡ self.old.bytes ++ journal_head }
         ensures limit { self.new.limit ≡ self.old.limit }
@@ -82,7 +82,7 @@ impl Sheet {
     }
 
     /// Puts the line of a stream's name.
-    pub fn name(&mut self, stream: u32, name: Name)
+    pub fn put_name(&mut self, stream: u32, name: Name)
         requires { length self.old.bytes ≤ self.old.limit }
         ensures bytes { self.new.bytes ≡ self.old.bytes ++ name_text stream name }
         ensures limit { self.new.limit ≡ self.old.limit }
@@ -91,10 +91,10 @@ impl Sheet {
     }
 
     /// Puts the line of an event, which has at most 69,632 words, each at a place below 69,632.
-    pub fn event(&mut self, event: &Event)
+    pub fn put_event(&mut self, event: &Event)
         requires room { length self.old.bytes ≤ self.old.limit }
-        requires few { length (words_of event.now) ≤ 69632 }
-        requires near { All (λ word. word.0 < 69632) (words_of event.now) }
+        requires few { length (event_words event.now) ≤ 69632 }
+        requires near { All (λ word. word.0 < 69632) (event_words event.now) }
         ensures bytes { self.new.bytes ≡ self.old.bytes ++ event_text event.now }
         ensures limit { self.new.limit ≡ self.old.limit }
     {
@@ -102,7 +102,7 @@ impl Sheet {
     }
 
     /// Puts the own line of an image: its number, its width and its height.
-    pub fn image(&mut self, images: &Images, image: u32)
+    pub fn put_image(&mut self, images: &Images, image: u32)
         requires room { length self.old.bytes ≤ self.old.limit }
         requires there { IsSome (picture_of images.now image) }
         ensures bytes { IfSome (picture_of images.now image) (λ picture. self.new.bytes
@@ -114,18 +114,18 @@ impl Sheet {
     }
 
     /// Puts the line of a row of an image: its texels from left to right.
-    pub fn row(&mut self, images: &Images, image: u32, y: u32)
+    pub fn put_row(&mut self, images: &Images, image: u32, y: u32)
         requires room { length self.old.bytes ≤ self.old.limit }
         requires there { IsSomeAnd (picture_of images.now image) (λ picture. y < picture.height) }
         ensures bytes { IfSome (picture_of images.now image) (λ picture. self.new.bytes
-            ≡ self.old.bytes ++ row_text (row_of picture y)) }
+            ≡ self.old.bytes ++ row_text (texel_row picture y)) }
         ensures limit { self.new.limit ≡ self.old.limit }
     {
         put_row(&mut self.bytes, images.row(image, y));
     }
 
     /// Puts the line of a stream: how it ended, and what it counted.
-    pub fn stream(&mut self, stream: u32, state: &StreamState, end: End)
+    pub fn put_stream(&mut self, stream: u32, state: &StreamState, end: End)
         requires { length self.old.bytes ≤ self.old.limit }
         ensures bytes { self.new.bytes
             ≡ self.old.bytes ++ stream_text stream (tally_of state.now) end }
@@ -135,7 +135,7 @@ impl Sheet {
     }
 
     /// Puts the mark line of an ending: who waited on what, how the wait ended, and the mark that is kept of it.
-    pub fn mark(&mut self, ending: &Ending, value: u32)
+    pub fn put_mark(&mut self, ending: &Ending, value: u32)
         requires { length self.old.bytes ≤ self.old.limit }
         ensures bytes { self.new.bytes ≡ self.old.bytes ++ mark_text ending.now value }
         ensures limit { self.new.limit ≡ self.old.limit }
@@ -144,7 +144,7 @@ impl Sheet {
     }
 
     /// Puts the line of a dump: its stream, its action place, its result place, and the value that was read.
-    pub fn dump(&mut self, stream: u32, place: u32, index: u32, value: u32)
+    pub fn put_dump(&mut self, stream: u32, place: u32, index: u32, value: u32)
         requires { length self.old.bytes ≤ self.old.limit }
         ensures bytes { self.new.bytes ≡ self.old.bytes ++ dump_text stream place index value }
         ensures limit { self.new.limit ≡ self.old.limit }
@@ -153,7 +153,7 @@ impl Sheet {
     }
 
     /// Puts the line of a look: its viewer, how many events it saw, and the sum of all texels after these.
-    pub fn view(&mut self, viewer: u32, events: u32, sum: u32)
+    pub fn put_view(&mut self, viewer: u32, events: u32, sum: u32)
         requires { length self.old.bytes ≤ self.old.limit }
         ensures bytes { self.new.bytes ≡ self.old.bytes ++ view_text viewer events sum }
         ensures limit { self.new.limit ≡ self.old.limit }

@@ -42,32 +42,32 @@ use Rattle.journal_verify.specs.Rules.{IsFirstFailing}
 use Rattle.journal_verify.specs.Answers.{IsJudged}
 use Rattle.journal_verify.specs.Kept.{WatchData, JudgeData, watch_of}
 use Rattle.journal_verify.specs.Copy.{copy_read}
-use Rattle.journal_verify.specs.Faults.{or_fault, is_number, is_open_in, next_flush, order_fault, kept_state, kept_facts, are_held, or_broken, checked_outcome, verdict_outcome, copy_outcome, fetch_outcome, step_fault, lost_fault, finish_fault, memory_fault, may_close, close_fault, fault_of}
+use Rattle.journal_verify.specs.Faults.{or_fault, is_this_number, is_open_in, next_flush, order_fault, kept_state, kept_facts, are_held, or_broken, checked_outcome, verdict_outcome, copy_outcome, fetch_outcome, step_fault, lost_fault, finish_fault, memory_fault, may_close, close_fault, fault_of}
 use Rattle.journal_verify.specs.Follows.{Follows}
 use Rattle.journal_verify.proofs.Copying.{IsRead, copy_is}
 use Rattle.journal_verify.proofs.Following.{told, watched, watch_of_known, open_decides, left_is, blocked_is, facts_are, reach_is, held_decides}
 
 -- ---- orders
 
-number_is : (o : Option ℕ) (n : ℕ) → Decides (is_number o n) (o ≡ Some n)
+number_is : (o : Option ℕ) (n : ℕ) → Decides (is_this_number o n) (o ≡ Some n)
 number_is None n = (λ e. absurd (cc), λ e. absurd (cc))
 number_is (Some m) n = (λ e. (let same : m ≡ n = grind (arith, nat_tests) in ap Some same), λ e. (let same : m ≡ n = cc in grind (arith, nat_tests)))
 
 -- the place is that of the next flush, where the stream has a watch
-next_decides : (p : PlansData) (h : List Event) (j : JudgeData) (s c : ℕ) → Follows p h j → IsOpen p h s → Decides (option_map_or (λ w. is_number (next_flush w) c) (watch_of j s) false) (slice_get (flush_places (plan_of p s).actions) (known p h s).ordered ≡ Some c)
+next_decides : (p : PlansData) (h : List Event) (j : JudgeData) (s c : ℕ) → Follows p h j → IsOpen p h s → Decides (option_map_or (λ w. is_this_number (next_flush w) c) (watch_of j s) false) (slice_get (flush_places (plan_of p s).actions) (known p h s).ordered ≡ Some c)
 next_decides p h j s c f o =
     let w = watch_of_known p j s f.fits o.known in
     let same : next_flush w.0 ≡ slice_get (flush_places (plan_of p s).actions) (known p h s).ordered = (λ i. slice_get ((watched p h j s w.0 f w.1).flushes i) ((told p h j s w.0 f w.1).ordered i)) in
-    subst (λ (o : Option WatchData). Decides (option_map_or (λ w. is_number (next_flush w) c) o false) (slice_get (flush_places (plan_of p s).actions) (known p h s).ordered ≡ Some c)) (sym w.1)
-    (subst (λ (o : Option ℕ). Decides (is_number (next_flush w.0) c) (o ≡ Some c)) same (number_is (next_flush w.0) c))
+    subst (λ (o : Option WatchData). Decides (option_map_or (λ w. is_this_number (next_flush w) c) o false) (slice_get (flush_places (plan_of p s).actions) (known p h s).ordered ≡ Some c)) (sym w.1)
+    (subst (λ (o : Option ℕ). Decides (is_this_number (next_flush w.0) c) (o ≡ Some c)) same (number_is (next_flush w.0) c))
 
 order_judged : (p : PlansData) (h : List Event) (j : JudgeData) (s n c : ℕ) → Follows p h j → IsJudged p h (Order s n c) (order_fault j s n c)
-order_judged p h j s n c f = by (is_open_in j s) (eqb n (j.drawn + 1)) (option_map_or (λ w. is_number (next_flush w) c) (watch_of j s) false) refl refl refl
+order_judged p h j s n c f = by (is_open_in j s) (eqb n (j.drawn + 1)) (option_map_or (λ w. is_this_number (next_flush w) c) (watch_of j s) false) refl refl refl
   where
     drawn_is : j.drawn + 1 ≡ drawn p h + 1
     drawn_is = ap (λ n. n + 1) f.drawn
 
-    by : (a b d : Bool) → is_open_in j s ≡ a → eqb n (j.drawn + 1) ≡ b → option_map_or (λ w. is_number (next_flush w) c) (watch_of j s) false ≡ d → IsJudged p h (Order s n c) (or_fault a 1 (or_fault b 2 (or_fault d 3 None)))
+    by : (a b d : Bool) → is_open_in j s ≡ a → eqb n (j.drawn + 1) ≡ b → option_map_or (λ w. is_this_number (next_flush w) c) (watch_of j s) false ≡ d → IsJudged p h (Order s n c) (or_fault a 1 (or_fault b 2 (or_fault d 3 None)))
     by false b d ea eb ed = λ o. let t = (open_decides p h j s f).1 o in absurd (cc)
     by true false d ea eb ed =
         let o = (open_decides p h j s f).0 ea in
@@ -117,9 +117,9 @@ verdict_found p h s words ninth (Err error) copy fetched = (fetched, copy_refuse
 
 fetch_judged : (p : PlansData) (h : List Event) (j : JudgeData) (s : ℕ) (words : List (ℕ × ℕ)) (ninth : Type 0) → AreLawfulPlans p → IsLegal p h → Follows p h j → IsFound p h s words ninth (fetch_outcome p j s words)
 fetch_judged p h j s words ninth lawful legal f =
-    by (is_some (first_order (core.left_of j.core s))) (core.blocked j.core s) (eqb (kept_facts p j s).get (kept_facts p j s).put) (copy_read words (kept_facts p j s)) (are_held j s words) refl refl refl refl refl
+    by (is_some (first_order (core.unprocessed_of j.core s))) (core.blocked j.core s) (eqb (kept_facts p j s).get (kept_facts p j s).put) (copy_read words (kept_facts p j s)) (are_held j s words) refl refl refl refl refl
   where
-    left : first_order (core.left_of j.core s) ≡ first_order (left_of p h s)
+    left : first_order (core.unprocessed_of j.core s) ≡ first_order (left_of p h s)
     left = ap first_order (left_is p h j s f)
 
     facts : IsSome (first_order (left_of p h s)) → kept_facts p j s ≡ facts_at p h s
@@ -133,7 +133,7 @@ fetch_judged p h j s words ninth lawful legal f =
     held : (some : IsSome (first_order (left_of p h s))) → flush_of p h s ≤ reach p h s → Decides (are_held j s words) (All (MayHaveBeenPut p h s) words)
     held some reached = let w = watch_of_known p j s f.fits (known_of_left p h s legal some) in held_decides p h j s w.0 words legal f w.1 some reached
 
-    by : (a b c : Bool) (o : Option (Result Command CmdError)) (d : Bool) → is_some (first_order (core.left_of j.core s)) ≡ a → core.blocked j.core s ≡ b → eqb (kept_facts p j s).get (kept_facts p j s).put ≡ c → copy_read words (kept_facts p j s) ≡ o → are_held j s words ≡ d
+    by : (a b c : Bool) (o : Option (Result Command CmdError)) (d : Bool) → is_some (first_order (core.unprocessed_of j.core s)) ≡ a → core.blocked j.core s ≡ b → eqb (kept_facts p j s).get (kept_facts p j s).put ≡ c → copy_read words (kept_facts p j s) ≡ o → are_held j s words ≡ d
         → IsFound p h s words ninth (or_broken a 4 (or_broken (not b) 5 (or_broken (not c) 7 (copy_outcome o d (kept_state j s)))))
     by false b c o d ea eb ec eo ed = (tt, (tt, (tt, both_ways (is_some (first_order (left_of p h s))) (ap is_some (sym left) ∙ ea))))
     by true true c o d ea eb ec eo ed =
@@ -218,18 +218,18 @@ lost_judged p h s error words (Refused other) found = by (eqb (code_of other) (c
 -- ---- finishes
 
 finish_judged : (p : PlansData) (h : List Event) (j : JudgeData) (s n : ℕ) → AreLawfulPlans p → IsLegal p h → Follows p h j → IsJudged p h (Finish s n) (finish_fault p j s n)
-finish_judged p h j s n lawful legal f = by (is_number (first_order (core.left_of j.core s)) n) (core.blocked j.core s) (eqb (kept_facts p j s).get (kept_facts p j s).put) refl refl refl
+finish_judged p h j s n lawful legal f = by (is_this_number (first_order (core.unprocessed_of j.core s)) n) (core.blocked j.core s) (eqb (kept_facts p j s).get (kept_facts p j s).put) refl refl refl
   where
-    left : first_order (core.left_of j.core s) ≡ first_order (left_of p h s)
+    left : first_order (core.unprocessed_of j.core s) ≡ first_order (left_of p h s)
     left = ap first_order (left_is p h j s f)
 
-    by : (a b c : Bool) → is_number (first_order (core.left_of j.core s)) n ≡ a → core.blocked j.core s ≡ b → eqb (kept_facts p j s).get (kept_facts p j s).put ≡ c → IsJudged p h (Finish s n) (or_fault a 4 (or_fault (not b) 5 (or_fault c 10 None)))
-    by false b c ea eb ec = (tt, (tt, (tt, λ e. let t = (number_is (first_order (core.left_of j.core s)) n).1 (left ∙ e) in absurd (cc))))
-    by true true c ea eb ec = (tt, (tt, (tt, (sym left ∙ (number_is (first_order (core.left_of j.core s)) n).0 ea, λ e. let q = blocked_is p h j s f ∙ e in absurd (cc)))))
+    by : (a b c : Bool) → is_this_number (first_order (core.unprocessed_of j.core s)) n ≡ a → core.blocked j.core s ≡ b → eqb (kept_facts p j s).get (kept_facts p j s).put ≡ c → IsJudged p h (Finish s n) (or_fault a 4 (or_fault (not b) 5 (or_fault c 10 None)))
+    by false b c ea eb ec = (tt, (tt, (tt, λ e. let t = (number_is (first_order (core.unprocessed_of j.core s)) n).1 (left ∙ e) in absurd (cc))))
+    by true true c ea eb ec = (tt, (tt, (tt, (sym left ∙ (number_is (first_order (core.unprocessed_of j.core s)) n).0 ea, λ e. let q = blocked_is p h j s f ∙ e in absurd (cc)))))
     by true false c ea eb ec = ended c ec
       where
         first : first_order (left_of p h s) ≡ Some n
-        first = sym left ∙ (number_is (first_order (core.left_of j.core s)) n).0 ea
+        first = sym left ∙ (number_is (first_order (core.unprocessed_of j.core s)) n).0 ea
 
         some : IsSome (first_order (left_of p h s))
         some = first_some (first_order (left_of p h s)) n first

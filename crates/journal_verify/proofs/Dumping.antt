@@ -172,7 +172,7 @@ holds_same p e h s dumped same holds = record {
 
 -- a step of the stream is taken up
 pub holds_step : (p : PlansData) (h : List Event) (s : ℕ) (words : List (ℕ × ℕ)) (old new : DumpedData)
-    → ((place : ℕ) → result_at p (Step s words ∷ h) s place ≡ writing.last_written (writes (plan_of p s).areas words (state_of p h s)) place (result_at p h s place))
+    → ((place : ℕ) → result_at p (Step s words ∷ h) s place ≡ writing.left_by_writes (writes (plan_of p s).areas words (state_of p h s)) place (result_at p h s place))
     → HasTakenUp (writes (plan_of p s).areas words (state_of p h s)) (known p h s).finished old new
     → HoldsDumped p h s old → HoldsDumped p (Step s words ∷ h) s new
 holds_step p h s words old new next taken holds = record {
@@ -191,4 +191,4 @@ holds_step p h s words old new next taken holds = record {
 
     values : (place : ℕ) → is_dumped_in new place ≡ true → slice_index new.values place ≡ result_at p (Step s words ∷ h) s place
     values place there =
-        taken.values place (was place there) ∙ ap (λ (v : ℕ). writing.last_written ws place v) (holds.values place (was place there)) ∙ sym (next place)
+        taken.values place (was place there) ∙ ap (λ (v : ℕ). writing.left_by_writes ws place v) (holds.values place (was place there)) ∙ sym (next place)

@@ -14,7 +14,7 @@ use Rattle.sync_core.specs.Events as sync
 use Rattle.sync_core.specs.Core.{StandsFor}
 use Rattle.gpu_journal.specs.declared.event.Event.{Event}
 use Rattle.gpu_journal.specs.declared.event.Event.TheVariants.{Order, Step, Finish, Lost, Close}
-use Rattle.gpu_journal.specs.World.{Known, world, stream_in, asked_by, with_token, greatest_after, known, known_after}
+use Rattle.gpu_journal.specs.World.{Known, world, stream_in, asked_by, tokens_after, greatest_after, known, known_after}
 use Rattle.gpu_journal.specs.Waits.{deed, deed_asked, sync_of, standing_of, drawn}
 use Rattle.gpu_journal.specs.Replaying.{Shows}
 use Rattle.gpu_journal.proofs.Worlds.{sync_then}
@@ -22,8 +22,8 @@ use Rattle.gpu_journal.proofs.Following.{shows_step, shows_other}
 use Rattle.serial_laws.proofs.Others.{moved_by, standing_own, standing_other, known_own, known_other}
 use Rattle.serial_laws.proofs.Spent.{asked_open}
 use Rattle.journal_verify.specs.Kept.{WatchData, JudgeData, watch_of}
-use Rattle.journal_verify.specs.Entered.{FitsPlans, HasCounted, Counts, counts_of, HasTurned, effect_in, applied_in, state_after, HasEntered}
-use Rattle.journal_verify.specs.Follows.{IsGreatest, Tells, Follows}
+use Rattle.journal_verify.specs.Entered.{FitsPlans, CountsAtMost, Counts, counts_of, HasTurned, effect_in, applied_in, state_after, HasEntered}
+use Rattle.journal_verify.specs.Follows.{IsGreatest, IsWatchOf, Follows}
 use Rattle.journal_verify.proofs.Turning.{get_put, known_of_watch}
 use Rattle.journal_verify.proofs.Following.{told}
 
@@ -36,7 +36,7 @@ record TellsAfter (p : PlansData) (h : List Event) (e : Event) (watch : WatchDat
   token : IsGreatest (known_after p e (world p h) (known p h (stream_in e))).tokens watch.token
   stays : watch.stays ≡ is_open (moved_by (deed p e (world p h)) (drawn p h + 1) (standing_of p h (stream_in e)))
 
-own_tells : (p : PlansData) (h : List Event) (e : Event) (watch : WatchData) → TellsAfter p h e watch → Tells p (e ∷ h) (stream_in e) watch
+own_tells : (p : PlansData) (h : List Event) (e : Event) (watch : WatchData) → TellsAfter p h e watch → IsWatchOf p (e ∷ h) (stream_in e) watch
 own_tells p h e watch t = record {
   ordered = t.ordered ∙ ap (λ (k : Known). k.ordered) (sym (known_own p e h));
   finished = t.finished ∙ ap (λ (k : Known). k.finished) (sym (known_own p e h));
@@ -45,7 +45,7 @@ own_tells p h e watch t = record {
 }
 
 -- that of another stream stays as it is
-other_tells : (p : PlansData) (h : List Event) (e : Event) (t : ℕ) (watch : WatchData) → stream_in e ≢ t → Tells p h t watch → Tells p (e ∷ h) t watch
+other_tells : (p : PlansData) (h : List Event) (e : Event) (t : ℕ) (watch : WatchData) → stream_in e ≢ t → IsWatchOf p h t watch → IsWatchOf p (e ∷ h) t watch
 other_tells p h e t watch apart tells =
     let test : eqb (stream_in e) t ≡ false = grind (arith, nat_tests) in
     let same = sym (known_other p e h t test) in
@@ -57,19 +57,19 @@ other_tells p h e t watch apart tells =
     }
 
 tells_turned : (p : PlansData) (h : List Event) (e : Event) (old new : JudgeData) (now : WatchData) → Follows p h old → 1 ≤ stream_in e → new.watches ≡ set old.watches (stream_in e - 1) now → TellsAfter p h e now
-    → (k : ℕ) (watch : WatchData) → slice_get new.watches k ≡ Some watch → Tells p (e ∷ h) (suc k) watch
+    → (k : ℕ) (watch : WatchData) → slice_get new.watches k ≡ Some watch → IsWatchOf p (e ∷ h) (suc k) watch
 tells_turned p h e old new now f some put own k watch at =
     elim (get_put old.watches (stream_in e - 1) k watch now (ap (λ (ws : List WatchData). slice_get ws k) (sym put) ∙ at)) [
       | inl here ↦ (
           let same : stream_in e ≡ suc k = omega (arith, here.0) in
-          subst (λ (w : WatchData). Tells p (e ∷ h) (suc k) w) (sym here.1) (subst (λ t. Tells p (e ∷ h) t now) same (own_tells p h e now own)))
+          subst (λ (w : WatchData). IsWatchOf p (e ∷ h) (suc k) w) (sym here.1) (subst (λ t. IsWatchOf p (e ∷ h) t now) same (own_tells p h e now own)))
       | inr other ↦ other_tells p h e (suc k) watch (λ q. other.0 (omega arith)) (f.tells k watch other.1)
     ]
 
 -- ---- all that is kept
 
 follows_turned : (p : PlansData) (h : List Event) (e : Event) (move : Counts → Counts) (orders : ℕ) (pictures : Pictures) (left : List State) (old new : JudgeData) → Follows p h old → HasTurned (stream_in e) (deed p e (world p h)) move orders pictures left old new → FitsPlans p new
-    → Shows p (e ∷ h) new.images new.states → ((was now : WatchData) → Tells p h (stream_in e) was → counts_of now ≡ move (counts_of was) → TellsAfter p h e now) → Follows p (e ∷ h) new
+    → Shows p (e ∷ h) new.images new.states → ((was now : WatchData) → IsWatchOf p h (stream_in e) was → counts_of now ≡ move (counts_of was) → TellsAfter p h e now) → Follows p (e ∷ h) new
 follows_turned p h e move orders pictures left old new f turned fits shows moves =
     let sync = subst (StandsFor new.core) (sym (sync_then p e h)) (turned.core (sync_of p h) f.sync) in
     let known = known_of_watch p old (stream_in e) turned.was f.fits turned.here in
@@ -83,7 +83,7 @@ follows_turned p h e move orders pictures left old new f turned fits shows moves
 
 -- ---- each event
 
-order_after : (p : PlansData) (h : List Event) (s n c : ℕ) (was now : WatchData) → Tells p h s was → counts_of now ≡ record (counts_of was) { ordered = was.ordered + 1 } → TellsAfter p h (Order s n c) now
+order_after : (p : PlansData) (h : List Event) (s n c : ℕ) (was now : WatchData) → IsWatchOf p h s was → counts_of now ≡ record (counts_of was) { ordered = was.ordered + 1 } → TellsAfter p h (Order s n c) now
 order_after p h s n c was now t e = record {
   ordered = ap (λ (k : Counts). k.ordered) e ∙ ap (λ n. n + 1) t.ordered;
   finished = ap (λ (k : Counts). k.finished) e ∙ t.finished;
@@ -91,7 +91,7 @@ order_after p h s n c was now t e = record {
   stays = ap (λ (k : Counts). k.stays) e ∙ t.stays;
 }
 
-finish_after : (p : PlansData) (h : List Event) (s n : ℕ) (was now : WatchData) → Tells p h s was → counts_of now ≡ record (counts_of was) { finished = was.finished + 1 } → TellsAfter p h (Finish s n) now
+finish_after : (p : PlansData) (h : List Event) (s n : ℕ) (was now : WatchData) → IsWatchOf p h s was → counts_of now ≡ record (counts_of was) { finished = was.finished + 1 } → TellsAfter p h (Finish s n) now
 finish_after p h s n was now t e = record {
   ordered = ap (λ (k : Counts). k.ordered) e ∙ t.ordered;
   finished = ap (λ (k : Counts). k.finished) e ∙ ap (λ n. n + 1) t.finished;
@@ -101,7 +101,7 @@ finish_after p h s n was now t e = record {
 
 -- a stream that is lost or closed stays no longer
 gone_after : (p : PlansData) (h : List Event) (e : Event) (was now : WatchData) → known_after p e (world p h) (known p h (stream_in e)) ≡ known p h (stream_in e) → is_open (moved_by (deed p e (world p h)) (drawn p h + 1) (standing_of p h (stream_in e))) ≡ false
-    → Tells p h (stream_in e) was → counts_of now ≡ record (counts_of was) { stays = false } → TellsAfter p h e now
+    → IsWatchOf p h (stream_in e) was → counts_of now ≡ record (counts_of was) { stays = false } → TellsAfter p h e now
 gone_after p h e was now same gone t moved = record {
   ordered = ap (λ (k : Counts). k.ordered) moved ∙ t.ordered ∙ ap (λ (k : Known). k.ordered) (sym same);
   finished = ap (λ (k : Counts). k.finished) moved ∙ t.finished ∙ ap (λ (k : Known). k.finished) (sym same);
@@ -113,7 +113,7 @@ greatest_then : (token t : ℕ) (tokens : List ℕ) → IsGreatest tokens t → 
 greatest_then token t [] is = absurd is
 greatest_then token t (first ∷ tokens) is = ap (max token) is
 
-token_told : (effect : Effect) (tokens : List ℕ) (t : ℕ) → IsGreatest tokens t → IsGreatest (with_token effect tokens) (greatest_after effect t)
+token_told : (effect : Effect) (tokens : List ℕ) (t : ℕ) → IsGreatest tokens t → IsGreatest (tokens_after effect tokens) (greatest_after effect t)
 token_told (Token token) tokens t is = greatest_then token t tokens is
 token_told Nothing tokens t is = is
 token_told (Release release) tokens t is = is
@@ -122,11 +122,11 @@ token_told (WaitName name release) tokens t is = is
 token_told (Pixels op) tokens t is = is
 token_told (Results writes) tokens t is = is
 
-step_after : (p : PlansData) (h : List Event) (s : ℕ) (words : List (ℕ × ℕ)) (was now : WatchData) → Tells p h s was → counts_of now ≡ record (counts_of was) { token = greatest_after (asked_by p s words (world p h)) was.token } → TellsAfter p h (Step s words) now
+step_after : (p : PlansData) (h : List Event) (s : ℕ) (words : List (ℕ × ℕ)) (was now : WatchData) → IsWatchOf p h s was → counts_of now ≡ record (counts_of was) { token = greatest_after (asked_by p s words (world p h)) was.token } → TellsAfter p h (Step s words) now
 step_after p h s words was now t e = record {
   ordered = ap (λ (k : Counts). k.ordered) e ∙ t.ordered;
   finished = ap (λ (k : Counts). k.finished) e ∙ t.finished;
-  token = subst (IsGreatest (with_token (asked_by p s words (world p h)) (known p h s).tokens)) (sym (ap (λ (k : Counts). k.token) e)) (token_told (asked_by p s words (world p h)) (known p h s).tokens was.token t.token);
+  token = subst (IsGreatest (tokens_after (asked_by p s words (world p h)) (known p h s).tokens)) (sym (ap (λ (k : Counts). k.token) e)) (token_told (asked_by p s words (world p h)) (known p h s).tokens was.token t.token);
   stays = ap (λ (k : Counts). k.stays) e ∙ t.stays ∙ sym (asked_open p (asked_by p s words (world p h)) (drawn p h + 1) (standing_of p h s));
 }
 
@@ -152,7 +152,7 @@ follows_entered p h (Step s words) old new f turned fits =
 
 -- ---- the counts
 
-counted_put : (most : ℕ) (old new : JudgeData) (s : ℕ) (now : WatchData) → HasCounted most old → new.drawn ≤ most + 1 → new.watches ≡ set old.watches (s - 1) now → now.ordered ≤ most + 1 → now.finished ≤ most + 1 → HasCounted (most + 1) new
+counted_put : (most : ℕ) (old new : JudgeData) (s : ℕ) (now : WatchData) → CountsAtMost most old → new.drawn ≤ most + 1 → new.watches ≡ set old.watches (s - 1) now → now.ordered ≤ most + 1 → now.finished ≤ most + 1 → CountsAtMost (most + 1) new
 counted_put most old new s now few drawn put ordered finished = record {
   drawn = drawn;
   each = λ k watch at. elim (get_put old.watches (s - 1) k watch now (ap (λ (ws : List WatchData). slice_get ws k) (sym put) ∙ at)) [
@@ -161,12 +161,12 @@ counted_put most old new s now few drawn put ordered finished = record {
   ];
 }
 
-watch_counted : (most : ℕ) (j : JudgeData) (s : ℕ) (w : WatchData) → HasCounted most j → watch_of j s ≡ Some w → (w.ordered ≤ most) × (w.finished ≤ most)
+watch_counted : (most : ℕ) (j : JudgeData) (s : ℕ) (w : WatchData) → CountsAtMost most j → watch_of j s ≡ Some w → (w.ordered ≤ most) × (w.finished ≤ most)
 watch_counted most j zero w few at = absurd (cc)
 watch_counted most j (suc k) w few at = few.each k w at
 
-counted_turned : (most s : ℕ) (d : Option sync.Deed) (move : Counts → Counts) (orders : ℕ) (pictures : Pictures) (left : List State) (old new : JudgeData) → HasCounted most old → HasTurned s d move orders pictures left old new → orders ≤ most + 1
-    → ((k : Counts) → k.ordered ≤ most → k.finished ≤ most → ((move k).ordered ≤ most + 1) × ((move k).finished ≤ most + 1)) → HasCounted (most + 1) new
+counted_turned : (most s : ℕ) (d : Option sync.Deed) (move : Counts → Counts) (orders : ℕ) (pictures : Pictures) (left : List State) (old new : JudgeData) → CountsAtMost most old → HasTurned s d move orders pictures left old new → orders ≤ most + 1
+    → ((k : Counts) → k.ordered ≤ most → k.finished ≤ most → ((move k).ordered ≤ most + 1) × ((move k).finished ≤ most + 1)) → CountsAtMost (most + 1) new
 counted_turned most s d move orders pictures left old new few turned drawn moves =
     let was = watch_counted most old s turned.was few turned.here in
     let next = moves (counts_of turned.was) was.0 was.1 in
@@ -175,7 +175,7 @@ counted_turned most s d move orders pictures left old new few turned drawn moves
     let d = turned.drawn in
     counted_put most old new s turned.now few (omega (arith, d, drawn)) turned.put (omega (arith, ordered, next.0)) (omega (arith, finished, next.1))
 
-pub counted_entered : (most : ℕ) (p : PlansData) (e : Event) (old new : JudgeData) → HasCounted most old → HasEntered p e old new → HasCounted (most + 1) new
+pub counted_entered : (most : ℕ) (p : PlansData) (e : Event) (old new : JudgeData) → CountsAtMost most old → HasEntered p e old new → CountsAtMost (most + 1) new
 counted_entered most p (Order s n c) old new few turned = let d = few.drawn in counted_turned most s _ _ _ _ _ old new few turned (omega arith) (λ k a b. (omega arith, omega arith))
 counted_entered most p (Step s words) old new few turned = let d = few.drawn in counted_turned most s _ _ _ _ _ old new few turned (omega arith) (λ k a b. (omega arith, omega arith))
 counted_entered most p (Finish s n) old new few turned = let d = few.drawn in counted_turned most s _ _ _ _ _ old new few turned (omega arith) (λ k a b. (omega arith, omega arith))
@@ -183,7 +183,7 @@ counted_entered most p (Lost s why words) old new few turned = let d = few.drawn
 counted_entered most p (Close s) old new few turned = let d = few.drawn in counted_turned most s _ _ _ _ _ old new few turned (omega arith) (λ k a b. (omega arith, omega arith))
 
 -- few enough that one more can be counted
-pub counted_within : (few most : ℕ) (j : JudgeData) → few ≤ most → HasCounted few j → HasCounted most j
+pub counted_within : (few most : ℕ) (j : JudgeData) → few ≤ most → CountsAtMost few j → CountsAtMost most j
 counted_within few most j less counted = record {
   drawn = (let d = counted.drawn in omega arith);
   each = λ k watch at. (let both = counted.each k watch at in (omega (arith, both.0), omega (arith, both.1)));

@@ -30,12 +30,12 @@ use Rattle.serial_laws.proofs.Obeying.{first_placed}
 use Rattle.journal_verify.specs.Kept.{WatchData, JudgeData, watch_of, IsWatch}
 use Rattle.journal_verify.specs.Faults.{is_open_in, flush_in, kept_facts, are_held}
 use Rattle.journal_verify.specs.Entered.{FitsPlans}
-use Rattle.journal_verify.specs.Follows.{IsGreatest, Tells, Follows}
+use Rattle.journal_verify.specs.Follows.{IsGreatest, IsWatchOf, Follows}
 use Rattle.journal_verify.proofs.Turning.{no_watch, known_of_watch}
 
 -- ---- the watch of a stream
 
-pub told : (p : PlansData) (h : List Event) (j : JudgeData) (s : ℕ) (w : WatchData) → Follows p h j → watch_of j s ≡ Some w → Tells p h s w
+pub told : (p : PlansData) (h : List Event) (j : JudgeData) (s : ℕ) (w : WatchData) → Follows p h j → watch_of j s ≡ Some w → IsWatchOf p h s w
 told p h j zero w f e = absurd (cc)
 told p h j (suc k) w f e = f.tells k w e
 
@@ -64,7 +64,7 @@ open_decides p h j s f = (open_of (watch_of j s) refl, test_of)
 
 -- ---- numbers and waits
 
-pub left_is : (p : PlansData) (h : List Event) (j : JudgeData) (s : ℕ) → Follows p h j → core.left_of j.core s ≡ left_of p h s
+pub left_is : (p : PlansData) (h : List Event) (j : JudgeData) (s : ℕ) → Follows p h j → core.unprocessed_of j.core s ≡ left_of p h s
 left_is p h j s f = ap (λ (x : Standing). x.left) (f.sync.streams s)
 
 pub blocked_is : (p : PlansData) (h : List Event) (j : JudgeData) (s : ℕ) → Follows p h j → core.blocked j.core s ≡ is_blocked s (left_of p h s) (pending_in p h)

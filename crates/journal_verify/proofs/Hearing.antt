@@ -21,7 +21,7 @@ use Rattle.journal_verify.specs.Kept.{WatchData, JudgeData, watch_of}
 use Rattle.journal_verify.specs.Faults.{finished_in, kept_state}
 use Rattle.journal_verify.specs.Entered.{FitsPlans, Counts, HasEntered, IsEffect, effect_in}
 use Rattle.journal_verify.specs.Dumped.{DumpedData, HasTakenUp}
-use Rattle.journal_verify.specs.Followed.{HasTold, HasHeard, HasDumped}
+use Rattle.journal_verify.specs.Followed.{HasWrittenResults, HasHeard, HasDumped}
 use Rattle.journal_verify.proofs.Turning.{watch_here, known_of_watch}
 use Rattle.journal_verify.proofs.Replacing.{taken_up_none}
 
@@ -55,7 +55,7 @@ told_rise p judge (Lost s why words) effect is = nothing_rises effect is
 told_rise p judge (Close s) effect is = nothing_rises effect is
 
 -- where nothing is written, nothing changes
-told_none : (s : ℕ) (judge : JudgeData) (old new : List DumpedData) → IsKnown (length old) s → new ≡ old → HasTold s [] judge old new
+told_none : (s : ℕ) (judge : JudgeData) (old new : List DumpedData) → IsKnown (length old) s → new ≡ old → HasWrittenResults s [] judge old new
 told_none s judge old new known same =
     let own = some_at old (s - 1) (omega (arith, known.0, known.1)) in
     record {
@@ -67,7 +67,7 @@ told_none s judge old new known same =
       put = same ∙ sym (ap (set old (s - 1)) (sym (get_or_from_slice_get old (s - 1) own.0 own.0 own.1)) ∙ set-get_or old (s - 1) own.0);
     }
 
-heard_told : (s : ℕ) (effect : Effect) (judge : JudgeData) (old new : List DumpedData) → IsKnown (length old) s → HasHeard s effect judge old new → HasTold s (writes_told effect) judge old new
+heard_told : (s : ℕ) (effect : Effect) (judge : JudgeData) (old new : List DumpedData) → IsKnown (length old) s → HasHeard s effect judge old new → HasWrittenResults s (writes_told effect) judge old new
 heard_told s Nothing judge old new known heard = told_none s judge old new known heard
 heard_told s (Token token) judge old new known heard = told_none s judge old new known heard
 heard_told s (Release release) judge old new known heard = told_none s judge old new known heard
@@ -82,7 +82,7 @@ heard_none : (s : ℕ) (effect : Effect) (judge : JudgeData) (old new : List Dum
 heard_none s effect judge old new is heard = subst (λ (x : Effect). HasHeard s x judge old new) is heard
 
 heard_step : (p : PlansData) (s : ℕ) (words : List (ℕ × ℕ)) (judge mid : JudgeData) (effect : Effect) (old new : List DumpedData) → FitsPlans p judge → FitsPlans p mid → length old ≡ length p.plans → HasEntered p (Step s words) judge mid
-    → effect ≡ effect_in p judge s words → HasHeard s effect mid old new → HasTold s (writes (plan_of p s).areas words (kept_state judge s)) judge old new
+    → effect ≡ effect_in p judge s words → HasHeard s effect mid old new → HasWrittenResults s (writes (plan_of p s).areas words (kept_state judge s)) judge old new
 heard_step p s words judge mid effect old new fits next count turned is heard = record {
   known = all.known;
   was = all.was;
@@ -98,7 +98,7 @@ heard_step p s words judge mid effect old new fits next count turned is heard = 
     known : IsKnown (length p.plans) s
     known = known_of_watch p judge s turned.was fits turned.here
 
-    all : HasTold s (writes_told effect) mid old new
+    all : HasWrittenResults s (writes_told effect) mid old new
     all = heard_told s effect mid old new (subst (λ (n : ℕ). IsKnown n s) (sym count) known) heard
 
     written : writes_told effect ≡ ws

@@ -14,7 +14,7 @@ use Rattle.gpu_plan.specs.MayHold.{MayHold}
 use Rattle.gpu_plan.proofs.Holding.{value_one_further}
 use Rattle.journal_verify.specs.Reached.{has_since, PutBetween}
 use Rattle.journal_verify.specs.Held.{Held, stored, IsHeld}
-use Rattle.journal_verify.specs.Client.{Client, may_have, IsClient}
+use Rattle.journal_verify.specs.Client.{Client, may_have, IsClientOfActions}
 
 -- ---- the values after one more action
 
@@ -101,7 +101,7 @@ eqb_decides : (m n : ℕ) → Decides (eqb m n) (m ≡ n)
 eqb_decides m n = (λ e. grind (arith, nat_tests), λ e. grind (arith, nat_tests))
 
 -- a place may have a value exactly where it has it after the least, or where it is put later
-pub may_have_decides : (actions : List Action) (client : Client) (word : ℕ × ℕ) → IsClient actions client → client.held.done ≤ client.reached.upto → Decides (may_have client word) (MayHold actions client.held.done client.reached.upto word.0 word.1)
+pub may_have_decides : (actions : List Action) (client : Client) (word : ℕ × ℕ) → IsClientOfActions actions client → client.held.done ≤ client.reached.upto → Decides (may_have client word) (MayHold actions client.held.done client.reached.upto word.0 word.1)
 may_have_decides actions client word of within =
     either_decides (eqb (slice_index client.held.values word.0) word.1) (has_since client.held.done client.reached word.0 word.1)
     (eqb_decides (slice_index client.held.values word.0) word.1)
@@ -113,5 +113,5 @@ may_have_decides actions client word of within =
       | inr found ↦ inr found
     ])
 
-pub may_hold_decides : (actions : List Action) (client : Client) (place value : ℕ) (r : Bool) → r ≡ may_have client (place, value) → IsClient actions client → client.held.done ≤ client.reached.upto → Decides r (MayHold actions client.held.done client.reached.upto place value)
+pub may_hold_decides : (actions : List Action) (client : Client) (place value : ℕ) (r : Bool) → r ≡ may_have client (place, value) → IsClientOfActions actions client → client.held.done ≤ client.reached.upto → Decides r (MayHold actions client.held.done client.reached.upto place value)
 may_hold_decides actions client place value r is of within = subst (λ (r : Bool). Decides r (MayHold actions client.held.done client.reached.upto place value)) (sym is) (may_have_decides actions client (place, value) of within)

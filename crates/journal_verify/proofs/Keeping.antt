@@ -23,13 +23,13 @@ use Rattle.gpu_journal.specs.Legal.{IsLegal}
 use Rattle.gpu_journal.proofs.Folding.{written_then}
 use Rattle.gpu_journal.proofs.Following.{past_more}
 use Rattle.serial_laws.specs.Scripts.{AreLawfulPlans}
-use Rattle.journal_verify.specs.Answers.{IsWhole}
-use Rattle.journal_verify.specs.Faults.{fault_of, finished_in, kept_state, AreSettled}
+use Rattle.journal_verify.specs.Answers.{IsWholeHistory}
+use Rattle.journal_verify.specs.Faults.{fault_of, finished_in, kept_state, AreAllSettled}
 use Rattle.journal_verify.specs.Kept.{WatchData, JudgeData}
-use Rattle.journal_verify.specs.Entered.{FitsPlans, HasCounted}
+use Rattle.journal_verify.specs.Entered.{FitsPlans, CountsAtMost}
 use Rattle.journal_verify.specs.Follows.{Follows}
 use Rattle.journal_verify.specs.Dumped.{DumpedData, HasTakenUp, HoldsDumped}
-use Rattle.journal_verify.specs.Followed.{FollowedData, AreUntouched, HasDumped, HasFollowed, HasNoted, sum_after, IsSum, AreDumped, IsFollowed}
+use Rattle.journal_verify.specs.Followed.{FollowedData, AreUntouched, HasDumped, HasFollowed, NotesSum, sum_after, IsSum, AreDumped, IsFollowed}
 use Rattle.journal_verify.proofs.Turning.{get_put}
 use Rattle.journal_verify.proofs.Following.{told, watch_of_known}
 use Rattle.journal_verify.proofs.Ensuing.{follows_entered}
@@ -61,13 +61,13 @@ result_plain p e h s none place = by (stream_in e == s) refl
     by true test = result_then p e h s place true test ∙ none place (result_at p h s place)
     by false test = result_then p e h s place false test
 
-last_of_pairs : (i v : ℕ) (pairs : List (ℕ × ℕ)) → results.last_or i v (results.writes_of pairs) ≡ writing.last_written pairs i v
+last_of_pairs : (i v : ℕ) (pairs : List (ℕ × ℕ)) → results.last_or i v (results.writes_listed pairs) ≡ writing.left_by_writes pairs i v
 last_of_pairs i v [] = refl
 last_of_pairs i v (pair ∷ pairs) = last_of_pairs i (if pair.0 == i then pair.1 else v) pairs
 
 -- a step of the stream
 result_step : (p : PlansData) (h : List Event) (s : ℕ) (words : List (ℕ × ℕ)) (place : ℕ)
-    → result_at p (Step s words ∷ h) s place ≡ writing.last_written (writes (plan_of p s).areas words (state_of p h s)) place (result_at p h s place)
+    → result_at p (Step s words ∷ h) s place ≡ writing.left_by_writes (writes (plan_of p s).areas words (state_of p h s)) place (result_at p h s place)
 result_step p h s words place =
     result_then p (Step s words) h s place true (grind (arith, nat_tests))
     ∙ last_of_pairs place (result_at p h s place) (writes (plan_of p s).areas words (state_of p h s))
@@ -157,10 +157,10 @@ followed_more p e h old new fits next is = record {
   sums = subst (λ (l : List (ℕ × ℕ)). All (IsSum p (e ∷ h)) l) (sym next.sums) (All-weaker (IsSum p h) (IsSum p (e ∷ h)) (sum_more p e h) old.sums is.sums);
 }
 
-pub noted_none : (events : ℕ) (followed : FollowedData) → HasNoted events followed followed
+pub noted_none : (events : ℕ) (followed : FollowedData) → NotesSum events followed followed
 noted_none events followed = record { judge = refl; dumped = refl; sums = λ x at. inl at }
 
-pub noted_one : (events : ℕ) (old new : FollowedData) → new ≡ record old { sums = old.sums ++ (events, texel_sum old.judge.images) ∷ [] } → HasNoted events old new
+pub noted_one : (events : ℕ) (old new : FollowedData) → new ≡ record old { sums = old.sums ++ (events, texel_sum old.judge.images) ∷ [] } → NotesSum events old new
 noted_one events old new is = record {
   judge = ap (λ (f : FollowedData). f.judge) is;
   dumped = ap (λ (f : FollowedData). f.dumped) is;
@@ -171,7 +171,7 @@ noted_one events old new is = record {
       ];
 }
 
-pub followed_noted : (p : PlansData) (h : List Event) (old new : FollowedData) → HasNoted (length h) old new → IsFollowed p h old → IsFollowed p h new
+pub followed_noted : (p : PlansData) (h : List Event) (old new : FollowedData) → NotesSum (length h) old new → IsFollowed p h old → IsFollowed p h new
 followed_noted p h old new noted is = record {
   follows = subst (Follows p h) (sym noted.judge) is.follows;
   dumped = subst (AreDumped p h) (sym noted.dumped) is.dumped;
@@ -195,12 +195,12 @@ followed_noted p h old new noted is = record {
 pub record IsOnWay (p : PlansData) (events : List Event) (index : ℕ) (followed : FollowedData) : Type 0 where
   pub legal : IsLegal p (reverse (take index events))
   pub is : IsFollowed p (reverse (take index events)) followed
-  pub counted : HasCounted index followed.judge
+  pub counted : CountsAtMost index followed.judge
 
 pub way_taken : (p : PlansData) (events : List Event) (index : ℕ) (followed : FollowedData) → IsOnWay p events index followed → IsTaken p events index followed.judge
 way_taken p events index followed way = record { legal = way.legal; follows = way.is.follows; counted = way.counted }
 
-pub way_none : (p : PlansData) (events : List Event) (followed : FollowedData) → IsFollowed p [] followed → HasCounted 0 followed.judge → IsOnWay p events 0 followed
+pub way_none : (p : PlansData) (events : List Event) (followed : FollowedData) → IsFollowed p [] followed → CountsAtMost 0 followed.judge → IsOnWay p events 0 followed
 way_none p events followed is counted = record { legal = tt; is = is; counted = counted }
 
 pub way_more : (p : PlansData) (events : List Event) (index : ℕ) (e : Event) (old new : FollowedData) → AreLawfulPlans p → IsOnWay p events index old → index < length events → e ≡ get_or events index e → fault_of p old.judge e ≡ None → HasFollowed p e old new → FitsPlans p new.judge
@@ -214,17 +214,17 @@ way_more p events index e old new lawful way lt at fault done fits =
       counted = taken.counted;
     }
 
-pub way_noted : (p : PlansData) (events : List Event) (index : ℕ) (old new : FollowedData) → index ≤ length events → IsOnWay p events index old → HasNoted index old new → IsOnWay p events index new
+pub way_noted : (p : PlansData) (events : List Event) (index : ℕ) (old new : FollowedData) → index ≤ length events → IsOnWay p events index old → NotesSum index old new → IsOnWay p events index new
 way_noted p events index old new few way noted =
     let many : length (reverse (take index events)) ≡ index = length-reverse (take index events) ∙ length-take-le index events few in
     record {
       legal = way.legal;
-      is = followed_noted p (reverse (take index events)) old new (subst (λ (n : ℕ). HasNoted n old new) (sym many) noted) way.is;
-      counted = subst (HasCounted index) (sym noted.judge) way.counted;
+      is = followed_noted p (reverse (take index events)) old new (subst (λ (n : ℕ). NotesSum n old new) (sym many) noted) way.is;
+      counted = subst (CountsAtMost index) (sym noted.judge) way.counted;
     }
 
 -- the whole list is judged
-pub way_whole : (p : PlansData) (events : List Event) (index : ℕ) (followed : FollowedData) → IsOnWay p events index followed → length events ≤ index → index ≤ length events → AreSettled p followed.judge.watches → IsWhole p (reverse events) × IsFollowed p (reverse events) followed
+pub way_whole : (p : PlansData) (events : List Event) (index : ℕ) (followed : FollowedData) → IsOnWay p events index followed → length events ≤ index → index ≤ length events → AreAllSettled p followed.judge.watches → IsWholeHistory p (reverse events) × IsFollowed p (reverse events) followed
 way_whole p events index followed way far within settled =
     let end : index ≡ length events = omega (arith, far, within) in
     let all : reverse (take index events) ≡ reverse events = ap (λ n. reverse (take n events)) end ∙ ap reverse (take-length events) in (

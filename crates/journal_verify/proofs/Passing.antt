@@ -15,13 +15,13 @@ use Rattle.stream_state.specs.Verdict.{checked_state}
 use Rattle.stream_state.proofs.Telling.{command_passes, verdict_taken}
 use Rattle.sync_core.specs.declared.wait.Number.{Number}
 use Rattle.sync_core.specs.Standing.{IsKnown, first_order}
-use Rattle.sync_core.specs.Core.{left_of, blocked}
-use Rattle.gpu_journal.specs.Replaying.{IsWithin}
+use Rattle.sync_core.specs.Core.{unprocessed_of, blocked}
+use Rattle.gpu_journal.specs.Replaying.{IsWithinQuota}
 use Rattle.journal_verify.specs.declared.outcome.Outcome.{Outcome}
 use Rattle.journal_verify.specs.declared.outcome.Outcome.TheVariants.{Broken, Valid}
 use Rattle.journal_verify.specs.Kept.{WatchData, JudgeData, watch_of}
 use Rattle.journal_verify.specs.Copy.{copy_read}
-use Rattle.journal_verify.specs.Faults.{or_fault, is_number, is_open_in, order_fault, kept_state, kept_facts, are_held, or_broken, verdict_outcome, checked_outcome, copy_outcome, fetch_outcome, finish_fault, may_close, close_fault}
+use Rattle.journal_verify.specs.Faults.{or_fault, is_this_number, is_open_in, order_fault, kept_state, kept_facts, are_held, or_broken, verdict_outcome, checked_outcome, copy_outcome, fetch_outcome, finish_fault, may_close, close_fault}
 use Rattle.journal_verify.specs.Entered.{FitsPlans}
 use Rattle.journal_verify.proofs.Turning.{known_of_watch, front_known, lawful_kept, within_kept}
 use Rattle.journal_verify.proofs.Copying.{IsRead, copy_is}
@@ -37,7 +37,7 @@ pub some_left : (xs : List Number) → is_some (first_order xs) ≡ true → 0 <
 some_left [] e = absurd (cc)
 some_left (x ∷ xs) e = omega arith
 
-pub number_left : (xs : List Number) (n : ℕ) → is_number (first_order xs) n ≡ true → 0 < length xs
+pub number_left : (xs : List Number) (n : ℕ) → is_this_number (first_order xs) n ≡ true → 0 < length xs
 number_left [] n e = absurd (cc)
 number_left (x ∷ xs) n e = omega arith
 
@@ -58,11 +58,11 @@ close_known p j s fits e = let w = watch_there (may_close (plan_of p s).actions)
 
 -- ---- finishes
 
-pub finish_front : (p : PlansData) (j : JudgeData) (s n : ℕ) → finish_fault p j s n ≡ None → (0 < length (left_of j.core s)) × (blocked j.core s ≡ false)
+pub finish_front : (p : PlansData) (j : JudgeData) (s n : ℕ) → finish_fault p j s n ≡ None → (0 < length (unprocessed_of j.core s)) × (blocked j.core s ≡ false)
 finish_front p j s n e =
-    let one = fault_none (is_number (first_order (left_of j.core s)) n) 4 _ e in
+    let one = fault_none (is_this_number (first_order (unprocessed_of j.core s)) n) 4 _ e in
     let two = fault_none (not (blocked j.core s)) 5 _ one.1 in
-    (number_left (left_of j.core s) n one.0, not-true (blocked j.core s) two.0)
+    (number_left (unprocessed_of j.core s) n one.0, not-true (blocked j.core s) two.0)
 
 -- ---- words that are fetched
 
@@ -73,7 +73,7 @@ broken_none false rule next P not h = absurd (not h)
 
 -- what an outcome that breaks no rule comes from
 pub record IsJudgedCopy (p : PlansData) (j : JudgeData) (s : ℕ) (words : List (ℕ × ℕ)) (outcome : Outcome) : Type 0 where
-  pub some : 0 < length (left_of j.core s)
+  pub some : 0 < length (unprocessed_of j.core s)
   pub free : blocked j.core s ≡ false
   pub more : eqb (kept_facts p j s).get (kept_facts p j s).put ≡ false
   pub verdict : Result Command CmdError
@@ -87,11 +87,11 @@ not_broken _ = Unit {0}
 
 pub judged_copy : (p : PlansData) (j : JudgeData) (s : ℕ) (words : List (ℕ × ℕ)) (outcome : Outcome) → ((rule : ℕ) → outcome ≡ Broken rule → ⊥) → fetch_outcome p j s words ≡ outcome → IsJudgedCopy p j s words outcome
 judged_copy p j s words outcome unbroken e =
-    by (is_some (first_order (left_of j.core s))) (blocked j.core s) (eqb (kept_facts p j s).get (kept_facts p j s).put) (copy_read words (kept_facts p j s)) (are_held j s words) refl refl refl refl refl e
+    by (is_some (first_order (unprocessed_of j.core s))) (blocked j.core s) (eqb (kept_facts p j s).get (kept_facts p j s).put) (copy_read words (kept_facts p j s)) (are_held j s words) refl refl refl refl refl e
   where
-    by : (a b c : Bool) (o : Option (Result Command CmdError)) (d : Bool) → is_some (first_order (left_of j.core s)) ≡ a → blocked j.core s ≡ b → eqb (kept_facts p j s).get (kept_facts p j s).put ≡ c → copy_read words (kept_facts p j s) ≡ o → are_held j s words ≡ d
+    by : (a b c : Bool) (o : Option (Result Command CmdError)) (d : Bool) → is_some (first_order (unprocessed_of j.core s)) ≡ a → blocked j.core s ≡ b → eqb (kept_facts p j s).get (kept_facts p j s).put ≡ c → copy_read words (kept_facts p j s) ≡ o → are_held j s words ≡ d
         → or_broken a 4 (or_broken (not b) 5 (or_broken (not c) 7 (copy_outcome o d (kept_state j s)))) ≡ outcome → IsJudgedCopy p j s words outcome
-    by true false false (Some verdict) true ea eb ec eo ed e = record { some = some_left (left_of j.core s) ea; free = eb; more = ec; verdict = verdict; copy = eo; held = ed; gives = e }
+    by true false false (Some verdict) true ea eb ec eo ed e = record { some = some_left (unprocessed_of j.core s) ea; free = eb; more = ec; verdict = verdict; copy = eo; held = ed; gives = e }
     by false b c o d ea eb ec eo ed e = absurd (unbroken 4 (sym e))
     by true true c o d ea eb ec eo ed e = absurd (unbroken 5 (sym e))
     by true false true o d ea eb ec eo ed e = absurd (unbroken 7 (sym e))
@@ -123,7 +123,7 @@ valid_taken p j s words command fits e =
     let copy : IsCopy words (kept_facts p j s) (Ok command) = subst (IsRead words (kept_facts p j s)) (from.copy ∙ ap Some passed.0) (copy_is words (kept_facts p j s)) in
     let known = front_known p j s fits from.some in
     let lawful = lawful_kept p j s fits known in
-    let state_within : IsWithin (kept_state j s) = within_kept p j s fits known in
+    let state_within : IsWithinQuota (kept_state j s) = within_kept p j s fits known in
     let verdict' = command_passes words (kept_facts p j s) (kept_state j s) command copy.verdict passed.1 in
     let apart : (kept_facts p j s).get ≢ (kept_facts p j s).put = λ same. let test = from.more in let other : eqb (kept_facts p j s).get (kept_facts p j s).put ≡ true = grind (arith, nat_tests) in absurd (cc) in
     let taken = verdict_taken (plan_of p s).areas (kept_facts p j s).put words (kept_state j s) command lawful state_within.bounded apart copy.places verdict' in

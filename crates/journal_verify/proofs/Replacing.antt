@@ -9,7 +9,7 @@ use Rattle.std.proofs.lemmas.List.{get_or-set_same, get_or-set_other, get_or-tak
 use Rattle.std.proofs.lemmas.List.Elements.{All-head, All-tail, All-more, All-weaker}
 use Rattle.std.proofs.lemmas.List.Kept.{AllPairs-from_increasing}
 use Rattle.gpu_plan.specs.Plans.{PlanData}
-use Rattle.stream_state.specs.Writes.{Writes, last_written}
+use Rattle.stream_state.specs.Writes.{Writes, left_by_writes}
 use Rattle.journal_verify.specs.Reached.{last_of}
 use Rattle.journal_verify.specs.Dumped.{DumpedData, is_dumped_in, last_with, IsUntouched, IsWrittenTo, HasTakenUp}
 
@@ -98,15 +98,15 @@ unwatched p v n d none = record {
 
 -- ---- the writes of a step
 
-last_of_both : (first second : Writes) (q before : ℕ) → last_written (first ++ second) q before ≡ last_written second q (last_written first q before)
+last_of_both : (first second : Writes) (q before : ℕ) → left_by_writes (first ++ second) q before ≡ left_by_writes second q (left_by_writes first q before)
 last_of_both [] second q before = refl
 last_of_both (write ∷ first) second q before = last_of_both first second q (if write.0 == q then write.1 else before)
 
-not_written : (ws : Writes) (q before : ℕ) → All (λ (write : ℕ × ℕ). write.0 ≡ q → ⊥) ws → last_written ws q before ≡ before
+not_written : (ws : Writes) (q before : ℕ) → All (λ (write : ℕ × ℕ). write.0 ≡ q → ⊥) ws → left_by_writes ws q before ≡ before
 not_written [] q before none = refl
 not_written (write ∷ ws) q before none =
     let P : ℕ × ℕ → Type 0 = λ write. write.0 ≡ q → ⊥ in
-    ap (λ (b : Bool). last_written ws q (cond b write.1 before)) (apart_test write.0 q (All-head P write ws none)) ∙ not_written ws q before (All-tail P write ws none)
+    ap (λ (b : Bool). left_by_writes ws q (cond b write.1 before)) (apart_test write.0 q (All-head P write ws none)) ∙ not_written ws q before (All-tail P write ws none)
 
 -- no earlier write is to the place of one
 earlier_apart : (ws : Writes) (i : ℕ) (w : ℕ × ℕ) → IsStrictlyIncreasing (map (λ (write : ℕ × ℕ). write.0) ws) → i < length ws → w ≡ get_or ws i w → All (λ (write : ℕ × ℕ). write.0 ≡ w.0 → ⊥) (take i ws)
@@ -139,17 +139,17 @@ taken_up_more ws i n w start mid new rising lt at before now = record {
     same : (q : ℕ) → is_dumped_in start q ≡ true → is_dumped_in mid q ≡ true
     same q there = ap (λ (l : List Bool). get_or l q false) before.dumped ∙ there
 
-    written : (q : ℕ) → last_written (take (i + 1) ws) q (get_or start.values q 0) ≡ cond (eqb w.0 q) w.1 (last_written (take i ws) q (get_or start.values q 0))
+    written : (q : ℕ) → left_by_writes (take (i + 1) ws) q (get_or start.values q 0) ≡ cond (eqb w.0 q) w.1 (left_by_writes (take i ws) q (get_or start.values q 0))
     written q =
-        ap (λ (l : Writes). last_written l q (get_or start.values q 0)) (take_more ws i w lt)
+        ap (λ (l : Writes). left_by_writes l q (get_or start.values q 0)) (take_more ws i w lt)
         ∙ last_of_both (take i ws) (get_or ws i w ∷ []) q (get_or start.values q 0)
-        ∙ ap (λ (x : ℕ × ℕ). cond (eqb x.0 q) x.1 (last_written (take i ws) q (get_or start.values q 0))) (sym at)
+        ∙ ap (λ (x : ℕ × ℕ). cond (eqb x.0 q) x.1 (left_by_writes (take i ws) q (get_or start.values q 0))) (sym at)
 
     -- the place that is written has the value that it had at the start
     unchanged : (q : ℕ) → is_dumped_in start q ≡ true → w.0 ≡ q → get_or mid.values q 0 ≡ get_or start.values q 0
     unchanged q there here =
         before.values q there
-        ∙ ap (λ (k : ℕ). last_written (take i ws) k (get_or start.values q 0)) (sym here)
+        ∙ ap (λ (k : ℕ). left_by_writes (take i ws) k (get_or start.values q 0)) (sym here)
         ∙ not_written (take i ws) w.0 (get_or start.values q 0) (earlier_apart ws i w rising lt at)
 
     kept : (q v : ℕ) → is_dumped_in start q ≡ true → get_or mid.values q 0 ≡ get_or start.values q 0 → (b : Bool) → eqb (get_or mid.values q 0) v ≡ b → cond b (Some n) (last_of mid.left q v) ≡ last_with start n q v

@@ -9,10 +9,10 @@ use Rattle.gpu_journal.specs.Legal.{Obeys, IsLegal}
 use Rattle.gpu_journal.specs.World.{replay}
 use Rattle.gpu_journal.proofs.Following.{past_more}
 use Rattle.serial_laws.specs.Scripts.{AreLawfulPlans}
-use Rattle.journal_verify.specs.Answers.{IsFirstWrong, IsWhole, IsUnfinished, IsJudged}
+use Rattle.journal_verify.specs.Answers.{IsFirstWrong, IsWholeHistory, IsUnfinished, IsJudged}
 use Rattle.journal_verify.specs.Kept.{JudgeData}
-use Rattle.journal_verify.specs.Faults.{fault_of, AreSettled}
-use Rattle.journal_verify.specs.Entered.{FitsPlans, HasCounted, HasEntered}
+use Rattle.journal_verify.specs.Faults.{fault_of, AreAllSettled}
+use Rattle.journal_verify.specs.Entered.{FitsPlans, CountsAtMost, HasEntered}
 use Rattle.journal_verify.specs.Follows.{Follows}
 use Rattle.journal_verify.proofs.Breaking.{judged}
 use Rattle.journal_verify.proofs.Ensuing.{follows_entered, counted_entered}
@@ -22,9 +22,9 @@ use Rattle.journal_verify.proofs.Ending.{settled_complete, complete_settled}
 pub record IsTaken (p : PlansData) (events : List Event) (index : ℕ) (judge : JudgeData) : Type 0 where
   pub legal : IsLegal p (reverse (take index events))
   pub follows : Follows p (reverse (take index events)) judge
-  pub counted : HasCounted index judge
+  pub counted : CountsAtMost index judge
 
-pub taken_none : (p : PlansData) (events : List Event) (judge : JudgeData) → Follows p [] judge → HasCounted 0 judge → IsTaken p events 0 judge
+pub taken_none : (p : PlansData) (events : List Event) (judge : JudgeData) → Follows p [] judge → CountsAtMost 0 judge → IsTaken p events 0 judge
 taken_none p events judge follows counted = record { legal = tt; follows = follows; counted = counted }
 
 pub taken_wrong : (p : PlansData) (events : List Event) (index rule : ℕ) (e : Event) (judge : JudgeData) → AreLawfulPlans p → IsTaken p events index judge → index < length events → e ≡ get_or events index e → fault_of p judge e ≡ Some rule → IsFirstWrong p events (index + 1) rule
@@ -55,12 +55,12 @@ whole p events index judge taken far within =
     let all : reverse (take index events) ≡ reverse events = ap (λ n. reverse (take n events)) end ∙ ap reverse (take-length events) in
     (subst (IsLegal p) all taken.legal, subst (λ (h : List Event). Follows p h judge) all taken.follows)
 
-pub taken_whole : (p : PlansData) (events : List Event) (index : ℕ) (judge : JudgeData) → IsTaken p events index judge → length events ≤ index → index ≤ length events → AreSettled p judge.watches → IsWhole p (reverse events) × (judge.images ≡ replay p (reverse events))
+pub taken_whole : (p : PlansData) (events : List Event) (index : ℕ) (judge : JudgeData) → IsTaken p events index judge → length events ≤ index → index ≤ length events → AreAllSettled p judge.watches → IsWholeHistory p (reverse events) × (judge.images ≡ replay p (reverse events))
 taken_whole p events index judge taken far within settled =
     let all = whole p events index judge taken far within in
     (record { legal = all.0; complete = settled_complete p (reverse events) judge all.1 settled }, all.1.shows.drawn)
 
-pub taken_unfinished : (p : PlansData) (events : List Event) (index : ℕ) (judge : JudgeData) → IsTaken p events index judge → length events ≤ index → index ≤ length events → (AreSettled p judge.watches → ⊥) → IsUnfinished p (reverse events)
+pub taken_unfinished : (p : PlansData) (events : List Event) (index : ℕ) (judge : JudgeData) → IsTaken p events index judge → length events ≤ index → index ≤ length events → (AreAllSettled p judge.watches → ⊥) → IsUnfinished p (reverse events)
 taken_unfinished p events index judge taken far within open' =
     let all = whole p events index judge taken far within in
     record { legal = all.0; unfinished = λ complete. open' (complete_settled p (reverse events) judge all.1 complete) }

@@ -8,13 +8,13 @@ use Rattle.std.proofs.lemmas.List.Elements.{All-get_or}
 use Rattle.std.proofs.lemmas.Option.{slice_get_read, slice_get_within, slice_get-get_or, get_or_from_slice_get}
 use Rattle.gpu_plan.specs.Plans.{PlanData, PlansData, plan_of}
 use Rattle.gpu_plan.specs.Passes.{bound}
-use Rattle.journal_verify.specs.Client.{Client, IsClient}
+use Rattle.journal_verify.specs.Client.{Client, IsClientOfActions}
 use Rattle.sync_core.specs.Standing.{IsKnown}
-use Rattle.sync_core.specs.Core.{Core, left_of}
+use Rattle.sync_core.specs.Core.{Core, unprocessed_of}
 use Rattle.sync_core.proofs.Stands.{has_known}
 use Rattle.gpu_cmd.specs.Lawful.{IsLawfulAreas}
 use Rattle.stream_state.specs.State.{first_state}
-use Rattle.gpu_journal.specs.Replaying.{IsWithin}
+use Rattle.gpu_journal.specs.Replaying.{IsWithinQuota}
 use Rattle.journal_verify.specs.Kept.{WatchData, JudgeData, watch_of, IsWatch, AreWatched}
 use Rattle.journal_verify.specs.Faults.{kept_state}
 use Rattle.journal_verify.specs.Entered.{FitsPlans}
@@ -69,13 +69,13 @@ watched_put p watches s now watched some is = λ k watch e. elim (get_put watche
 pub is_watch_same : (plan : PlanData) (was now : WatchData) → now.client ≡ was.client → now.finished ≡ was.finished → now.token ≡ was.token → now.flushes ≡ was.flushes → IsWatch plan was → IsWatch plan now
 is_watch_same plan was now client finished token flushes is = record {
   laid_out = is.laid_out;
-  client = subst (IsClient plan.actions) (sym client) is.client;
+  client = subst (IsClientOfActions plan.actions) (sym client) is.client;
   most = ap (λ (c : Client). c.reached.upto) client ∙ is.most ∙ (λ i. bound plan.actions (sym finished i) (sym token i ∷ []));
   least = λ place at. ap (λ (c : Client). c.held.done) client ∙ is.least place ((λ i. slice_get (sym flushes i) (sym finished i)) ∙ at);
   flushes = flushes ∙ is.flushes;
 }
 
-pub fits_turned : (p : PlansData) (old new : JudgeData) (s : ℕ) (now : WatchData) → FitsPlans p old → IsKnown (length p.plans) s → new.core.drawn ≡ new.drawn → length new.core.streams ≡ length old.core.streams → length new.states ≡ length old.states → All IsWithin new.states
+pub fits_turned : (p : PlansData) (old new : JudgeData) (s : ℕ) (now : WatchData) → FitsPlans p old → IsKnown (length p.plans) s → new.core.drawn ≡ new.drawn → length new.core.streams ≡ length old.core.streams → length new.states ≡ length old.states → All IsWithinQuota new.states
     → new.watches ≡ set old.watches (s - 1) now → IsWatch (plan_of p s) now → FitsPlans p new
 fits_turned p old new s now fits known drawn count states within put is = record {
   drawn = drawn;
@@ -100,7 +100,7 @@ fits_stood p old shown s was now ordered stays drawn core view fits known at cha
     fits_turned p old (record old { drawn = drawn; core = core; watches = set old.watches (s - 1) now }) s now before known (counted before.drawn) count refl before.within refl is
 
 -- a stream with a number is one of the script
-pub front_known : (p : PlansData) (j : JudgeData) (s : ℕ) → FitsPlans p j → 0 < length (left_of j.core s) → IsKnown (length p.plans) s
+pub front_known : (p : PlansData) (j : JudgeData) (s : ℕ) → FitsPlans p j → 0 < length (unprocessed_of j.core s) → IsKnown (length p.plans) s
 front_known p j s fits some = subst (λ n. IsKnown n s) fits.core (has_known j.core.streams s some)
 
 -- the areas of a stream with a number are lawful, and its state is within its bounds
@@ -110,9 +110,9 @@ lawful_kept p j (suc k) fits known =
     let inside : k < length j.watches = omega (arith, known.1, fits.watches) in
     (fits.watched k (get_or j.watches k no_watch) (slice_get-get_or j.watches k no_watch inside)).laid_out
 
-pub within_kept : (p : PlansData) (j : JudgeData) (s : ℕ) → FitsPlans p j → IsKnown (length p.plans) s → IsWithin (kept_state j s)
+pub within_kept : (p : PlansData) (j : JudgeData) (s : ℕ) → FitsPlans p j → IsKnown (length p.plans) s → IsWithinQuota (kept_state j s)
 within_kept p j zero fits known = absurd (omega (arith, known.0))
-within_kept p j (suc k) fits known = All-get_or IsWithin j.states k first_state (omega (arith, known.1, fits.states)) fits.within
+within_kept p j (suc k) fits known = All-get_or IsWithinQuota j.states k first_state (omega (arith, known.1, fits.states)) fits.within
 
 -- what is pushed stands after the others
 pub get_push : {X : Type 0} (xs : List X) (k : ℕ) (x y : X) → slice_get (xs ++ y ∷ []) k ≡ Some x → ((k ≡ length xs) × (x ≡ y)) ⊎ (slice_get xs k ≡ Some x)

@@ -19,7 +19,7 @@ pub record IsFirstWrong (p : PlansData) (events : List Event) (number rule : ℕ
   pub breaks : BreaksFirst p (reverse (take (number - 1) events)) event rule
 
 -- the events are a legal history of the plans, and it is complete; the images are those that it leaves
-pub record IsWhole (p : PlansData) (h : List Event) : Type 0 where
+pub record IsWholeHistory (p : PlansData) (h : List Event) : Type 0 where
   pub legal : IsLegal p h
   pub complete : IsComplete p h
 
@@ -29,10 +29,10 @@ pub record IsUnfinished (p : PlansData) (h : List Event) : Type 0 where
   pub unfinished : IsComplete p h → ⊥
 
 -- what a verdict says of the events
-abbrev pub Says : PlansData → List Event → Verdict → Type 0
-Says p events (Yes images) = IsWhole p (reverse events) × (images ≡ replay p (reverse events))
-Says p events (No event rule) = IsFirstWrong p events event rule
-Says p events NotComplete = IsUnfinished p (reverse events)
+abbrev pub VerdictSays : PlansData → List Event → Verdict → Type 0
+VerdictSays p events (Yes images) = IsWholeHistory p (reverse events) × (images ≡ replay p (reverse events))
+VerdictSays p events (No event rule) = IsFirstWrong p events event rule
+VerdictSays p events NotComplete = IsUnfinished p (reverse events)
 
 -- an event obeys all rules, or this is the first that it breaks
 abbrev pub IsJudged : PlansData → List Event → Event → Option ℕ → Type 0

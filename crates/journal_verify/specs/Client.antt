@@ -16,7 +16,7 @@ abbrev pub may_have : Client → ℕ × ℕ → Bool
 may_have client word = slice_index client.held.values word.0 == word.1 || has_since client.held.done client.reached word.0 word.1
 
 -- the record is so of a client with these actions, whose puts have a word each
-pub record IsClient (actions : List Action) (client : Client) : Type 0 where
+pub record IsClientOfActions (actions : List Action) (client : Client) : Type 0 where
   pub held : IsHeld actions client.held
   pub reached : IsReached actions client.held.done client.reached
   pub within : All (IsWithin (length client.held.values)) actions

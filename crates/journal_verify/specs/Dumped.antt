@@ -3,7 +3,7 @@ use Rattle.std.specs.Prelude.{◌≡◌, ℕ, ◌<◌, ◌^◌, ◌==◌, Bool, 
 use Rattle.std.specs.List.{All}
 use Rattle.gpu_plan.specs.Plans.{PlanData, PlansData, plan_of}
 use Rattle.gpu_plan.specs.Passes.{flushes}
-use Rattle.stream_state.specs.Writes.{Writes, last_written}
+use Rattle.stream_state.specs.Writes.{Writes, left_by_writes}
 use Rattle.gpu_journal.specs.declared.event.Event.{Event}
 use Rattle.gpu_journal.specs.World.{known}
 use Rattle.gpu_journal.specs.Written.{result_at}
@@ -48,7 +48,7 @@ pub record IsWrittenTo (place value finished : ℕ) (old new : DumpedData) : Typ
 pub record HasTakenUp (writes : Writes) (finished : ℕ) (old new : DumpedData) : Type 0 where
   pub dumped : new.is_dumped ≡ old.is_dumped
   pub values : (q : ℕ) → is_dumped_in old q ≡ true
-      → slice_index new.values q ≡ last_written writes q (slice_index old.values q)
+      → slice_index new.values q ≡ left_by_writes writes q (slice_index old.values q)
   pub left : (q v : ℕ) → is_dumped_in old q ≡ true → (slice_index new.values q ≡ v → ⊥)
       → last_of new.left q v ≡ last_with old finished q v
 

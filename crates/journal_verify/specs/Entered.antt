@@ -13,7 +13,7 @@ use Rattle.gpu_journal.specs.declared.event.Event.{Event}
 use Rattle.gpu_journal.specs.declared.event.Event.TheVariants.{Order, Step, Finish, Lost, Close}
 use Rattle.gpu_journal.specs.World.{drawn_by, greatest_after}
 use Rattle.gpu_journal.specs.Waits.{fences_in, deed_asked}
-use Rattle.gpu_journal.specs.Replaying.{IsWithin}
+use Rattle.gpu_journal.specs.Replaying.{IsWithinQuota}
 use Rattle.journal_verify.specs.Kept.{WatchData, JudgeData, watch_of, AreWatched}
 use Rattle.journal_verify.specs.Faults.{kept_state}
 
@@ -24,10 +24,10 @@ pub record FitsPlans (p : PlansData) (judge : JudgeData) : Type 0 where
   pub states : length judge.states ≡ length p.plans
   pub watches : length judge.watches ≡ length p.plans
   pub watched : AreWatched p judge.watches
-  pub within : All IsWithin judge.states
+  pub within : All IsWithinQuota judge.states
 
 -- no more than this many orders and finishes are counted
-pub record HasCounted (most : ℕ) (judge : JudgeData) : Type 0 where
+pub record CountsAtMost (most : ℕ) (judge : JudgeData) : Type 0 where
   pub drawn : judge.drawn ≤ most
   pub each : (k : ℕ) (watch : WatchData) → slice_get judge.watches k ≡ Some watch → (watch.ordered ≤ most) × (watch.finished ≤ most)
 
@@ -51,7 +51,7 @@ pub record HasTurned (s : ℕ) (deed : Option sync.Deed) (move : Counts → Coun
   pub moved : counts_of now ≡ move (counts_of was)
   pub put : new.watches ≡ slice_set old.watches (s - 1) now
   pub drawn : new.drawn ≡ orders
-  pub core : (g : List sync.SyncEvent) → StandsFor old.core g → StandsFor new.core (sync.noted s deed g)
+  pub core : (g : List sync.SyncEvent) → StandsFor old.core g → StandsFor new.core (sync.happened s deed g)
   pub images : new.images ≡ pictures
   pub states : new.states ≡ left
 

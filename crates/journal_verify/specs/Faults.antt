@@ -13,7 +13,7 @@ use Rattle.stream_state.specs.State.{State, facts_of}
 use Rattle.stream_state.specs.declared.effect.Effect.{Effect}
 use Rattle.stream_state.specs.Verdict.{checked_state}
 use Rattle.sync_core.specs.Standing.{first_order}
-use Rattle.sync_core.specs.Core.{left_of, blocked}
+use Rattle.sync_core.specs.Core.{unprocessed_of, blocked}
 use Rattle.gpu_journal.specs.declared.event.Event.{Event}
 use Rattle.gpu_journal.specs.declared.event.Event.TheVariants.{Order, Step, Finish, Lost, Close}
 use Rattle.gpu_journal.specs.declared.event.Why.TheVariants.{Error, Memory}
@@ -31,9 +31,9 @@ or_fault true rule next = next
 or_fault false rule next = Some rule
 
 -- the number is there and is this one
-abbrev pub is_number : Option ℕ → ℕ → Bool
-is_number None n = false
-is_number (Some m) n = m == n
+abbrev pub is_this_number : Option ℕ → ℕ → Bool
+is_this_number None n = false
+is_this_number (Some m) n = m == n
 
 -- stream s is one of the script, and is neither lost nor closed
 abbrev pub is_open_in : JudgeData → ℕ → Bool
@@ -48,7 +48,7 @@ abbrev pub order_fault : JudgeData → ℕ → ℕ → ℕ → Option ℕ
 order_fault judge s n c =
     or_fault (is_open_in judge s) 1
     (or_fault (n == judge.drawn + 1) 2
-    (or_fault (option_map_or (λ watch. is_number (next_flush watch) c) (watch_of judge s) false) 3 None))
+    (or_fault (option_map_or (λ watch. is_this_number (next_flush watch) c) (watch_of judge s) false) 3 None))
 
 -- the place of the first flush of stream s that is not finished
 abbrev pub flush_in : JudgeData → ℕ → ℕ
@@ -93,7 +93,7 @@ copy_outcome (Some verdict) held state = or_broken held 8 (verdict_outcome verdi
 -- rules 4 to 8 of words that are fetched, and the verdict on them; rule 6 always holds
 abbrev pub fetch_outcome : PlansData → JudgeData → ℕ → List (ℕ × ℕ) → Outcome
 fetch_outcome p judge s words =
-    or_broken (is_some (first_order (left_of judge.core s))) 4
+    or_broken (is_some (first_order (unprocessed_of judge.core s))) 4
     (or_broken (not (blocked judge.core s)) 5
     (or_broken (not ((kept_facts p judge s).get == (kept_facts p judge s).put)) 7
     (copy_outcome (copy_read words (kept_facts p judge s)) (are_held judge s words) (kept_state judge s))))
@@ -113,7 +113,7 @@ lost_fault error (Refused other) = or_fault (code_of other == code_of error) 9 N
 -- rules 4, 5 and 10, of a finish
 abbrev pub finish_fault : PlansData → JudgeData → ℕ → ℕ → Option ℕ
 finish_fault p judge s n =
-    or_fault (is_number (first_order (left_of judge.core s)) n) 4
+    or_fault (is_this_number (first_order (unprocessed_of judge.core s)) n) 4
     (or_fault (not (blocked judge.core s)) 5
     (or_fault ((kept_facts p judge s).get == (kept_facts p judge s).put) 10 None))
 
@@ -130,16 +130,16 @@ abbrev pub close_fault : PlansData → JudgeData → ℕ → Option ℕ
 close_fault p judge s = or_fault (option_map_or (may_close (plan_of p s).actions) (watch_of judge s) false) 12 None
 
 -- the client never closes, and each of its flushes is ordered and finished
-abbrev pub is_done : PlanData → WatchData → Bool
-is_done plan watch = (watch.ordered == length watch.flushes && watch.finished == length watch.flushes) && not (is_closed plan.actions)
+abbrev pub has_done_all : PlanData → WatchData → Bool
+has_done_all plan watch = (watch.ordered == length watch.flushes && watch.finished == length watch.flushes) && not (is_closed plan.actions)
 
 -- the stream is lost or closed, or done
 abbrev pub is_settled : PlanData → WatchData → Bool
-is_settled plan watch = not watch.stays || is_done plan watch
+is_settled plan watch = not watch.stays || has_done_all plan watch
 
 -- each stream is
-abbrev pub AreSettled : PlansData → List WatchData → Type 0
-AreSettled p watches = (k : ℕ) (watch : WatchData) → slice_get watches k ≡ Some watch → is_settled (plan_of p (suc k)) watch ≡ true
+abbrev pub AreAllSettled : PlansData → List WatchData → Type 0
+AreAllSettled p watches = (k : ℕ) (watch : WatchData) → slice_get watches k ≡ Some watch → is_settled (plan_of p (suc k)) watch ≡ true
 
 -- the first rule that an event breaks
 abbrev pub fault_of : PlansData → JudgeData → Event → Option ℕ

@@ -54,7 +54,7 @@ pub record AreUntouched (p : PlansData) (all : List DumpedData) : Type 0 where
 -- ---- an event
 
 -- stream s wrote these to results while so many of its flushes were finished as are now
-pub record HasTold (s : ℕ) (written : Writes) (judge : JudgeData) (old new : List DumpedData) : Type 0 where
+pub record HasWrittenResults (s : ℕ) (written : Writes) (judge : JudgeData) (old new : List DumpedData) : Type 0 where
   pub known : IsKnown (length old) s
   pub was : DumpedData
   pub now : DumpedData
@@ -64,12 +64,12 @@ pub record HasTold (s : ℕ) (written : Writes) (judge : JudgeData) (old new : L
 
 -- what an effect says is written is taken up, and nothing else
 abbrev pub HasHeard : ℕ → Effect → JudgeData → List DumpedData → List DumpedData → Type 0
-HasHeard s (Results written) judge old new = HasTold s written judge old new
+HasHeard s (Results written) judge old new = HasWrittenResults s written judge old new
 HasHeard s _ judge old new = new ≡ old
 
 -- the dumped places after an event: those of the stream of a step take up what it writes, and no others change
 abbrev pub HasDumped : PlansData → Event → JudgeData → List DumpedData → List DumpedData → Type 0
-HasDumped p (Step s words) judge old new = HasTold s (writes (plan_of p s).areas words (kept_state judge s)) judge old new
+HasDumped p (Step s words) judge old new = HasWrittenResults s (writes (plan_of p s).areas words (kept_state judge s)) judge old new
 HasDumped p e judge old new = new ≡ old
 
 -- an event that obeys all rules is taken up
@@ -79,7 +79,7 @@ pub record HasFollowed (p : PlansData) (e : Event) (old new : FollowedData) : Ty
   pub sums : new.sums ≡ old.sums
 
 -- the sum of all texels of the images is noted after this number of events, or was before
-pub record HasNoted (events : ℕ) (old new : FollowedData) : Type 0 where
+pub record NotesSum (events : ℕ) (old new : FollowedData) : Type 0 where
   pub judge : new.judge ≡ old.judge
   pub dumped : new.dumped ≡ old.dumped
   pub sums : (x : ℕ × ℕ) → Contains new.sums x → Contains old.sums x ⊎ (x ≡ (events, texel_sum old.judge.images))

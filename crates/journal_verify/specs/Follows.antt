@@ -26,7 +26,7 @@ abbrev pub AreFirst : PlansData → List WatchData → Type 0
 AreFirst p watches = (k : ℕ) (watch : WatchData) → slice_get watches k ≡ Some watch → IsFirst (plan_of p (suc k)) watch
 
 -- the record of stream s is what the history says of it
-pub record Tells (p : PlansData) (h : List Event) (s : ℕ) (watch : WatchData) : Type 0 where
+pub record IsWatchOf (p : PlansData) (h : List Event) (s : ℕ) (watch : WatchData) : Type 0 where
   pub ordered : watch.ordered ≡ (known p h s).ordered
   pub finished : watch.finished ≡ (known p h s).finished
   pub token : IsGreatest (known p h s).tokens watch.token
@@ -38,4 +38,4 @@ pub record Follows (p : PlansData) (h : List Event) (judge : JudgeData) : Type 0
   pub drawn : judge.drawn ≡ drawn p h
   pub sync : StandsFor judge.core (sync_of p h)
   pub shows : Shows p h judge.images judge.states
-  pub tells : (k : ℕ) (watch : WatchData) → slice_get judge.watches k ≡ Some watch → Tells p h (suc k) watch
+  pub tells : (k : ℕ) (watch : WatchData) → slice_get judge.watches k ≡ Some watch → IsWatchOf p h (suc k) watch

@@ -5,7 +5,7 @@ use Rattle.gpu_store.specs.Images.{Pictures}
 use Rattle.gpu_plan.specs.Plans.{PlanData, PlansData, plan_of}
 use Rattle.gpu_plan.specs.Passes.{bound}
 use Rattle.gpu_plan.specs.Places.{flush_places}
-use Rattle.journal_verify.specs.Client.{Client, IsClient}
+use Rattle.journal_verify.specs.Client.{Client, IsClientOfActions}
 use Rattle.stream_state.specs.State.{State}
 use Rattle.sync_core.specs.Core.{Core}
 
@@ -36,7 +36,7 @@ watch_of judge (suc k) = slice_get judge.watches k
 -- the first flush that is not finished
 pub record IsWatch (plan : PlanData) (watch : WatchData) : Type 0 where
   pub laid_out : IsLawfulAreas plan.areas
-  pub client : IsClient plan.actions watch.client
+  pub client : IsClientOfActions plan.actions watch.client
   pub most : watch.client.reached.upto ≡ bound plan.actions watch.finished (watch.token ∷ [])
   pub least : (place : ℕ) → slice_get watch.flushes watch.finished ≡ Some place → watch.client.held.done ≡ place
   pub flushes : watch.flushes ≡ flush_places plan.actions

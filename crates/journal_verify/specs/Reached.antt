@@ -54,7 +54,7 @@ abbrev pub older_with : ℕ → ℕ → Reached → ℕ → ℕ → Option ℕ
 older_with done p old place value = if (p == place && slice_index old.values p == value) && nat_lt done (slice_index old.ends p) then Some (slice_index old.ends p - 1) else last_of old.older place value
 
 -- the last put at a place is kept among the older ones, if it stands at a position or after it
-pub record IsKept (done p : ℕ) (old new : Reached) : Type 0 where
+pub record IsPutKept (done p : ℕ) (old new : Reached) : Type 0 where
   pub upto : new.upto ≡ old.upto
   pub behind : new.behind ≡ old.behind
   pub values : new.values ≡ old.values

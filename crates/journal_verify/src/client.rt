@@ -5,7 +5,7 @@ ghost use Rattle.gpu_plan.specs.declared.plan.Action.{Action};
 ghost use Rattle.gpu_plan.specs.Plans.{IsWithin};
 ghost use Rattle.gpu_plan.specs.Passes.{bound};
 ghost use Rattle.gpu_plan.specs.MayHold.{MayHold};
-ghost use Rattle.journal_verify.specs.Client.{may_have, IsClient};
+ghost use Rattle.journal_verify.specs.Client.{may_have, IsClientOfActions};
 
 use crate::held::Held;
 use crate::reach::Reach;
@@ -36,7 +36,7 @@ impl Client {
         requires within { All (IsWithin places) actions.now }
         ensures least { IfOk result (λ client. client.held.done ≡ 0) }
         ensures most { IfOk result (λ client. client.reached.upto ≡ 0) }
-        ensures client { IfOk result (λ client. IsClient actions.now client) }
+        ensures client { IfOk result (λ client. IsClientOfActions actions.now client) }
     {
         let held = Held::make(alloc, places)?;
         let reach = Reach::make(alloc, actions, places)?;
@@ -55,11 +55,11 @@ impl Client {
     pub fn go_on(&mut self, actions: &[Action], finished: u32, token: u32) -> Result<(), Memory>
         requires few { length actions.now ≤ 1000000 }
         requires below { self.old.reached.upto ≤ bound actions.now finished (token ∷ []) }
-        requires client { IsClient actions.now self.old }
+        requires client { IsClientOfActions actions.now self.old }
         ensures most { OnOk result
             (self.new.reached.upto ≡ bound actions.now finished (token ∷ [])) }
         ensures least { OnOk result (self.new.held.done ≡ self.old.held.done) }
-        ensures client { OnOk result (IsClient actions.now self.new) }
+        ensures client { OnOk result (IsClientOfActions actions.now self.new) }
     {
         self.reach
             .advance(actions, self.held.done(), finished, token)?;
@@ -71,10 +71,10 @@ impl Client {
         requires few { length actions.now ≤ 1000000 }
         requires further { self.old.held.done ≤ to }
         requires there { to ≤ length actions.now }
-        requires client { IsClient actions.now self.old }
+        requires client { IsClientOfActions actions.now self.old }
         ensures least { self.new.held.done ≡ to }
         ensures most { self.new.reached.upto ≡ self.old.reached.upto }
-        ensures client { IsClient actions.now self.new }
+        ensures client { IsClientOfActions actions.now self.new }
     {
         self.held.advance(actions, to);
     }
@@ -90,7 +90,7 @@ impl Client {
     /// the client can have done.
     pub fn may_hold(&self, place: u32, value: u32) -> bool
         ensures value { result ≡ may_have self.now (place, value) }
-        ensures decides { (actions : List Action) → IsClient actions self.now
+        ensures decides { (actions : List Action) → IsClientOfActions actions self.now
             → self.now.held.done ≤ self.now.reached.upto
             → Decides result
             (MayHold actions self.now.held.done self.now.reached.upto place value) }

@@ -3,9 +3,9 @@ ghost use Rattle.std.specs.Prelude.{◌≡◌, ◌+◌, ◌<◌, ◌^◌, List, 
 ghost use Rattle.gpu_plan.specs.Plans.{plan_of};
 ghost use Rattle.sync_core.specs.Standing.{IsKnown};
 ghost use Rattle.sync_core.specs.Events.{SyncEvent, Ordered, Finished, WasLost, WasClosed};
-ghost use Rattle.sync_core.specs.Core.{StandsFor, left_of, blocked};
+ghost use Rattle.sync_core.specs.Core.{StandsFor, unprocessed_of, blocked};
 ghost use Rattle.gpu_journal.specs.Waits.{fences_in};
-ghost use Rattle.journal_verify.specs.Entered.{FitsPlans, HasCounted, HasTurned};
+ghost use Rattle.journal_verify.specs.Entered.{FitsPlans, CountsAtMost, HasTurned};
 
 use crate::judge::Judge;
 use gpu_plan::Plans;
@@ -31,7 +31,7 @@ impl Judge {
     /// An order of the flush at a place.
     pub(crate) fn enter_order(&mut self, plans: &Plans, s: u32, place: u32) -> Result<(), Memory>
         requires fits { FitsPlans plans.now self.old }
-        requires counted { HasCounted 4294967294 self.old }
+        requires counted { CountsAtMost 4294967294 self.old }
         requires known { IsKnown (length plans.now.plans) s }
         ensures turned { OnOk result
             (HasTurned s (Some (Ordered
@@ -50,8 +50,8 @@ impl Judge {
     /// A finish.
     pub(crate) fn enter_finish(&mut self, plans: &Plans, s: u32) -> Result<(), Memory>
         requires fits { FitsPlans plans.now self.old }
-        requires counted { HasCounted 4294967294 self.old }
-        requires front { 0 < length (left_of self.old.core s) }
+        requires counted { CountsAtMost 4294967294 self.old }
+        requires front { 0 < length (unprocessed_of self.old.core s) }
         requires free { blocked self.old.core s ≡ false }
         ensures turned { OnOk result (HasTurned s (Some Finished)
             (λ k. record k {

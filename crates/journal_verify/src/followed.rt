@@ -3,9 +3,9 @@ ghost use Rattle.std.specs.List.Sorted.{IsStrictlyIncreasing};
 ghost use Rattle.stream_state.specs.Told.{writes_told};
 ghost use Rattle.sync_core.specs.Standing.{IsKnown};
 ghost use Rattle.gpu_journal.specs.World.{stream_in};
-ghost use Rattle.journal_verify.specs.Faults.{kept_state, fault_of, AreSettled};
-ghost use Rattle.journal_verify.specs.Entered.{FitsPlans, HasCounted};
-ghost use Rattle.journal_verify.specs.Followed.{HasHeard, AreUntouched, HasFollowed, HasNoted, IsFollowed, dumped_of, may_be_told, IsSumIn};
+ghost use Rattle.journal_verify.specs.Faults.{kept_state, fault_of, AreAllSettled};
+ghost use Rattle.journal_verify.specs.Entered.{FitsPlans, CountsAtMost};
+ghost use Rattle.journal_verify.specs.Followed.{HasHeard, AreUntouched, HasFollowed, NotesSum, IsFollowed, dumped_of, may_be_told, IsSumIn};
 
 use crate::dumped::Dumped;
 use crate::judge::Judge;
@@ -68,7 +68,7 @@ impl Followed {
     /// Before any event.
     pub(crate) fn make(alloc: Global, plans: &Plans) -> Result<Followed, Memory>
         ensures followed { IfOk result (λ followed. IsFollowed plans.now [] followed) }
-        ensures counted { IfOk result (λ followed. HasCounted 0 followed.judge) }
+        ensures counted { IfOk result (λ followed. CountsAtMost 0 followed.judge) }
     {
         let judge = Judge::make(alloc, plans)?;
         let dumped = first_dumped(alloc, plans)?;
@@ -103,7 +103,7 @@ impl Followed {
         values: &mut Vec<u32>,
     ) -> Result<Option<u32>, Memory>
         requires fits { FitsPlans plans.now self.old.judge }
-        requires counted { HasCounted 4294967294 self.old.judge }
+        requires counted { CountsAtMost 4294967294 self.old.judge }
         requires streams { length self.old.dumped ≡ length plans.now.plans }
         ensures fault { IfOk result (λ fault. fault ≡ fault_of plans.now self.old.judge event.now) }
         ensures followed { IfOk result
@@ -121,7 +121,7 @@ impl Followed {
 
     /// Notes the sum of all texels after this number of events.
     pub(crate) fn note(&mut self, events: u32) -> Result<(), Memory>
-        ensures { OnOk result (HasNoted events self.old self.new) }
+        ensures { OnOk result (NotesSum events self.old self.new) }
     {
         let sum = texel_sum(self.judge.images());
         self.sums.push((events, sum))?;
@@ -131,8 +131,8 @@ impl Followed {
     /// Whether each stream is lost or closed, or done.
     pub(crate) fn is_complete(&self, plans: &Plans) -> bool
         requires { FitsPlans plans.now self.now.judge }
-        ensures settled { IsTrue result → AreSettled plans.now self.now.judge.watches }
-        ensures open { result ≡ false → AreSettled plans.now self.now.judge.watches → ⊥ }
+        ensures settled { IsTrue result → AreAllSettled plans.now self.now.judge.watches }
+        ensures open { result ≡ false → AreAllSettled plans.now self.now.judge.watches → ⊥ }
     {
         self.judge.is_complete(plans)
     }

@@ -1,7 +1,7 @@
 //! The rules of each event, and then what it does.
 ghost use Rattle.std.specs.Prelude.{◌≡◌, None, IfOk, OnOk};
 ghost use Rattle.journal_verify.specs.Faults.{order_fault, step_fault, lost_fault, fetch_outcome, finish_fault, memory_fault, close_fault, fault_of, fault_in};
-ghost use Rattle.journal_verify.specs.Entered.{FitsPlans, HasCounted, HasEntered, IsEffect};
+ghost use Rattle.journal_verify.specs.Entered.{FitsPlans, CountsAtMost, HasEntered, IsEffect};
 
 use crate::judge::Judge;
 use crate::outcome::Outcome;
@@ -51,7 +51,7 @@ impl Judge {
         c: u32,
     ) -> Result<Result<Effect, u32>, Memory>
         requires fits { FitsPlans plans.now self.old }
-        requires counted { HasCounted 4294967294 self.old }
+        requires counted { CountsAtMost 4294967294 self.old }
         ensures fault { IfOk result (λ taken. fault_in taken ≡ order_fault self.old s n c) }
         ensures entered { IfOk result
             (λ taken. fault_in taken ≡ None → HasEntered plans.now (Event.Order s n c) self.old self.new) }
@@ -129,7 +129,7 @@ impl Judge {
     // A finish: rules 4, 5 and 10.
     fn finish(&mut self, plans: &Plans, s: u32, n: u32) -> Result<Result<Effect, u32>, Memory>
         requires fits { FitsPlans plans.now self.old }
-        requires counted { HasCounted 4294967294 self.old }
+        requires counted { CountsAtMost 4294967294 self.old }
         ensures fault { IfOk result (λ taken. fault_in taken ≡ finish_fault plans.now self.old s n) }
         ensures entered { IfOk result
             (λ taken. fault_in taken ≡ None → HasEntered plans.now (Event.Finish s n) self.old self.new) }
@@ -191,7 +191,7 @@ impl Judge {
         values: &mut Vec<u32>,
     ) -> Result<Result<Effect, u32>, Memory>
         requires fits { FitsPlans plans.now self.old }
-        requires counted { HasCounted 4294967294 self.old }
+        requires counted { CountsAtMost 4294967294 self.old }
         ensures fault { IfOk result (λ taken. fault_in taken ≡ fault_of plans.now self.old event.now) }
         ensures entered { IfOk result
             (λ taken. fault_in taken ≡ None → HasEntered plans.now event.now self.old self.new) }
@@ -223,7 +223,7 @@ impl Judge {
         values: &mut Vec<u32>,
     ) -> Result<Option<u32>, Memory>
         requires fits { FitsPlans plans.now self.old }
-        requires counted { HasCounted 4294967294 self.old }
+        requires counted { CountsAtMost 4294967294 self.old }
         ensures fault { IfOk result (λ fault. fault ≡ fault_of plans.now self.old event.now) }
         ensures entered { IfOk result
             (λ fault. fault ≡ None → HasEntered plans.now event.now self.old self.new) }

@@ -1,7 +1,7 @@
 //! The record before any event.
 ghost use Rattle.std.specs.Prelude.{◌≡◌, false, [], length, IsTrue, IfOk};
-ghost use Rattle.journal_verify.specs.Faults.{AreSettled};
-ghost use Rattle.journal_verify.specs.Entered.{FitsPlans, HasCounted};
+ghost use Rattle.journal_verify.specs.Faults.{AreAllSettled};
+ghost use Rattle.journal_verify.specs.Entered.{FitsPlans, CountsAtMost};
 ghost use Rattle.journal_verify.specs.Follows.{AreFirst, Follows};
 
 use crate::judge::Judge;
@@ -31,7 +31,7 @@ impl Judge {
     /// Before any event.
     pub(crate) fn make(alloc: Global, plans: &Plans) -> Result<Judge, Memory>
         ensures follows { IfOk result (λ judge. Follows plans.now [] judge) }
-        ensures counted { IfOk result (λ judge. HasCounted 0 judge) }
+        ensures counted { IfOk result (λ judge. CountsAtMost 0 judge) }
     {
         let count = plans.count();
         let sync = SyncCore::make(alloc, count)?;
@@ -49,8 +49,8 @@ impl Judge {
     /// Whether each stream is lost or closed, or done.
     pub(crate) fn is_complete(&self, plans: &Plans) -> bool
         requires { FitsPlans plans.now self.now }
-        ensures settled { IsTrue result → AreSettled plans.now self.now.watches }
-        ensures open { result ≡ false → AreSettled plans.now self.now.watches → ⊥ }
+        ensures settled { IsTrue result → AreAllSettled plans.now self.now.watches }
+        ensures open { result ≡ false → AreAllSettled plans.now self.now.watches → ⊥ }
     {
         for index in 0..plans.count() {
             let watch = &self.watches[index as usize];

@@ -3,7 +3,7 @@ ghost use Rattle.std.specs.List.{All};
 ghost use Rattle.gpu_plan.specs.declared.plan.Action.{Action};
 ghost use Rattle.gpu_plan.specs.Plans.{IsWithin};
 ghost use Rattle.gpu_plan.specs.Passes.{bound};
-ghost use Rattle.journal_verify.specs.Reached.{has_since, is_last_since, is_since, last_of, IsKept, IsTakenUp, IsReached};
+ghost use Rattle.journal_verify.specs.Reached.{has_since, is_last_since, is_since, last_of, IsPutKept, IsTakenUp, IsReached};
 
 use gpu_plan::Action;
 use std::alloc::{AllocError, Global};
@@ -77,7 +77,7 @@ impl Reach {
     fn keep(&mut self, done: u32, place: u32) -> Result<(), AllocError>
         requires there { place < length self.old.ends }
         requires valued { place < length self.old.values }
-        ensures { OnOk result (IsKept done place self.old self.new) }
+        ensures { OnOk result (IsPutKept done place self.old self.new) }
     {
         let end = self.ends[place as usize];
         if end > done {

@@ -1,5 +1,5 @@
 ghost use Rattle.std.specs.Prelude.{◌<◌, ◌^◌, length, IfOk, OnOk};
-ghost use Rattle.journal_verify.specs.Followed.{HasNoted};
+ghost use Rattle.journal_verify.specs.Followed.{NotesSum};
 ghost use Rattle.journal_verify.specs.Ruled.{Rules};
 
 use crate::followed::Followed;
@@ -34,7 +34,7 @@ fn later(wishes: &[u32], events: u32) -> &[u32] {
 
 // Notes the sum after this number of events where it is the first that is wished for.
 fn note_wished(followed: &mut Followed, wishes: &[u32], events: u32) -> Result<(), Memory>
-    ensures { OnOk result (HasNoted events followed.old followed.new) }
+    ensures { OnOk result (NotesSum events followed.old followed.new) }
 {
     match wishes.first() {
         Some(wish) if *wish == events => followed.note(events),

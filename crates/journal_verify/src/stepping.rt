@@ -3,7 +3,7 @@ ghost use Rattle.std.specs.Prelude.{◌≡◌, ◌<◌, length, IfOk, OnOk};
 ghost use Rattle.gpu_plan.specs.Plans.{plan_of};
 ghost use Rattle.stream_state.specs.Steps.{command_in};
 ghost use Rattle.stream_state.specs.Laws.{IsTaken};
-ghost use Rattle.sync_core.specs.Core.{left_of};
+ghost use Rattle.sync_core.specs.Core.{unprocessed_of};
 ghost use Rattle.journal_verify.specs.Kept.{IsWatch};
 ghost use Rattle.journal_verify.specs.Faults.{kept_state};
 ghost use Rattle.gpu_journal.specs.World.{greatest_after};
@@ -46,7 +46,7 @@ impl Judge {
         words: &[(u32, u32)],
     ) -> Result<Effect, Memory>
         requires fits { FitsPlans plans.now self.old }
-        requires front { 0 < length (left_of self.old.core s) }
+        requires front { 0 < length (unprocessed_of self.old.core s) }
         requires taken { IsTaken (plan_of plans.now s).areas words.now (kept_state self.old s) }
         requires said { command.now ≡ command_in words.now }
         ensures effect { IfOk result

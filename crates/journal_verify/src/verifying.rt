@@ -1,5 +1,5 @@
 ghost use Rattle.std.specs.Prelude.{◌<◌, ◌^◌, length, IfOk};
-ghost use Rattle.journal_verify.specs.Answers.{Says};
+ghost use Rattle.journal_verify.specs.Answers.{VerdictSays};
 
 use crate::judge::Judge;
 use crate::verdict::Verdict;
@@ -15,7 +15,7 @@ use std::alloc::Global;
 /// events are legal and some stream is not done. Yes: else, with the images that the history leaves.
 pub fn verify(alloc: Global, plans: &Plans, events: &[Event]) -> Result<Verdict, Memory>
     requires { length events.now < 2 ^ 32 }
-    ensures { IfOk result (λ verdict. Says plans.now events.now verdict) }
+    ensures { IfOk result (λ verdict. VerdictSays plans.now events.now verdict) }
 {
     plans_are_lawful(plans);
     let mut judge = Judge::make(alloc, plans)?;

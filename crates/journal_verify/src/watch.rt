@@ -1,10 +1,10 @@
 ghost use Rattle.std.specs.Prelude.{◌≡◌, ◌+◌, ◌<◌, ◌≤◌, ◌^◌, ℕ, [], ◌∷◌, Some, max, false, true, slice_get, slice_index, IfOk, OnOk};
 ghost use Rattle.std.specs.List.{list_all};
 ghost use Rattle.gpu_plan.specs.Places.{flush_places};
-ghost use Rattle.journal_verify.specs.Client.{may_have, IsClient};
+ghost use Rattle.journal_verify.specs.Client.{may_have, IsClientOfActions};
 ghost use Rattle.gpu_plan.specs.Passes.{bound};
 ghost use Rattle.journal_verify.specs.Kept.{IsWatch};
-ghost use Rattle.journal_verify.specs.Faults.{next_flush, may_close, is_done, is_settled};
+ghost use Rattle.journal_verify.specs.Faults.{next_flush, may_close, has_done_all, is_settled};
 ghost use Rattle.journal_verify.specs.Entered.{counts_of};
 
 use crate::client::Client;
@@ -57,11 +57,11 @@ fn go_on(
     token: u32,
 ) -> Result<(), Memory>
     requires flushes { flushes.now ≡ flush_places plan.now.actions }
-    requires client { IsClient plan.now.actions client.old }
+    requires client { IsClientOfActions plan.now.actions client.old }
     requires below { client.old.reached.upto ≤ bound plan.now.actions finished (token ∷ []) }
     requires before { (place : ℕ) → slice_get flushes.now finished ≡ Some place
         → client.old.held.done ≤ place }
-    ensures client { OnOk result (IsClient plan.now.actions client.new) }
+    ensures client { OnOk result (IsClientOfActions plan.now.actions client.new) }
     ensures most { OnOk result
         (client.new.reached.upto ≡ bound plan.now.actions finished (token ∷ [])) }
     ensures least { OnOk result ((place : ℕ) → slice_get flushes.now finished ≡ Some place
@@ -200,7 +200,7 @@ impl Watch {
 
     // Whether the client never closes, and each flush is ordered and finished.
     fn is_done(&self, plan: &Plan) -> bool
-        ensures { result ≡ is_done plan.now self.now }
+        ensures { result ≡ has_done_all plan.now self.now }
     {
         if self.ordered as usize != self.flushes.len()
             || self.finished as usize != self.flushes.len()

@@ -8,7 +8,7 @@ use prog.Atomic.{either}
 use Rattle.logbook.specs.Pages.{Cell, cell, keeps, no_nib, step, Moves, Goes}
 use Rattle.live_view.specs.declared.version.Version.{Version}
 use Rattle.live_view.specs.Versions.{AreRising, IsLatest}
-use Rattle.live_view.specs.Fronts.{IsKept, Adds}
+use Rattle.live_view.specs.Fronts.{CountsVersions, AddsVersion}
 use Rattle.live_view.proofs.Prefixes.{prefix_whole}
 
 abbrev pub shown : List Version → List Version
@@ -24,7 +24,7 @@ rises versions v rising latest =
 
 adds_goes : (log seen : List Version) (v : Version) (old : ℕ) → length seen ≡ old → IsLatest seen v.events → AreRising log → IsPrefix seen log
     → (b : Bool) → (length log == old) ≡ b
-    → Goes IsKept shown moved 0 (seen, (no_nib, None)) (λ n. either (n == old) (old + 1) n) (Adds (step 0 old (old + 1) v) (seen, (no_nib, None))) ((length log, true) ∷ (0, true) ∷ []) log
+    → Goes CountsVersions shown moved 0 (seen, (no_nib, None)) (λ n. either (n == old) (old + 1) n) (AddsVersion (step 0 old (old + 1) v) (seen, (no_nib, None))) ((length log, true) ∷ (0, true) ∷ []) log
 adds_goes log seen v old len latest rising pre true is =
     let here : length log ≡ old = grind (arith, nat_tests) in
     let same : seen ≡ log = prefix_whole seen log pre (omega arith) in
@@ -51,7 +51,7 @@ adds_goes log seen v old len latest rising pre false is =
 
 -- whatever the list is, the exchange adds the version to all that was seen, or finds another number
 pub adds_moves : (seen : List Version) (v : Version) (old : ℕ) → length seen ≡ old → IsLatest seen v.events
-    → Moves IsKept shown moved 0 (seen, (no_nib, None)) (λ n. either (n == old) (old + 1) n) (Adds (step 0 old (old + 1) v) (seen, (no_nib, None)))
+    → Moves CountsVersions shown moved 0 (seen, (no_nib, None)) (λ n. either (n == old) (old + 1) n) (AddsVersion (step 0 old (old + 1) v) (seen, (no_nib, None)))
 adds_moves seen v old len latest cs log kept pre away =
-    let P : List Cell → Type 0 = λ c. (0 < length c) × ((cell c 0).1 ≡ true) × Goes IsKept shown moved 0 (seen, (no_nib, None)) (λ n. either (n == old) (old + 1) n) (Adds (step 0 old (old + 1) v) (seen, (no_nib, None))) c log in
+    let P : List Cell → Type 0 = λ c. (0 < length c) × ((cell c 0).1 ≡ true) × Goes CountsVersions shown moved 0 (seen, (no_nib, None)) (λ n. either (n == old) (old + 1) n) (AddsVersion (step 0 old (old + 1) v) (seen, (no_nib, None))) c log in
     subst P (sym kept.words) (omega arith, refl, adds_goes log seen v old len latest kept.rising pre (length log == old) refl)

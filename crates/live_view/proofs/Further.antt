@@ -8,15 +8,15 @@ use Rattle.live_view.specs.declared.shown.Shown.{Shown}
 use Rattle.live_view.specs.Versions.{AreRising}
 use Rattle.live_view.specs.Fronts.{FrontData}
 use Rattle.live_view.specs.Looks.{look_of, sight}
-use Rattle.live_view.specs.Rule.{IsBegun, Finds, looked}
+use Rattle.live_view.specs.Rule.{IsBegun, HasFound, looked}
 use Rattle.live_view.specs.Seen.{IsViewer, front_in}
 use Rattle.live_view.proofs.Viewing.{looks_more, latest_more}
 
 -- what was met begins what was found
-begun_by : (known : Known) (shown : Shown) → known.front ≡ Some (front_in known) → Finds known shown → IsBegun (front_in known) shown.front
+begun_by : (known : Known) (shown : Shown) → known.front ≡ Some (front_in known) → HasFound known shown → IsBegun (front_in known) shown.front
 begun_by known shown is finds = subst (λ (o : Option FrontData). IfSome o (λ f. IsBegun f shown.front)) is finds.begun
 
-pub further : (known after : Known) (shown : Shown) (latest count number more : ℕ) → IsViewer known latest count → Finds known shown → AreRising shown.front.versions → after ≡ looked known shown → number ≡ length shown.front.versions
+pub further : (known after : Known) (shown : Shown) (latest count number more : ℕ) → IsViewer known latest count → HasFound known shown → AreRising shown.front.versions → after ≡ looked known shown → number ≡ length shown.front.versions
     → more ≡ min (count + 1) (2 ^ 32 - 1) → IsViewer after number more
 further known after shown latest count number more was finds rising is at counted =
     let begun = begun_by known shown was.met finds in

@@ -8,7 +8,7 @@ use Rattle.left_right.specs.Register.{Admits, TurnsAt, Turns, Forks, Merges}
 use Rattle.live_view.specs.declared.shown.Shown.{Shown}
 use Rattle.live_view.specs.declared.known.Known.{Known}
 use Rattle.live_view.specs.Fronts.{FrontData}
-use Rattle.live_view.specs.Rule.{IsLast, IsBegun, Fits, Holds, Finds, nothing, met, looked, looks, meets, publishes, informed}
+use Rattle.live_view.specs.Rule.{IsLast, IsBegun, Fits, Holds, HasFound, nothing, met, looked, looks, meets, publishes, informed}
 use Rattle.live_view.proofs.Prefixes.{prefix_self, prefix_trans}
 
 -- a front that goes on after another, which goes on after a first
@@ -30,7 +30,7 @@ kept_at x y views seat w h last on new = record {
       (at_set views seat j w u e);
 }
 
-found : (x : Shown) (views : List Known) (seat : ℕ) (v : Known) → Holds x views → get_elem? views seat ≡ some v → Finds v x
+found : (x : Shown) (views : List Known) (seat : ℕ) (v : Known) → Holds x views → get_elem? views seat ≡ some v → HasFound v x
 found x views seat v h at = record { last = h.last; begun = h.begun seat v at }
 
 begun_self : (front : FrontData) → IsBegun front front

@@ -11,9 +11,9 @@ use Rattle.live_view.specs.declared.step.Mark.{Mark}
 use Rattle.live_view.specs.declared.step.Step.{Step}
 use Rattle.live_view.specs.declared.step.Step.TheVariants.{Draw, End}
 use Rattle.live_view.specs.declared.shown.Shown.{Shown}
-use Rattle.live_view.specs.Versions.{blank, version, drawn_by}
+use Rattle.live_view.specs.Versions.{blank, version, images_drawn}
 use Rattle.live_view.specs.Fronts.{FrontData}
-use Rattle.live_view.specs.Steps.{after, ops_of}
+use Rattle.live_view.specs.Steps.{shown_after, ops_of}
 use Rattle.live_view.specs.Rule.{IsLast, IsBegun}
 use Rattle.live_view.proofs.Prefixes.{prefix_self, prefix_trans}
 
@@ -34,15 +34,15 @@ ops_end (Draw first ∷ steps) mark = ap (λ (ops : List Op). first ∷ ops) (op
 ops_end (End first ∷ steps) mark = ops_end steps mark
 
 -- the images after some steps are those after their operations
-images_after : (steps : List Step) (shown : Shown) → (fold after shown steps).version.images ≡ drawn_by shown.version.images (ops_of steps)
+images_after : (steps : List Step) (shown : Shown) → (fold shown_after shown steps).version.images ≡ images_drawn shown.version.images (ops_of steps)
 images_after [] shown = refl
-images_after (Draw op ∷ steps) shown = images_after steps (after shown (Draw op))
-images_after (End mark ∷ steps) shown = images_after steps (after shown (End mark))
+images_after (Draw op ∷ steps) shown = images_after steps (shown_after shown (Draw op))
+images_after (End mark ∷ steps) shown = images_after steps (shown_after shown (End mark))
 
 -- what some steps and an end after them lead to
-pub ended : (steps : List Step) (mark : Mark) (shown : Shown) → fold after shown (steps ++ End mark ∷ []) ≡ record { version = version (drawn_by shown.version.images (ops_of steps)) mark.events; front = mark.front }
+pub ended : (steps : List Step) (mark : Mark) (shown : Shown) → fold shown_after shown (steps ++ End mark ∷ []) ≡ record { version = version (images_drawn shown.version.images (ops_of steps)) mark.events; front = mark.front }
 ended steps mark shown =
-    fold-append after shown steps (End mark ∷ []) ∙ ap (λ (images : Pictures). record { version = version images mark.events; front = mark.front }) (images_after steps shown)
+    fold-append shown_after shown steps (End mark ∷ []) ∙ ap (λ (images : Pictures). record { version = version images mark.events; front = mark.front }) (images_after steps shown)
 
 -- the last of a list with one more
 pub last_push : (versions : List Version) (v : Version) → IsLast v (versions ++ v ∷ [])

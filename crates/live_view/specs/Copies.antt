@@ -9,5 +9,5 @@ module _ {T O V P A S : Type 0} {g : Ghosts T O S} where
   published copies = copies.desk.shown.value
 
   -- the steps that viewers do not see yet
-  abbrev pub pending : Writer T O V P A S g → List O
-  pending copies = drop copies.behind copies.log.items
+  abbrev pub steps_pending : Writer T O V P A S g → List O
+  steps_pending copies = drop copies.behind copies.log.items

@@ -10,14 +10,14 @@ pub record FrontData : Type 0 where
   pub versions : List Version
 
 -- the number of versions lies in the first word, and their events do not fall. The second word is not used
-pub record IsKept (cells : List Cell) (versions : List Version) : Type 0 where
+pub record CountsVersions (cells : List Cell) (versions : List Version) : Type 0 where
   pub words : cells ≡ (length versions, true) ∷ (0, true) ∷ []
   pub rising : AreRising versions
 
 -- the word that counts the versions of a view
-abbrev pub count_of : Book → Named
-count_of view = record { tracked = true; key = 0; book = view }
+abbrev pub version_count : Book → Named
+version_count view = record { tracked = true; key = 0; book = view }
 
 -- where the number found was the one expected, the version was added to all that had been seen
-abbrev pub Adds : Step Version → View Version ℕ → ℕ → View Version ℕ → Type 0
-Adds step before found after = MatchBool (found == step.old) (after.0 ≡ before.0 ++ step.ask ∷ []) (Unit {0})
+abbrev pub AddsVersion : Step Version → View Version ℕ → ℕ → View Version ℕ → Type 0
+AddsVersion step before found after = MatchBool (found == step.old) (after.0 ≡ before.0 ++ step.ask ∷ []) (Unit {0})

@@ -41,15 +41,15 @@ looked known shown =
     record { front = Some shown.front; looks = known.looks ++ sight (length shown.front.versions - 1) (look_of shown.version) ∷ [] }
 
 -- what was found ends its list, which what was met before begins
-pub record Finds (known : Known) (shown : Shown) : Type 0 where
+pub record HasFound (known : Known) (shown : Shown) : Type 0 where
   pub last : IsLast shown.version shown.front.versions
   pub begun : Fits shown known
 
 abbrev pub looks : Known → Shown → Shown → Known → Type 0
-looks known shown still after = Finds known shown × (after ≡ looked known shown)
+looks known shown still after = HasFound known shown × (after ≡ looked known shown)
 
 abbrev pub meets : Known → Shown → Shown → Known → Type 0
-meets known shown still after = Finds known shown × (after ≡ met known shown)
+meets known shown still after = HasFound known shown × (after ≡ met known shown)
 
 abbrev pub publishes : Known → Shown → Shown → Known → Type 0
 publishes known shown next after = after ≡ met known next

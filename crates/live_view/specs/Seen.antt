@@ -7,7 +7,7 @@ use Rattle.live_view.specs.declared.version.Version.{Version}
 use Rattle.live_view.specs.declared.look.Sight.{Sight}
 use Rattle.live_view.specs.declared.shown.Shown.{Shown}
 use Rattle.live_view.specs.declared.known.Known.{Known}
-use Rattle.live_view.specs.Versions.{blank, version, drawn_by}
+use Rattle.live_view.specs.Versions.{blank, version, images_drawn}
 use Rattle.live_view.specs.Fronts.{FrontData}
 use Rattle.live_view.specs.Looks.{AreLooks, latest_of}
 use Rattle.live_view.specs.Rule.{IsLast, IsBegun}
@@ -38,7 +38,7 @@ fresh_viewer view = record { view = view; versions = blank ∷ []; looks = [] }
 
 -- the version that the writer publishes with a number of events
 abbrev pub next_version : WriterData → ℕ → Version
-next_version writer events = version (drawn_by writer.images writer.noted) events
+next_version writer events = version (images_drawn writer.images writer.noted) events
 
 -- the view of nobody
 abbrev pub no_front : FrontData
@@ -60,6 +60,6 @@ pub record IsViewer (known : Known) (latest count : ℕ) : Type 0 where
   pub counted : count ≡ min (length known.looks) (2 ^ 32 - 1)
 
 -- what the type of the writer keeps: the published version ends its list, which all versions go on
-pub record IsWriter (shown : Shown) (all : FrontData) : Type 0 where
+pub record IsViewWriter (shown : Shown) (all : FrontData) : Type 0 where
   pub last : IsLast shown.version shown.front.versions
   pub begun : IsBegun shown.front all

@@ -7,8 +7,8 @@ use Rattle.gpu_store.specs.declared.op.Op.{Op}
 use Rattle.live_view.specs.declared.version.Version.{Version}
 
 -- the images after some operations, in order
-abbrev pub drawn_by : Pictures → List Op → Pictures
-drawn_by images ops = fold (λ before op. (apply before op).images) images ops
+abbrev pub images_drawn : Pictures → List Op → Pictures
+images_drawn images ops = fold (λ before op. (apply before op).images) images ops
 
 -- the version with these images and this number of events
 abbrev pub version : Pictures → ℕ → Version

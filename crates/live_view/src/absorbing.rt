@@ -4,13 +4,13 @@ use left_right::Absorb;
 use std::alloc::AllocError;
 
 impl Absorb<Step> for Shown {
-    ghost use Rattle.live_view.specs.Steps.{after};
+    ghost use Rattle.live_view.specs.Steps.{shown_after};
 
     type State = Shown;
 
     ghost state = { λ shown. shown };
 
-    ghost applied = { after };
+    ghost applied = { shown_after };
 
     fn absorb_first(&mut self, step: &Step, _other: &Shown) -> Result<(), AllocError> {
         match step {

@@ -2,9 +2,9 @@
 ghost use Rattle.std.specs.Prelude.{◌≡◌, ◌∷◌, ◌++◌, ◌<◌, [], fold, OnOk, MatchResult};
 ghost use Rattle.std.specs.VecDeque.{deque_len, deque_capacity};
 ghost use Rattle.live_view.specs.declared.step.Step.TheVariants.{Draw};
-ghost use Rattle.live_view.specs.Copies.{published, pending};
+ghost use Rattle.live_view.specs.Copies.{published, steps_pending};
 ghost use Rattle.live_view.specs.Rule.{IsLast, IsBegun};
-ghost use Rattle.live_view.specs.Steps.{after, ended_by, ops_of, op_in};
+ghost use Rattle.live_view.specs.Steps.{shown_after, ended_with, ops_of, op_in};
 
 use crate::drawn::Drawn;
 use crate::rule::{Copies, Publishes};
@@ -30,8 +30,8 @@ fn put_back(waiting: &mut VecDeque<Drawn>, step: Step)
 /// Hands the operations that wait on to the copies, in their order.
 pub(crate) fn hand_over(copies: &mut Copies, waiting: &mut VecDeque<Drawn>) -> Result<(), Memory>
     ensures published { published copies.new ≡ published copies.old }
-    ensures noted { ops_of (pending copies.new) ++ waiting.new.items
-        ≡ ops_of (pending copies.old) ++ waiting.old.items }
+    ensures noted { ops_of (steps_pending copies.new) ++ waiting.new.items
+        ≡ ops_of (steps_pending copies.old) ++ waiting.old.items }
     ensures all { OnOk result (waiting.new.items ≡ []) }
 {
     while let Some(drawn) = waiting.pop_front() {
@@ -45,29 +45,30 @@ pub(crate) fn hand_over(copies: &mut Copies, waiting: &mut VecDeque<Drawn>) -> R
 
 // Shows viewers what the steps that are pending lead to.
 fn show<R: Wait>(copies: Copies, rt: &R) -> (Copies, Result<(), AllocError>)
-    requires last { IsLast (fold after (published copies) (pending copies)).version
-        (fold after (published copies) (pending copies)).front.versions }
+    requires last { IsLast (fold shown_after (published copies) (steps_pending copies)).version
+        (fold shown_after (published copies) (steps_pending copies)).front.versions }
     requires begun { IsBegun (published copies).front
-        (fold after (published copies) (pending copies)).front }
+        (fold shown_after (published copies) (steps_pending copies)).front }
     ensures published { MatchResult result.1
-        (λ _. published result.0 ≡ fold after (published copies) (pending copies))
+        (λ _. published result.0 ≡ fold shown_after (published copies) (steps_pending copies))
         (λ _. published result.0 ≡ published copies) }
-    ensures pending { MatchResult result.1 (λ _. pending result.0 ≡ [])
-        (λ _. pending result.0 ≡ pending copies) }
+    ensures pending { MatchResult result.1 (λ _. steps_pending result.0 ≡ [])
+        (λ _. steps_pending result.0 ≡ steps_pending copies) }
 {
     copies.publish_as::<Publishes, R>(rt)
 }
 
 /// Ends the version that is pending, and shows it to viewers.
 pub(crate) fn end_version<R: Wait>(copies: &mut Copies, rt: &R, mark: Mark) -> Result<(), Memory>
-    requires last { IsLast (ended_by (published copies.old)
-        (pending copies.old) mark).version mark.front.versions }
+    requires last { IsLast (ended_with (published copies.old)
+        (steps_pending copies.old) mark).version mark.front.versions }
     requires begun { IsBegun (published copies.old).front mark.front }
     ensures published { MatchResult result
-        (λ _. published copies.new ≡ ended_by (published copies.old) (pending copies.old) mark)
+        (λ _. published copies.new
+        ≡ ended_with (published copies.old) (steps_pending copies.old) mark)
         (λ _. published copies.new ≡ published copies.old) }
-    ensures pending { MatchResult result (λ _. ops_of (pending copies.new) ≡ [])
-        (λ _. ops_of (pending copies.new) ≡ ops_of (pending copies.old)) }
+    ensures pending { MatchResult result (λ _. ops_of (steps_pending copies.new) ≡ [])
+        (λ _. ops_of (steps_pending copies.new) ≡ ops_of (steps_pending copies.old)) }
 {
     if let Err(_end) = copies.append(Step::End(mark)) {
         return Err(Memory);

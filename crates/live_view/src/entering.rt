@@ -7,7 +7,7 @@ ghost use Rattle.live_view.specs.declared.shown.Shown.{Shown};
 ghost use Rattle.live_view.specs.declared.known.Known.{Known};
 ghost use Rattle.live_view.specs.Versions.{AreRising};
 ghost use Rattle.live_view.specs.Looks.{look_of};
-ghost use Rattle.live_view.specs.Rule.{Holds, IsBegun, Finds, looked, met};
+ghost use Rattle.live_view.specs.Rule.{Holds, IsBegun, HasFound, looked, met};
 ghost use Rattle.live_view.specs.Seen.{front_in};
 
 use crate::front::Front;
@@ -38,7 +38,7 @@ fn enter<M: Outcome<Shown, Known>, R: Wait>(rt: &R, seat: Seat) -> Open
 
 /// One look: what it saw, and the number of its version.
 pub(crate) fn look_once<R: Wait>(seat: Seat, rt: &R) -> (Seat, (Look, u64))
-    ensures { (shown : Shown) × Finds (view seat.place) shown × AreRising shown.front.versions
+    ensures { (shown : Shown) × HasFound (view seat.place) shown × AreRising shown.front.versions
         × (view result.0.place ≡ looked (view seat.place) shown)
         × (result.1 ≡ (look_of shown.version, length shown.front.versions)) }
 {
@@ -56,14 +56,14 @@ pub(crate) fn look_once<R: Wait>(seat: Seat, rt: &R) -> (Seat, (Look, u64))
 fn meet_once<R: Wait>(rt: &R, seat: Seat, told: &Front) -> (Seat, bool)
     requires met { (view seat.place).front ≡ Some (front_in (view seat.place)) }
     requires same { told.now.view ≡ (front_in (view seat.place)).view }
-    ensures { (shown : Shown) × Finds (view seat.place) shown
+    ensures { (shown : Shown) × HasFound (view seat.place) shown
         × (view result.0.place ≡ met (view seat.place) shown)
         × (result.1 ≡ true → IsPrefix told.now.versions shown.front.versions) }
 {
     let open = enter::<Meets, R>(rt, seat);
     let front = &open.get().front;
     let arrived = told.number() <= front.number();
-    told.meet(front);
+    told.shows_prefix(front);
     (open.leave(), arrived)
 }
 

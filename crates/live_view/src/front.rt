@@ -2,8 +2,8 @@
 ghost use Rattle.std.specs.Prelude.{◌≡◌, ◌≤◌, ◌++◌, ◌∷◌, [], length, IfSome};
 ghost use mathlib.Core.List.{IsPrefix};
 ghost use Rattle.live_view.specs.Versions.{blank, AreRising, IsLatest};
-ghost use Rattle.live_view.specs.Fronts.{count_of};
-ghost use Rattle.live_view.specs.Nexts.{next_of};
+ghost use Rattle.live_view.specs.Fronts.{version_count};
+ghost use Rattle.live_view.specs.Nexts.{version_of_next};
 
 use crate::next::Next;
 use crate::version::Version;
@@ -17,9 +17,9 @@ impl Rule<Version, u64> for Rising {
     ghost use Rattle.std.specs.Prelude.{[], ◌∷◌};
     ghost use base.Fml.{ftrue};
     ghost use Rattle.live_view.specs.Versions.{blank};
-    ghost use Rattle.live_view.specs.Fronts.{IsKept};
+    ghost use Rattle.live_view.specs.Fronts.{CountsVersions};
 
-    ghost holds = { λ cells versions. IsKept cells versions };
+    ghost holds = { λ cells versions. CountsVersions cells versions };
 
     ghost first = { blank ∷ [] };
 
@@ -45,9 +45,9 @@ impl Gain<Version, u64> for Nothing {
 pub struct Add;
 
 impl Play<Version, u64> for Add {
-    ghost use Rattle.live_view.specs.Fronts.{Adds};
+    ghost use Rattle.live_view.specs.Fronts.{AddsVersion};
 
-    ghost then = { Adds };
+    ghost then = { AddsVersion };
 }
 
 /// A beginning of the list of versions that was seen. It can be copied, and stays true.
@@ -83,12 +83,12 @@ impl Front {
 
     /// The list with one version more, or `None` where it did not end as seen here, or has 2^64 - 1 versions.
     pub fn with(&self, count: &Word<Version, u64, Rising>, next: &Next<'_>) -> Option<Front>
-        requires count { count.now ≡ count_of self.now.view }
-        requires rising { IsLatest self.now.versions (next_of next.now).events }
+        requires count { count.now ≡ version_count self.now.view }
+        requires rising { IsLatest self.now.versions (version_of_next next.now).events }
         ensures { IfSome result (λ front. front
             ≡ record {
               view = self.now.view;
-              versions = self.now.versions ++ next_of next.now ∷ [];
+              versions = self.now.versions ++ version_of_next next.now ∷ [];
             }) }
     {
         if self.number == u64::MAX {
@@ -132,7 +132,7 @@ impl Front {
     }
 
     /// Shows that of two fronts of one view the shorter begins the longer.
-    pub fn meet(&self, other: &Front)
+    pub fn shows_prefix(&self, other: &Front)
         requires { other.now.view ≡ self.now.view }
         ensures { length self.now.versions ≤ length other.now.versions
             → IsPrefix self.now.versions other.now.versions }

@@ -1,7 +1,7 @@
 ghost use Rattle.std.specs.Prelude.{◌≡◌, ◌+◌, ◌<◌, ◌≤◌, ◌^◌, ◌∷◌, [], replicate, vec_len, vec_capacity, IfOk};
 ghost use Rattle.left_right.specs.Sides.{view};
 ghost use Rattle.live_view.specs.Versions.{blank};
-ghost use Rattle.live_view.specs.Copies.{published, pending};
+ghost use Rattle.live_view.specs.Copies.{published, steps_pending};
 ghost use Rattle.live_view.specs.Rule.{nothing, met};
 ghost use Rattle.live_view.specs.Seen.{fresh_writer, fresh_viewer};
 
@@ -46,11 +46,11 @@ fn place<R: Wait>(rt: &R, copies: &Copies) -> Seat
 }
 
 // A viewer that knows which view it reads, and has not looked.
-fn viewer<R: Wait>(rt: &R, copies: &mut Copies) -> Viewer
+fn make_viewer<R: Wait>(rt: &R, copies: &mut Copies) -> Viewer
     requires known { view copies.old.desk.place ≡ met nothing (published copies.old) }
     requires first { (published copies.old).front.versions ≡ blank ∷ [] }
     ensures published { published copies.new ≡ published copies.old }
-    ensures pending { pending copies.new ≡ pending copies.old }
+    ensures pending { steps_pending copies.new ≡ steps_pending copies.old }
     ensures known { view copies.new.desk.place ≡ view copies.old.desk.place }
     ensures viewer { result ≡ fresh_viewer (published copies.old).front.view }
 {
@@ -66,12 +66,12 @@ fn add_viewers<R: Wait>(rt: &R, copies: &mut Copies, all: &mut Vec<Viewer>, view
     requires none { all.old.items ≡ [] }
     requires room { vec_len all.old + viewers ≤ vec_capacity all.old }
     ensures published { published copies.new ≡ published copies.old }
-    ensures pending { pending copies.new ≡ pending copies.old }
+    ensures pending { steps_pending copies.new ≡ steps_pending copies.old }
     ensures viewers { all.new.items
         ≡ replicate viewers (fresh_viewer (published copies.old).front.view) }
 {
     for _ in 0..viewers {
-        all.push_reserved(viewer(rt, copies));
+        all.push_reserved(make_viewer(rt, copies));
     }
 }
 
@@ -86,7 +86,7 @@ fn copies_of<R: Wait>(
     requires some { (0 < viewers) × (viewers < 2 ^ 32) }
     ensures published { IfOk result
         (λ copies. published copies ≡ record { version = blank; front = front.now }) }
-    ensures pending { IfOk result (λ copies. pending copies ≡ []) }
+    ensures pending { IfOk result (λ copies. steps_pending copies ≡ []) }
     ensures known { IfOk result
         (λ copies. view copies.desk.place ≡ met nothing (published copies)) }
 {

@@ -1,8 +1,8 @@
 // The writer's end of the list of versions.
 ghost use Rattle.std.specs.Prelude.{◌≡◌, [], ◌∷◌, ◌++◌, MatchBool};
 ghost use Rattle.live_view.specs.Versions.{blank, IsLatest};
-ghost use Rattle.live_view.specs.Fronts.{count_of};
-ghost use Rattle.live_view.specs.Nexts.{next_of};
+ghost use Rattle.live_view.specs.Fronts.{version_count};
+ghost use Rattle.live_view.specs.Nexts.{version_of_next};
 
 use crate::front::{Add, Front, Rising};
 use crate::next::Next;
@@ -21,20 +21,20 @@ pub struct Roll {
 
 impl Model for Roll {
     ghost use Rattle.std.specs.Prelude.{◌≡◌};
-    ghost use Rattle.live_view.specs.Fronts.{FrontData, count_of};
+    ghost use Rattle.live_view.specs.Fronts.{FrontData, version_count};
 
     ghost Value = { FrontData };
 
     ghost view = { λ roll. roll.front };
 
-    ghost invariant = { λ roll. roll.count ≡ count_of roll.front.view };
+    ghost invariant = { λ roll. roll.count ≡ version_count roll.front.view };
 }
 
 impl<'a> Plain<Next<'a>, Version, u64> for Add {
     ghost use Rattle.std.specs.Prelude.{None};
-    ghost use Rattle.live_view.specs.Nexts.{next_of};
+    ghost use Rattle.live_view.specs.Nexts.{version_of_next};
 
-    ghost ask = { next_of };
+    ghost ask = { version_of_next };
 
     ghost state = { λ next. None };
 }
@@ -64,10 +64,10 @@ impl Roll {
     /// It does not where there are 2^64 - 1 versions, or where another has added one. Nobody but the one writer can reach
     /// the word that counts them, but the rule of the list does not say so.
     pub fn add(&mut self, next: &Next<'_>) -> bool
-        requires { IsLatest self.old.versions (next_of next.now).events }
+        requires { IsLatest self.old.versions (version_of_next next.now).events }
         ensures view { self.new.view ≡ self.old.view }
         ensures added { MatchBool result
-            (self.new.versions ≡ self.old.versions ++ next_of next.now ∷ [])
+            (self.new.versions ≡ self.old.versions ++ version_of_next next.now ∷ [])
             (self.new.versions ≡ self.old.versions) }
     {
         match self.front.with(&self.count, next) {

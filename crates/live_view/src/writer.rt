@@ -1,7 +1,7 @@
 ghost use Rattle.std.specs.Prelude.{◌≡◌, ◌⊎◌, ◌∷◌, ◌++◌, ◌-◌, ◌<◌, ◌≤◌, [], OnOk, OnErr};
 ghost use Rattle.gpu_store.specs.Images.{HasItsTexels};
-ghost use Rattle.live_view.specs.Versions.{blank, IsLatest, drawn_by};
-ghost use Rattle.live_view.specs.Copies.{published, pending};
+ghost use Rattle.live_view.specs.Versions.{blank, IsLatest, images_drawn};
+ghost use Rattle.live_view.specs.Copies.{published, steps_pending};
 ghost use Rattle.live_view.specs.Seen.{fresh_writer, next_version};
 
 use crate::copies::{end_version, hand_over};
@@ -33,9 +33,9 @@ pub struct ViewWriter {
 impl Model for ViewWriter {
     ghost use Rattle.std.specs.Prelude.{◌-◌, ◌++◌, length, drop};
     ghost use Rattle.std.specs.VecDeque.{deque_len, deque_capacity};
-    ghost use Rattle.live_view.specs.Copies.{published, pending};
+    ghost use Rattle.live_view.specs.Copies.{published, steps_pending};
     ghost use Rattle.live_view.specs.Steps.{ops_of};
-    ghost use Rattle.live_view.specs.Seen.{WriterData, IsWriter};
+    ghost use Rattle.live_view.specs.Seen.{WriterData, IsViewWriter};
 
     ghost Value = { WriterData };
 
@@ -44,18 +44,18 @@ impl Model for ViewWriter {
       versions = (published writer.copies).front.versions;
       tried = drop (length (published writer.copies).front.versions) writer.roll.versions;
       images = (published writer.copies).version.images;
-      noted = ops_of (pending writer.copies) ++ writer.waiting.items;
+      noted = ops_of (steps_pending writer.copies) ++ writer.waiting.items;
       spare = deque_capacity writer.waiting - deque_len writer.waiting;
     } };
 
-    ghost invariant = { λ writer. IsWriter (published writer.copies) writer.roll };
+    ghost invariant = { λ writer. IsViewWriter (published writer.copies) writer.roll };
 }
 
 impl ViewWriter {
     // The writer of two copies that show the first version, which has nothing noted.
     pub(crate) fn fresh(alloc: Global, copies: Copies, roll: Roll) -> ViewWriter
         requires published { published copies ≡ record { version = blank; front = roll } }
-        requires pending { pending copies ≡ [] }
+        requires pending { steps_pending copies ≡ [] }
         requires versions { roll.versions ≡ blank ∷ [] }
         ensures { result ≡ fresh_writer roll.view result.spare }
     {
@@ -105,7 +105,8 @@ impl ViewWriter {
         ensures versions { OnOk result
             (self.new.versions
             ≡ (self.old.versions ++ self.old.tried) ++ next_version self.old events ∷ []) }
-        ensures images { OnOk result (self.new.images ≡ drawn_by self.old.images self.old.noted) }
+        ensures images { OnOk result
+            (self.new.images ≡ images_drawn self.old.images self.old.noted) }
         ensures handed { OnOk result ((self.new.noted ≡ []) × (self.new.tried ≡ [])) }
         ensures kept { OnErr result
             ((self.new.versions ≡ self.old.versions) × (self.new.images ≡ self.old.images)

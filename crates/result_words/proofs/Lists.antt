@@ -7,7 +7,7 @@ use mathlib.Core.Logic.{dite}
 use native.Mathlib.Decide.{ℕ_discrete}
 use Rattle.gpu_word.specs.Results.{Written, Write, Finish, finishes_in, last_written, WasLast, Settles}
 use Rattle.gpu_word.proofs.Written.{last_of_both, finishes_of_both}
-use Rattle.result_words.specs.Rule.{counted}
+use Rattle.result_words.specs.Rule.{finishes_counted}
 
 -- ---- lists
 
@@ -42,15 +42,15 @@ settles_push written reads read settled was = All-push (λ (r : ℕ × ℕ × �
 
 -- ---- what word 0 says
 
-pub counted_grows : (first second : List Written) → counted first ≤ counted (first ++ second)
+pub counted_grows : (first second : List Written) → finishes_counted first ≤ finishes_counted (first ++ second)
 counted_grows first second = let sum = finishes_of_both first second in omega arith
 
 -- a write counts no finish
-pub write_counts_none : (written : List Written) (place value : ℕ) → counted written ≡ counted (written ++ Write place value ∷ [])
+pub write_counts_none : (written : List Written) (place value : ℕ) → finishes_counted written ≡ finishes_counted (written ++ Write place value ∷ [])
 write_counts_none written place value = let sum = finishes_of_both written (Write place value ∷ []) in omega arith
 
 -- a finish counts one, as far as the word goes
-pub finish_counts_one : (written : List Written) → min (counted written + 1) (2 ^ 64 - 1) ≡ counted (written ++ Finish ∷ [])
+pub finish_counts_one : (written : List Written) → min (finishes_counted written + 1) (2 ^ 64 - 1) ≡ finishes_counted (written ++ Finish ∷ [])
 finish_counts_one written = let sum = finishes_of_both written (Finish ∷ []) in omega arith
 
 -- ---- the words of results

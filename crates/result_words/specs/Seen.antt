@@ -4,11 +4,11 @@ use Rattle.std.specs.List.{All}
 use Rattle.atomic_table.specs.Seated.{TableId}
 use Rattle.gpu_word.specs.Results.{Written}
 use Rattle.result_words.specs.declared.view.View.TheVariants.{Writer, Reader}
-use Rattle.result_words.specs.Views.{Sat, writer_of, reader_of}
-use Rattle.result_words.specs.Rule.{counted}
+use Rattle.result_words.specs.Views.{ResultSeat, writer_of, reader_of}
+use Rattle.result_words.specs.Rule.{finishes_counted}
 
 -- the words that the service writes, the number of result places, and the values and finishes that it has written
-pub record WriterData : Type 0 where
+pub record ResultWriterData : Type 0 where
   pub table : TableId
   pub places : ℕ
   pub written : List Written
@@ -22,7 +22,7 @@ pub record ReaderData : Type 0 where
   pub reads : List (ℕ × ℕ × ℕ)
 
 -- a writer that has done nothing
-abbrev pub writer_at : TableId → ℕ → WriterData
+abbrev pub writer_at : TableId → ℕ → ResultWriterData
 writer_at table places = record { table = table; places = places; written = [] }
 
 -- a reader that has done nothing
@@ -51,26 +51,26 @@ abbrev pub IsWide : TableId → ℕ → Type 0
 IsWide table places = table.words ≡ 1 + places
 
 -- the number of result places
-abbrev pub places_in : TableId → ℕ
-places_in table = table.words - 1
+abbrev pub result_places : TableId → ℕ
+result_places table = table.words - 1
 
 -- what the seat of a writer tells
-abbrev pub seen_of_writer : TableId → Sat → WriterData
-seen_of_writer table seat = record { table = table; places = places_in table; written = (writer_of seat.0).written }
+abbrev pub seen_of_writer : TableId → ResultSeat → ResultWriterData
+seen_of_writer table seat = record { table = table; places = result_places table; written = (writer_of seat.0).written }
 
 -- what the seat of a reader tells
-abbrev pub seen_of_reader : TableId → Sat → ReaderData
-seen_of_reader table seat = record { table = table; places = places_in table; counts = (reader_of seat.0).counts; reads = (reader_of seat.0).reads }
+abbrev pub seen_of_reader : TableId → ResultSeat → ReaderData
+seen_of_reader table seat = record { table = table; places = result_places table; counts = (reader_of seat.0).counts; reads = (reader_of seat.0).reads }
 
 -- the seat is a writer's
-abbrev pub IsWriter : Sat → Type 0
+abbrev pub IsWriter : ResultSeat → Type 0
 IsWriter seat = seat ≡ (Writer (writer_of seat.0), [])
 
 -- the seat is a reader's
-abbrev pub IsReader : Sat → Type 0
+abbrev pub IsReader : ResultSeat → Type 0
 IsReader seat = seat ≡ (Reader (reader_of seat.0), [])
 
 -- what a writer keeps: its seat is a writer's, and the finishes that it has written are counted
-pub record WriterKeeps (finished : ℕ) (seat : Sat) : Type 0 where
+pub record WriterKeeps (finished : ℕ) (seat : ResultSeat) : Type 0 where
   pub is : IsWriter seat
-  pub finished_is : finished ≡ counted (writer_of seat.0).written
+  pub finished_is : finished ≡ finishes_counted (writer_of seat.0).written

@@ -9,12 +9,12 @@ use Rattle.result_words.specs.declared.view.View.{View}
 use Rattle.result_words.specs.declared.view.View.TheVariants.{Writer, Reader, Spent}
 
 -- a seat's view; the words have no slots
-abbrev pub Sat : Type 0
-Sat = Me (Unit {0}) View
+abbrev pub ResultSeat : Type 0
+ResultSeat = Me (Unit {0}) View
 
 -- a writer that has done nothing
-abbrev pub fresh_writer : WriterView
-fresh_writer = record { written = []; taken = [] }
+abbrev pub fresh_result_writer : WriterView
+fresh_result_writer = record { written = []; taken = [] }
 
 -- a reader that has done nothing
 abbrev pub fresh_reader : ReaderView
@@ -23,8 +23,8 @@ fresh_reader = record { counts = []; reads = [] }
 -- what a writer's view knows
 abbrev pub writer_of : View → WriterView
 writer_of (Writer writer) = writer
-writer_of (Reader reader) = fresh_writer
-writer_of Spent = fresh_writer
+writer_of (Reader reader) = fresh_result_writer
+writer_of Spent = fresh_result_writer
 
 -- what a reader's view knows
 abbrev pub reader_of : View → ReaderView
@@ -49,27 +49,27 @@ abbrev pub with_taken : List (ℕ × ℕ × ℕ) → WriterView → WriterView
 with_taken reads writer = record writer { taken = reads }
 
 -- what a step tells: of the step, the seat before, the value found or stored, and the seat after
-abbrev Tells : Type 1
-Tells = Step (Unit {0}) → Sat → ℕ → Sat → Type 0
+abbrev ResultTelling : Type 1
+ResultTelling = Step (Unit {0}) → ResultSeat → ℕ → ResultSeat → Type 0
 
 -- a value was written to a result place
-abbrev pub stores_result : Tells
+abbrev pub stores_result : ResultTelling
 stores_result step before value after = after ≡ (Writer (with_written (Write (step.word - 1) step.first) (writer_of before.0)), before.1)
 
 -- one finish more was counted
-abbrev pub counts_finish : Tells
+abbrev pub counts_finish : ResultTelling
 counts_finish step before value after = after ≡ (Writer (with_written Finish (writer_of before.0)), before.1)
 
 -- the number of finishes was loaded, and is no lower than at any load before
-abbrev pub loads_count : Tells
+abbrev pub loads_count : ResultTelling
 loads_count step before value after = (after ≡ (Reader (with_count value (reader_of before.0)), before.1)) × All (λ earlier. earlier ≤ value) (reader_of before.0).counts
 
 -- a result was read, which is a value of 32 bits
-abbrev pub loads_result : ℕ → Tells
+abbrev pub loads_result : ℕ → ResultTelling
 loads_result at_least step before value after = (after ≡ (Reader (with_read (step.word - 1, at_least, value) (reader_of before.0)), before.1)) × (value < 2 ^ 32)
 
 -- nothing changes, and the reads that were taken back are as the rule says
-abbrev pub looks_back : Tells
+abbrev pub looks_back : ResultTelling
 looks_back step before value after = (after ≡ before) × Settles (writer_of before.0).written (writer_of before.0).taken
 
 -- the writer has taken a reader back

@@ -7,13 +7,13 @@ use std::marker::Model;
 pub struct ResultsRule;
 
 impl TableRule<(), View, u64> for ResultsRule {
-    ghost use Rattle.result_words.specs.Views.{fresh_writer};
-    ghost use Rattle.result_words.specs.Rule.{Keeps};
+    ghost use Rattle.result_words.specs.Views.{fresh_result_writer};
+    ghost use Rattle.result_words.specs.Rule.{KeepsResults};
     ghost use Rattle.result_words.specs.declared.view.View.TheVariants.{Writer};
 
-    ghost holds = { Keeps };
+    ghost holds = { KeepsResults };
 
-    ghost first = { λ _. Writer fresh_writer };
+    ghost first = { λ _. Writer fresh_result_writer };
 }
 
 /// The result words of one stream, which its service and its client share.

@@ -20,9 +20,9 @@ pub struct ResultWriter {
 }
 
 impl Model for ResultWriter {
-    ghost use Rattle.result_words.specs.Seen.{WriterData, WriterKeeps, seen_of_writer};
+    ghost use Rattle.result_words.specs.Seen.{ResultWriterData, WriterKeeps, seen_of_writer};
 
-    ghost Value = { WriterData };
+    ghost Value = { ResultWriterData };
 
     ghost view = { λ w. seen_of_writer w.seat.table_id w.seat.me };
 

@@ -4,11 +4,11 @@ use Rattle.std.specs.List.{All}
 use Rattle.std.proofs.lemmas.List.Elements.{All-nil, All-push}
 use Rattle.gpu_journal.specs.declared.event.Event.{Event}
 use Rattle.gpu_journal.specs.declared.event.Event.TheVariants.{Close}
-use Rattle.run_output.specs.Parts.{HasRoom}
+use Rattle.run_output.specs.Parts.{LineHasRoom}
 
-close_room : (s : ℕ) → HasRoom (Close s)
+close_room : (s : ℕ) → LineHasRoom (Close s)
 close_room s = record { few = omega arith; near = All-nil (λ (word : ℕ × ℕ). word.0 < 69632) }
 
 -- and so has a list of events that grows by one
-pub close_pushed : (old new : List Event) (s : ℕ) → new ≡ old ++ Close s ∷ [] → All HasRoom old → All HasRoom new
-close_pushed old new s is rooms = subst (All HasRoom) (sym is) (All-push HasRoom old (Close s) rooms (close_room s))
+pub close_pushed : (old new : List Event) (s : ℕ) → new ≡ old ++ Close s ∷ [] → All LineHasRoom old → All LineHasRoom new
+close_pushed old new s is rooms = subst (All LineHasRoom) (sym is) (All-push LineHasRoom old (Close s) rooms (close_room s))

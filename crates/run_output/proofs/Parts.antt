@@ -4,7 +4,7 @@ use Rattle.std.specs.Prelude.{slice_get, slice_index_or, option_map, IsSomeAnd, 
 use Rattle.std.specs.List.{range_with_len}
 use Rattle.std.proofs.lemmas.List.FromFn.{length-map-range_with_len, get_or-map-range_with_len}
 use Rattle.std.proofs.lemmas.Option.{slice_get-get_or}
-use Rattle.gpu_store.specs.Picture.{Picture, row_of}
+use Rattle.gpu_store.specs.Picture.{Picture, texel_row}
 use Rattle.gpu_cmd.specs.declared.name.Name.{Name}
 use Rattle.gpu_plan.specs.Plans.{PlansData, PlanData, plan_of, no_plan}
 use Rattle.gpu_journal.specs.World.{state_of}
@@ -14,7 +14,7 @@ use Rattle.gpu_journal.specs.declared.event.Event.{Event}
 use Rattle.journal_text.specs.Text.{tally_of, stream_text}
 use Rattle.journal_text.specs.Picture.{head_text, row_text}
 use Rattle.journal_text.specs.Lines.{journal_head, name_text}
-use Rattle.run_output.specs.Parts.{heads, streams, image_lines}
+use Rattle.run_output.specs.Parts.{heads, lines_of_streams, image_lines}
 
 -- the line of each of n numbers from 1 on, after a first line
 behind_one : (f : ℕ → List ℕ) (head : List ℕ) (n i : ℕ) → 0 < i → i ≤ n → slice_index_or (head ∷ map f (range_with_len 1 n)) i [] ≡ f i
@@ -45,10 +45,10 @@ head_at p (suc k) name some within found =
 
 -- ---- streams
 
-pub length-streams : (p : PlansData) (h : List Event) → length (streams p h) ≡ length p.plans
+pub length-streams : (p : PlansData) (h : List Event) → length (lines_of_streams p h) ≡ length p.plans
 length-streams p h = length-map-range_with_len (λ (s : ℕ). stream_text s (tally_of (state_of p h s)) (end_of h s)) 1 (length p.plans)
 
-pub stream_at : (p : PlansData) (h : List Event) (i : ℕ) → i < length p.plans → slice_index_or (streams p h) i [] ≡ stream_text (i + 1) (tally_of (state_of p h (i + 1))) (end_of h (i + 1))
+pub stream_at : (p : PlansData) (h : List Event) (i : ℕ) → i < length p.plans → slice_index_or (lines_of_streams p h) i [] ≡ stream_text (i + 1) (tally_of (state_of p h (i + 1))) (end_of h (i + 1))
 stream_at p h i lt = get_or-map-range_with_len (λ (s : ℕ). stream_text s (tally_of (state_of p h s)) (end_of h s)) 1 (length p.plans) i (i + 1) [] lt (omega arith)
 
 pub end_at : (p : PlansData) (h : List Event) (i : ℕ) → i < length p.plans → slice_index_or (map (end_of h) (streams_of p)) i Done ≡ end_of h (i + 1)
@@ -63,7 +63,7 @@ height_found (Some picture) width height size = ap (λ (o : Option (ℕ × ℕ))
 pub length-image : (image height : ℕ) (found : Option Picture) → option_map (λ (picture : Picture). picture.height) found ≡ Some height → length (image_lines image found) ≡ height + 1
 length-image image height None there = absurd (omega (arith, ap (λ (o : Option ℕ). unwrap_or o (height + 1)) there))
 length-image image height (Some picture) there =
-    omega (arith, length-map-range_with_len (λ (y : ℕ). row_text (row_of picture y)) 0 picture.height, ap (λ (o : Option ℕ). unwrap_or o 0) there)
+    omega (arith, length-map-range_with_len (λ (y : ℕ). row_text (texel_row picture y)) 0 picture.height, ap (λ (o : Option ℕ). unwrap_or o 0) there)
 
 pub row_within : (height y : ℕ) (found : Option Picture) → option_map (λ (picture : Picture). picture.height) found ≡ Some height → y < height → IsSomeAnd found (λ picture. y < picture.height)
 row_within height y None there lt = absurd (omega (arith, ap (λ (o : Option ℕ). unwrap_or o (height + 1)) there))
@@ -71,11 +71,11 @@ row_within height y (Some picture) there lt = omega (arith, ap (λ (o : Option �
 
 -- the line of a row, after what is there
 pub row_at : (image height i : ℕ) (found : Option Picture) (old new : List ℕ) → option_map (λ (picture : Picture). picture.height) found ≡ Some height → 0 < i → i ≤ height
-    → IfSome found (λ picture. new ≡ old ++ row_text (row_of picture (i - 1))) → new ≡ old ++ slice_index_or (image_lines image found) i []
+    → IfSome found (λ picture. new ≡ old ++ row_text (texel_row picture (i - 1))) → new ≡ old ++ slice_index_or (image_lines image found) i []
 row_at image height i None old new there some within made = absurd (omega (arith, ap (λ (o : Option ℕ). unwrap_or o (height + 1)) there))
 row_at image height i (Some picture) old new there some within made =
     made
-    ∙ ap (λ (line : List ℕ). old ++ line) (sym (behind_zero (λ (y : ℕ). row_text (row_of picture y)) (head_text image picture.width picture.height) picture.height i some (omega (arith, ap (λ (o : Option ℕ). unwrap_or o 0) there))))
+    ∙ ap (λ (line : List ℕ). old ++ line) (sym (behind_zero (λ (y : ℕ). row_text (texel_row picture y)) (head_text image picture.width picture.height) picture.height i some (omega (arith, ap (λ (o : Option ℕ). unwrap_or o 0) there))))
 
 -- the own line of an image, after what is there
 pub image_at : (image height : ℕ) (found : Option Picture) (old new : List ℕ) → option_map (λ (picture : Picture). picture.height) found ≡ Some height

@@ -6,7 +6,7 @@ use Rattle.std.specs.Io.KnownBytes.{Appends}
 use Rattle.std.proofs.lemmas.List.{append-nil, take_more, take-append-drop, length-append}
 use Rattle.std.proofs.lemmas.List.Folds.{concat-append}
 use Rattle.gpu_io.specs.Faults.{HasRisen}
-use Rattle.run_output.specs.Pieces.{AppendsFront, Adds, IsPut, Puts}
+use Rattle.run_output.specs.Pieces.{AppendsFront, Adds, IsTextPut, Puts}
 use Rattle.run_output.proofs.Appending.{Appends-then}
 
 -- nothing more is written
@@ -29,16 +29,16 @@ risen_later a b c later (inl risen) = inl (omega arith)
 risen_later a b c later (inr last) = inr last
 
 -- two texts that are put one after the other are put as one
-put_then : (a b c : Option (List ℕ)) (f g h s t : List ℕ) → IsPut a f b g s → IsPut b g c h t → IsPut a f c h (s ++ t)
+put_then : (a b c : Option (List ℕ)) (f g h s t : List ℕ) → IsTextPut a f b g s → IsTextPut b g c h t → IsTextPut a f c h (s ++ t)
 put_then a b c f g h s t first second =
     record { given = first.given ++ second.given; whole = joined first.given second.given h f g s t first.whole second.whole; appended = Appends-then a b c first.given second.given first.appended second.appended }
 
 -- where a text is put, and of the gathered text and the next one a front is written, it is one of both together
-cut_then : (a b c : Option (List ℕ)) (f g s t : List ℕ) → IsPut a f b g s → AppendsFront b c (g ++ t) → AppendsFront a c (f ++ (s ++ t))
+cut_then : (a b c : Option (List ℕ)) (f g s t : List ℕ) → IsTextPut a f b g s → AppendsFront b c (g ++ t) → AppendsFront a c (f ++ (s ++ t))
 cut_then a b c f g s t first front =
     (first.given ++ front.0, front.1, joined first.given front.0 front.1 f g s t first.whole front.2, Appends-then a b c first.given front.0 first.appended front.3)
 
-pub nothing_put : (a : Option (List ℕ)) (f : List ℕ) → IsPut a f a f []
+pub nothing_put : (a : Option (List ℕ)) (f : List ℕ) → IsTextPut a f a f []
 nothing_put a f = record { given = []; whole = sym (append-nil f); appended = Appends-nothing a }
 
 module _ {K : Type 0} (w : K → Option (List ℕ)) (n : K → ℕ) where

@@ -21,7 +21,7 @@ use Rattle.gpu_journal.specs.Legal.{Obeys, IsLegal}
 use Rattle.gpu_journal.proofs.Worlds.{states_within, known_of_left}
 use Rattle.serial_laws.specs.Scripts.{AreLawfulPlans}
 use Rattle.serial_laws.proofs.Passed.{lawful_of}
-use Rattle.run_output.specs.Parts.{HasRoom}
+use Rattle.run_output.specs.Parts.{LineHasRoom}
 
 -- numbers that rise are at least their places
 rises_least : (xs : List ℕ) (k : ℕ) → IsStrictlyIncreasing xs → k < length xs → k ≤ get_or xs k 0
@@ -59,7 +59,7 @@ fetched_room words facts lawful listed =
         omega (arith, here, get_or-map (λ (word : ℕ × ℕ). word.0) ws k d 0 lt)
 
 -- the event of a legal history has room
-pub obeying_room : (p : PlansData) (h : List Event) (e : Event) → AreLawfulPlans p → IsLegal p h → Obeys p h e → HasRoom e
+pub obeying_room : (p : PlansData) (h : List Event) (e : Event) → AreLawfulPlans p → IsLegal p h → Obeys p h e → LineHasRoom e
 obeying_room p h (Order s n c) lawful legal o = record { few = omega arith; near = λ k d lt. absurd (omega arith) }
 obeying_room p h (Finish s n) lawful legal o = record { few = omega arith; near = λ k d lt. absurd (omega arith) }
 obeying_room p h (Close s) lawful legal o = record { few = omega arith; near = λ k d lt. absurd (omega arith) }
@@ -75,8 +75,8 @@ obeying_room p h (Step s words) lawful legal o =
     let both = fetched_room words (facts_at p h s) (facts_lawful (plan_of p s).areas (put_of p h s) (state_of p h s) areas (states_within p h s areas legal).bounded) o.rule_7.1 in
     record { few = both.0; near = both.1 }
 
-pub legal_room : (p : PlansData) (h : List Event) → AreLawfulPlans p → IsLegal p h → All HasRoom (reverse h)
+pub legal_room : (p : PlansData) (h : List Event) → AreLawfulPlans p → IsLegal p h → All LineHasRoom (reverse h)
 legal_room p [] lawful legal = λ k d lt. absurd (omega arith)
 legal_room p (e ∷ h) lawful legal =
-    let last : All HasRoom (e ∷ []) = All-cons HasRoom e [] (obeying_room p h e lawful legal.1 legal.0) (λ k d lt. absurd (omega arith)) in
-    subst (All HasRoom) (sym (reverse_onto h e [])) (All-append HasRoom (reverse h) (e ∷ []) (legal_room p h lawful legal.1) last)
+    let last : All LineHasRoom (e ∷ []) = All-cons LineHasRoom e [] (obeying_room p h e lawful legal.1 legal.0) (λ k d lt. absurd (omega arith)) in
+    subst (All LineHasRoom) (sym (reverse_onto h e [])) (All-append LineHasRoom (reverse h) (e ∷ []) (legal_room p h lawful legal.1) last)

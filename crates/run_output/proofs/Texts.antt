@@ -7,7 +7,7 @@ use Rattle.std.specs.List.{concat, flat_map, range_with_len}
 use Rattle.std.proofs.lemmas.List.{get_or-map, length-map, append-nil}
 use Rattle.std.proofs.lemmas.List.Folds.{flat_map-map}
 use Rattle.std.proofs.lemmas.List.FromFn.{length-range_with_len}
-use Rattle.gpu_store.specs.Picture.{Picture, row_of}
+use Rattle.gpu_store.specs.Picture.{Picture, texel_row}
 use Rattle.gpu_store.specs.Images.{Pictures, picture_of}
 use Rattle.gpu_store.proofs.Lookups.{Stands}
 use Rattle.gpu_journal.specs.Dumps.{dumps_of}
@@ -26,7 +26,7 @@ use Rattle.journal_text.specs.Output.{head_lines, stream_lines, mark_lines, outp
 use Rattle.run_output.specs.declared.output.Section.{Section}
 use Rattle.run_output.specs.declared.output.Section.TheVariants.{Names, Journal, Images, Streams, Marks, Dumps, Looks}
 use Rattle.run_output.specs.Runs.{OutputData, section_text, behind_text, run_text}
-use Rattle.run_output.specs.Parts.{heads, streams, marks, image_lines, dump_read_text, dump_texts, look_text, view_texts}
+use Rattle.run_output.specs.Parts.{heads, lines_of_streams, marks, image_lines, dump_read_text, dump_texts, look_text, view_texts}
 
 -- the text of each item is that of all of them
 pub concat-map : {A : Type 0} (f : A → List ℕ) (xs : List A) → concat (map f xs) ≡ flat_map f xs
@@ -43,7 +43,7 @@ pub event_lines_text : (events : List Event) → concat (map event_text events) 
 unfolding journal_text
 event_lines_text events = concat-map event_text events
 
-pub streams_text : (p : PlansData) (h : List Event) → concat (streams p h) ≡ stream_lines p h
+pub streams_text : (p : PlansData) (h : List Event) → concat (lines_of_streams p h) ≡ stream_lines p h
 streams_text p h = concat-map (λ (s : ℕ). stream_text s (tally_of (state_of p h s)) (end_of h s)) (streams_of p)
 
 pub marks_text : (p : PlansData) (base : ℕ) (h : List Event) → concat (marks p base h) ≡ mark_lines p (mark base) h
@@ -53,7 +53,7 @@ marks_text p base h = concat-map (λ ending. mark_text ending (mark base ending)
 
 shown : (picture : Picture) (image : ℕ) → concat (image_lines image (Some picture)) ≡ image_text (image, picture)
 unfolding image_text
-shown picture image = ap (λ (r : List ℕ). image_head image picture.width picture.height ++ r) (concat-map (λ (y : ℕ). row_text (row_of picture y)) (range_with_len 0 picture.height))
+shown picture image = ap (λ (r : List ℕ). image_head image picture.width picture.height ++ r) (concat-map (λ (y : ℕ). row_text (texel_row picture y)) (range_with_len 0 picture.height))
 
 no_entry : ℕ × Picture
 no_entry = (0, record { width = 0; height = 0; texels = [] })

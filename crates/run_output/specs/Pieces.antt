@@ -16,7 +16,7 @@ pub record Adds {K T E : Type 0} (written : K → Option (List ℕ)) (faults : K
   pub later : faults old ≤ faults new
 
 -- the text was put after what was gathered: a first part of both was written, and the rest of both is gathered now
-pub record IsPut (written : Option (List ℕ)) (gathered : List ℕ) (written_then : Option (List ℕ))
+pub record IsTextPut (written : Option (List ℕ)) (gathered : List ℕ) (written_then : Option (List ℕ))
     (gathered_then text : List ℕ) : Type 0 where
   pub given : List ℕ
   pub whole : given ++ gathered_then ≡ gathered ++ text
@@ -25,7 +25,7 @@ pub record IsPut (written : Option (List ℕ)) (gathered : List ℕ) (written_th
 -- a text was put after what was gathered; after a fault a front of what was gathered and of the text was written
 pub record Puts {K T E : Type 0} (written : K → Option (List ℕ)) (faults : K → ℕ) (old : K) (gathered : List ℕ)
     (new : K) (gathered_then : List ℕ) (result : Result T E) (text : List ℕ) : Type 0 where
-  pub all : OnOk result (IsPut (written old) gathered (written new) gathered_then text)
+  pub all : OnOk result (IsTextPut (written old) gathered (written new) gathered_then text)
   pub front : OnErr result (AppendsFront (written old) (written new) (gathered ++ text))
   pub fault : OnErr result (HasRisen (faults old) (faults new))
   pub later : faults old ≤ faults new

@@ -13,7 +13,7 @@ use Rattle.journal_text.specs.Output.{head_lines, stream_lines, mark_lines, outp
 use Rattle.gpu_house.specs.House.{ReportData}
 use Rattle.run_output.specs.declared.output.Section.{Section}
 use Rattle.run_output.specs.declared.output.Section.TheVariants.{Names, Journal, Images, Streams, Marks, Dumps, Looks}
-use Rattle.run_output.specs.Parts.{HasRoom, dump_texts, view_texts}
+use Rattle.run_output.specs.Parts.{LineHasRoom, dump_texts, view_texts}
 
 -- a run, with the dumps that the client of each stream has read: action place, result place and value; and with the looks of each
 -- viewer
@@ -42,8 +42,8 @@ run_text run = output run.report.plans (mark run.report.base) run.report.past ++
 
 -- the output of a run can be written: each event's line has room, the streams and the viewers are few, and how the streams
 -- ended is known
-pub record IsReady (run : OutputData) (ends : List End) : Type 0 where
-  pub room : All HasRoom (reverse run.report.past)
+pub record CanBeWritten (run : OutputData) (ends : List End) : Type 0 where
+  pub room : All LineHasRoom (reverse run.report.past)
   pub few : length run.dumps ≤ 16
   pub few_viewers : length run.looks ≤ 4
   pub ended : ends ≡ map (end_of run.report.past) (streams_of run.report.plans)

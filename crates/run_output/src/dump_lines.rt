@@ -20,6 +20,6 @@ impl<'a> Lines for DumpLines<'a> {
 
     fn make(&self, index: usize, sheet: &mut Sheet) {
         let (place, found, value) = self.dumps[index];
-        sheet.dump(self.stream, place, found, value);
+        sheet.put_dump(self.stream, place, found, value);
     }
 }

@@ -1,7 +1,7 @@
 ghost use Rattle.std.specs.Prelude.{◌≡◌, map, reverse};
 ghost use Rattle.std.specs.List.{All};
 ghost use Rattle.journal_text.specs.Text.{event_text};
-ghost use Rattle.run_output.specs.Parts.{HasRoom};
+ghost use Rattle.run_output.specs.Parts.{LineHasRoom};
 
 use crate::lines::Lines;
 use crate::outcome::Outcome;
@@ -12,7 +12,7 @@ use journal_text::Sheet;
 #[derive(Drop)]
 pub(crate) struct EventLines<'a> {
     pub(crate) events: &'a [Event],
-    ghost room: { All HasRoom events.now },
+    ghost room: { All LineHasRoom events.now },
 }
 
 impl<'a> EventLines<'a> {
@@ -34,6 +34,6 @@ impl<'a> Lines for EventLines<'a> {
     }
 
     fn make(&self, index: usize, sheet: &mut Sheet) {
-        sheet.event(&self.events[index]);
+        sheet.put_event(&self.events[index]);
     }
 }

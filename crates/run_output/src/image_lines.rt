@@ -43,9 +43,9 @@ impl<'a> Lines for ImageLines<'a> {
 
     fn make(&self, index: usize, sheet: &mut Sheet) {
         if index == 0 {
-            sheet.image(self.images, self.image);
+            sheet.put_image(self.images, self.image);
         } else {
-            sheet.row(self.images, self.image, index as u32 - 1);
+            sheet.put_row(self.images, self.image, index as u32 - 1);
         }
     }
 }

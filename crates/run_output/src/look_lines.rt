@@ -21,6 +21,6 @@ impl<'a> Lines for LookLines<'a> {
 
     fn make(&self, index: usize, sheet: &mut Sheet) {
         let look = self.looks[index];
-        sheet.view(self.viewer, look.events, look.sum);
+        sheet.put_view(self.viewer, look.events, look.sum);
     }
 }

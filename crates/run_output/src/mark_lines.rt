@@ -18,6 +18,6 @@ impl<'a> Lines for MarkLines<'a> {
     }
 
     fn make(&self, index: usize, sheet: &mut Sheet) {
-        sheet.mark(&self.report.endings()[index], self.report.marks()[index]);
+        sheet.put_mark(&self.report.endings()[index], self.report.marks()[index]);
     }
 }

@@ -35,10 +35,10 @@ impl<'a> Lines for NameLines<'a> {
 
     fn make(&self, index: usize, sheet: &mut Sheet) {
         if index == 0 {
-            sheet.head();
+            sheet.put_head();
         } else {
             let stream = index as u32;
-            sheet.name(stream, self.plans.name(stream));
+            sheet.put_name(stream, self.plans.name(stream));
         }
     }
 }

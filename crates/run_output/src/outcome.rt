@@ -1,7 +1,7 @@
 ghost use Rattle.std.specs.Prelude.{◌≡◌, ◌≤◌, length, map, reverse, IfOk};
 ghost use Rattle.std.specs.List.{All};
 ghost use Rattle.gpu_journal.specs.Ended.{streams_of, end_of};
-ghost use Rattle.run_output.specs.Parts.{HasRoom};
+ghost use Rattle.run_output.specs.Parts.{LineHasRoom};
 
 use gpu_house::Report;
 use gpu_journal::End;
@@ -25,7 +25,7 @@ fn ends_in(alloc: Global, report: &Report) -> Result<Vec<End>, Memory>
 // The lines of a run's events have room, and its streams are few.
 #[tactic(auto, using(crate::proofs::Rooms::legal_room))]
 fn lines_have_room(report: &Report)
-    ensures room { All HasRoom (reverse report.now.past) }
+    ensures room { All LineHasRoom (reverse report.now.past) }
     ensures few { length report.now.plans.plans ≤ 16 }
 {
     plans_are_lawful(report.plans());
@@ -43,7 +43,7 @@ pub(crate) struct Outcome {
 }
 
 impl Model for Outcome {
-    ghost use Rattle.run_output.specs.Runs.{OutputData, IsReady};
+    ghost use Rattle.run_output.specs.Runs.{OutputData, CanBeWritten};
 
     ghost Value = { OutputData };
 
@@ -53,7 +53,7 @@ impl Model for Outcome {
       looks = run.looks.items;
     } };
 
-    ghost invariant = { λ run. IsReady
+    ghost invariant = { λ run. CanBeWritten
         (record { report = run.report; dumps = run.dumps.items; looks = run.looks.items })
         run.ends.items };
 }
@@ -84,7 +84,7 @@ impl Outcome {
     /// The run. Its events have room in lines.
     pub(crate) fn report(&self) -> &Report
         ensures report { result.now ≡ self.now.report }
-        ensures room { All HasRoom (reverse result.now.past) }
+        ensures room { All LineHasRoom (reverse result.now.past) }
     {
         &self.report
     }

@@ -133,7 +133,7 @@ impl Page {
         if text.len().saturating_sub(MOST_LINE) > left {
             return pass(&mut self.sheet, text, sink);
         }
-        self.sheet.text(text);
+        self.sheet.put_text(text);
         settle(&mut self.sheet, sink)
     }
 

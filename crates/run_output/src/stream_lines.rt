@@ -1,6 +1,6 @@
 ghost use Rattle.std.specs.Prelude.{◌≡◌, ◌≤◌, length, map};
 ghost use Rattle.gpu_journal.specs.Ended.{streams_of, end_of};
-ghost use Rattle.run_output.specs.Parts.{streams};
+ghost use Rattle.run_output.specs.Parts.{lines_of_streams};
 
 use crate::lines::Lines;
 use crate::outcome::Outcome;
@@ -34,7 +34,7 @@ impl<'a> StreamLines<'a> {
 }
 
 impl<'a> Lines for StreamLines<'a> {
-    ghost lines = { λ s. streams s.report.now.plans s.report.now.past };
+    ghost lines = { λ s. lines_of_streams s.report.now.plans s.report.now.past };
 
     fn count(&self) -> usize {
         self.count as usize
@@ -42,6 +42,6 @@ impl<'a> Lines for StreamLines<'a> {
 
     fn make(&self, index: usize, sheet: &mut Sheet) {
         let stream = index as u32 + 1;
-        sheet.stream(stream, self.report.stream(stream), self.ends[index]);
+        sheet.put_stream(stream, self.report.stream(stream), self.ends[index]);
     }
 }

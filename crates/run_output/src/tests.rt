@@ -1,6 +1,6 @@
 ghost use Rattle.std.specs.Prelude.{IfOk};
 ghost use Rattle.std.specs.List.{All};
-ghost use Rattle.run_output.specs.Parts.{HasRoom};
+ghost use Rattle.run_output.specs.Parts.{LineHasRoom};
 
 use crate::event_lines::EventLines;
 use crate::page::Page;
@@ -37,7 +37,7 @@ fn a_front_stands_after_a_failed_write(rt: HostRuntime) -> Result<(), Fail> {
 // Three closes, whose lines have eight bytes each.
 #[tactic(auto, using(crate::proofs::Closing::close_pushed))]
 fn closes(alloc: Global) -> Result<Vec<Event>, Fail>
-    ensures { IfOk result (λ events. All HasRoom events.items) }
+    ensures { IfOk result (λ events. All LineHasRoom events.items) }
 {
     let mut events = Vec::new(alloc);
     for stream in 1..4u32 {
@@ -56,7 +56,7 @@ fn note(trace: &mut Vec<u8>, sink: &MemorySink, done: bool) -> Result<(), AllocE
 // What stands in a sink, whose calls of these numbers fail, once a page of 16 bytes has put the lines of these events, and
 // once it has given the rest.
 fn put_and_given(alloc: Global, events: &[Event], fails: &[u32]) -> Result<Vec<u8>, Fail>
-    requires { All HasRoom events.now }
+    requires { All LineHasRoom events.now }
 {
     let Ok(mut page) = Page::within(alloc, 16) else {
         return Err(Fail::from("memory is ample"));

@@ -22,7 +22,7 @@ use Rattle.serial_laws.specs.Scripts.{AreLawfulPlans}
 use Rattle.script_laws.proofs.Scripts.{scripts_are_lawful}
 use Rattle.script_laws.proofs.Outputs.{behind_journal, output_flat}
 use Rattle.journal_verify.specs.Followed.{sum_after}
-use Rattle.verify_input.specs.Reading.{IsWritten, whole_lines}
+use Rattle.verify_input.specs.Reading.{HasNumbersOfWords, whole_lines}
 use Rattle.verify_input.specs.Cuts.{IsLine}
 use Rattle.verify_input.specs.Parts.{script_part}
 use Rattle.verify_input.specs.Found.{script_in, head_of}
@@ -99,8 +99,8 @@ module _ (p : PlansData) (base viewers : ℕ) (events : List Event) (written : L
       subst (λ (n : ℕ). Offered p h (flat_map looks_due (range_with_len 1 n)) printed.ran.views true) seen.many
       (subst (λ (t : List ℕ). Offered p h (flat_map looks_due (range_with_len 1 (length seen.looks))) t true) (sym seen.are) (views_offered p h 1 seen.looks seen.each))
 
-  all_events : All IsWritten events
-  all_events = subst (All IsWritten) (reverse-reverse events) (all_written p (reverse events) lawful printed.ran.run.legal)
+  all_events : All HasNumbersOfWords events
+  all_events = subst (All HasNumbersOfWords) (reverse-reverse events) (all_written p (reverse events) lawful printed.ran.run.legal)
 
   -- its lines after the head and the journal, and all of them
   accepted : (input : List ℕ) → script_in input ≡ Ok p → output_in input ≡ Some written → IsRightWhole input base (replay p (reverse events)) (length events)

@@ -6,23 +6,23 @@ use Rattle.std.proofs.lemmas.List.{reverse-reverse, reverse-append}
 use Rattle.std.proofs.lemmas.List.Elements.{All-nil, All-cons, All-head, All-tail, All-push}
 use Rattle.run_output.specs.Pieces.{Adds}
 use Rattle.run_output.proofs.Pieces.{Appends-nothing}
-use Rattle.serial_laws.specs.Going.{wants_memory}
+use Rattle.serial_laws.specs.Going.{is_memory_loss}
 use Rattle.gpu_journal.specs.declared.event.Event.{Event}
 use Rattle.script_answers.specs.declared.command.Command.{Command}
 use Rattle.script_answers.specs.declared.status.Status.{Status}
 use Rattle.script_answers.specs.declared.status.Status.TheVariants as status
-use Rattle.script_answers.specs.Statuses.{writes, speaks}
+use Rattle.script_answers.specs.Statuses.{tells_all, speaks}
 use Rattle.script_answers.specs.Runs.{is_error_loss, run_ending}
 use Rattle.script_answers.specs.Says.{Says}
 
-choice_writes : (memory error : Bool) → writes (if memory then status.MemoryLost else (if error then status.SomeLost else status.Ok)) ≡ true
+choice_writes : (memory error : Bool) → tells_all (if memory then status.MemoryLost else (if error then status.SomeLost else status.Ok)) ≡ true
 choice_writes true error = refl
 choice_writes false true = refl
 choice_writes false false = refl
 
 -- a run ends with a status that writes
-pub run_writes : (events : List Event) → writes (run_ending events) ≡ true
-run_writes events = choice_writes (list_any wants_memory events) (list_any is_error_loss events)
+pub run_writes : (events : List Event) → tells_all (run_ending events) ≡ true
+run_writes events = choice_writes (list_any is_memory_loss events) (list_any is_error_loss events)
 
 -- what is said of an input has a status that speaks of it
 pub said_speaks : (command : Command) (base : ℕ) (input : List ℕ) (ending : Status) (text : List ℕ) → Says command base input ending text → speaks ending ≡ true
@@ -46,24 +46,24 @@ adds_nothing written faults sink value = record { all = Appends-nothing (written
 
 -- ---- losses as out of memory
 
-none_passes : (events : List Event) → list_any wants_memory events ≡ false → All (λ e. wants_memory e ≡ false) events
-none_passes [] none = All-nil (λ e. wants_memory e ≡ false)
-none_passes (e ∷ events) none = by (none_passes events) (wants_memory e) refl none
+none_passes : (events : List Event) → list_any is_memory_loss events ≡ false → All (λ e. is_memory_loss e ≡ false) events
+none_passes [] none = All-nil (λ e. is_memory_loss e ≡ false)
+none_passes (e ∷ events) none = by (none_passes events) (is_memory_loss e) refl none
   where
-    by : (list_any wants_memory events ≡ false → All (λ x. wants_memory x ≡ false) events) → (b : Bool) → wants_memory e ≡ b → (b || list_any wants_memory events) ≡ false → All (λ x. wants_memory x ≡ false) (e ∷ events)
+    by : (list_any is_memory_loss events ≡ false → All (λ x. is_memory_loss x ≡ false) events) → (b : Bool) → is_memory_loss e ≡ b → (b || list_any is_memory_loss events) ≡ false → All (λ x. is_memory_loss x ≡ false) (e ∷ events)
     by rest true is none = absurd (cc)
-    by rest false is none = All-cons (λ x. wants_memory x ≡ false) e events is (rest none)
+    by rest false is none = All-cons (λ x. is_memory_loss x ≡ false) e events is (rest none)
 
-all_reversed : (events : List Event) → All (λ e. wants_memory e ≡ false) events → All (λ e. wants_memory e ≡ false) (reverse events)
+all_reversed : (events : List Event) → All (λ e. is_memory_loss e ≡ false) events → All (λ e. is_memory_loss e ≡ false) (reverse events)
 all_reversed [] all = all
 all_reversed (e ∷ events) all =
-    subst (All (λ x. wants_memory x ≡ false)) (sym (reverse-append (e ∷ []) events))
-    (All-push (λ x. wants_memory x ≡ false) (reverse events) e (all_reversed events (All-tail (λ x. wants_memory x ≡ false) e events all)) (All-head (λ x. wants_memory x ≡ false) e events all))
+    subst (All (λ x. is_memory_loss x ≡ false)) (sym (reverse-append (e ∷ []) events))
+    (All-push (λ x. is_memory_loss x ≡ false) (reverse events) e (all_reversed events (All-tail (λ x. is_memory_loss x ≡ false) e events all)) (All-head (λ x. is_memory_loss x ≡ false) e events all))
 
 -- a run that ends otherwise has lost no stream so
-pub none_lost : (history : List Event) → (run_ending (reverse history) ≡ status.MemoryLost → ⊥) → All (λ e. wants_memory e ≡ false) history
-none_lost history ends = by (list_any wants_memory (reverse history)) refl ends
+pub none_lost : (history : List Event) → (run_ending (reverse history) ≡ status.MemoryLost → ⊥) → All (λ e. is_memory_loss e ≡ false) history
+none_lost history ends = by (list_any is_memory_loss (reverse history)) refl ends
   where
-    by : (b : Bool) → list_any wants_memory (reverse history) ≡ b → ((if b then status.MemoryLost else (if list_any is_error_loss (reverse history) then status.SomeLost else status.Ok)) ≡ status.MemoryLost → ⊥) → All (λ e. wants_memory e ≡ false) history
+    by : (b : Bool) → list_any is_memory_loss (reverse history) ≡ b → ((if b then status.MemoryLost else (if list_any is_error_loss (reverse history) then status.SomeLost else status.Ok)) ≡ status.MemoryLost → ⊥) → All (λ e. is_memory_loss e ≡ false) history
     by true is ends = absurd (ends refl)
-    by false is ends = subst (All (λ e. wants_memory e ≡ false)) (reverse-reverse history) (all_reversed (reverse history) (none_passes (reverse history) is))
+    by false is ends = subst (All (λ e. is_memory_loss e ≡ false)) (reverse-reverse history) (all_reversed (reverse history) (none_passes (reverse history) is))

@@ -6,7 +6,7 @@ use Rattle.std.specs.List.Sorted.{IsNonDecreasingBy}
 use Rattle.std.proofs.lemmas.List.{append-nil, reverse-reverse, length-reverse}
 use Rattle.std.proofs.lemmas.List.Elements.{All-nil, All-cons}
 use Rattle.std.proofs.lemmas.List.Folds.{concat-append}
-use Rattle.gpu_store.specs.Picture.{Picture, row_of}
+use Rattle.gpu_store.specs.Picture.{Picture, texel_row}
 use Rattle.gpu_store.specs.Images.{Pictures}
 use Rattle.gpu_plan.specs.Plans.{PlansData, plan_of}
 use Rattle.wait_hooks.specs.Marks.{mark}
@@ -21,7 +21,7 @@ use Rattle.journal_text.specs.Lines.{journal_head, name_text, mark_text}
 use Rattle.journal_text.specs.Output.{head_lines, output}
 use Rattle.journal_verify.specs.Followed.{sum_after}
 use Rattle.verify_input.specs.Found.{head_of}
-use Rattle.verify_input.specs.Due.{Look, LastLook, image_lines, picture_lines, end_lines, ending_lines, looks_due, AreTakenOff, viewers_in}
+use Rattle.verify_input.specs.Due.{Look, LastLook, lines_of_image, picture_lines, end_lines, ending_lines, looks_due, AreTakenOff, viewers_in}
 use Rattle.verify_input.specs.Whole.{TellsAll, IsRightWhole}
 use Rattle.verify_input.proofs.Wholly.{told_text}
 use Rattle.verify_input.proofs.Outputs.{Parted, taken_parts, all_parted}
@@ -36,15 +36,15 @@ use Rattle.script_answers.proofs.Endings.{none_lost}
 
 -- ---- the lines of each part are its text
 
-entry_text : (entry : ℕ × Picture) → concat (image_lines entry) ≡ image_text entry
+entry_text : (entry : ℕ × Picture) → concat (lines_of_image entry) ≡ image_text entry
 unfolding image_text
-entry_text entry = ap (λ (rest : List ℕ). head_text entry.0 entry.1.width entry.1.height ++ rest) (concat-map (λ (y : ℕ). row_text (row_of entry.1 y)) (range_with_len 0 entry.1.height))
+entry_text entry = ap (λ (rest : List ℕ). head_text entry.0 entry.1.width entry.1.height ++ rest) (concat-map (λ (y : ℕ). row_text (texel_row entry.1 y)) (range_with_len 0 entry.1.height))
 
-images_text : (images : Pictures) → concat (flat_map image_lines images) ≡ flat_map image_text images
+images_text : (images : Pictures) → concat (flat_map lines_of_image images) ≡ flat_map image_text images
 images_text [] = refl
-images_text (entry ∷ images) = concat-append (image_lines entry) (flat_map image_lines images) ∙ (λ i. entry_text entry i ++ images_text images i)
+images_text (entry ∷ images) = concat-append (lines_of_image entry) (flat_map lines_of_image images) ∙ (λ i. entry_text entry i ++ images_text images i)
 
-pub pictures_text : (images : Pictures) → concat (flat_map image_lines images) ≡ picture_text images
+pub pictures_text : (images : Pictures) → concat (flat_map lines_of_image images) ≡ picture_text images
 unfolding picture_text
 pictures_text images = images_text images
 

@@ -20,7 +20,7 @@ use Rattle.serial_laws.proofs.Drawn.{drawn_within}
 use Rattle.serial_laws.proofs.Flushes.{flushes_before}
 use Rattle.script_laws.proofs.Outputs.{event_small}
 use Rattle.run_output.proofs.Rooms.{obeying_room}
-use Rattle.verify_input.specs.Reading.{IsWord, IsWritten}
+use Rattle.verify_input.specs.Reading.{IsWord, HasNumbersOfWords}
 
 stream_small : (p : PlansData) (s : ℕ) → AreLawfulPlans p → IsKnown (length p.plans) s → s < 2 ^ 32
 stream_small p s lawful is = let high = is.1 in let few = lawful.together.streams in omega (arith, high, few)
@@ -35,7 +35,7 @@ first_below most (number ∷ left) n low first =
     let here = All-head (λ (number : Number). number.order ≤ most) number left low in
     omega (arith, same, here)
 
-event_written : (p : PlansData) (e : Event) (h : List Event) → AreLawfulPlans p → IsLegal p h → Obeys p h e → IsWritten e
+event_written : (p : PlansData) (e : Event) (h : List Event) → AreLawfulPlans p → IsLegal p h → Obeys p h e → HasNumbersOfWords e
 event_written p (Order s n c) h lawful legal o =
     let is = obeys_known p (Order s n c) h legal o in
     let number = o.rule_2 in
@@ -57,7 +57,7 @@ event_written p (Lost s Memory words) h lawful legal o = (stream_small p s lawfu
 event_written p (Close s) h lawful legal o = stream_small p s lawful (obeys_known p (Close s) h legal o)
 
 -- the oldest first
-pub all_written : (p : PlansData) (h : List Event) → AreLawfulPlans p → IsLegal p h → All IsWritten (reverse h)
-all_written p [] lawful legal = All-nil IsWritten
+pub all_written : (p : PlansData) (h : List Event) → AreLawfulPlans p → IsLegal p h → All HasNumbersOfWords (reverse h)
+all_written p [] lawful legal = All-nil HasNumbersOfWords
 all_written p (e ∷ h) lawful legal =
-    subst (All IsWritten) (sym (reverse-append (e ∷ []) h)) (All-push IsWritten (reverse h) e (all_written p h lawful legal.1) (event_written p e h lawful legal.1 legal.0))
+    subst (All HasNumbersOfWords) (sym (reverse-append (e ∷ []) h)) (All-push HasNumbersOfWords (reverse h) e (all_written p h lawful legal.1) (event_written p e h lawful legal.1 legal.0))

@@ -5,9 +5,9 @@ use Rattle.script_answers.specs.declared.command.Command.{Command}
 use Rattle.script_answers.specs.declared.command.Command.TheVariants.{Run, RunOnThreads, Check, Generate, Trial, Verify, VerifyWhole}
 
 -- a size is a number from 1 to 2000
-abbrev pub sized : Option ℕ → Option ℕ
-sized (Some number) = if nat_le 1 number && nat_le number 2000 then Some number else None
-sized None = None
+abbrev pub size_said : Option ℕ → Option ℕ
+size_said (Some number) = if nat_le 1 number && nat_le number 2000 then Some number else None
+size_said None = None
 
 -- a command with a size and a seed, where both are there
 abbrev pub with_both : (ℕ → ℕ → Command) → Option ℕ → Option ℕ → Option Command
@@ -66,8 +66,8 @@ of_workers first second =
 abbrev pub of_three : List ℕ → List ℕ → List ℕ → Option Command
 of_three name first second =
     if bytes_eq name (codes "run") then of_workers first second
-    else (if bytes_eq name (codes "generate") then with_both Generate (sized (decimal_of first)) (decimal_of second)
-    else (if bytes_eq name (codes "trial") then with_both Trial (sized (decimal_of first)) (decimal_of second)
+    else (if bytes_eq name (codes "generate") then with_both Generate (size_said (decimal_of first)) (decimal_of second)
+    else (if bytes_eq name (codes "trial") then with_both Trial (size_said (decimal_of first)) (decimal_of second)
     else None))
 
 -- four words after `run`: `--workers N --views V`

@@ -5,7 +5,7 @@ use Rattle.gpu_io.specs.Whole.{most_bytes, ReadsAtMost, ReadsMoreThan}
 use Rattle.script_answers.specs.declared.command.Command.{Command}
 use Rattle.script_answers.specs.declared.status.Status.{Status}
 use Rattle.script_answers.specs.declared.status.Status.TheVariants as status
-use Rattle.script_answers.specs.Statuses.{speaks, writes}
+use Rattle.script_answers.specs.Statuses.{speaks, tells_all}
 use Rattle.script_answers.specs.Says.{reads}
 use Rattle.script_answers.specs.Tells.{HasTold, HasBegun, held, IsAnswer}
 
@@ -41,7 +41,7 @@ pub record Conducts {S K : Type 0} (edges : Edges S K) (words : Option Command) 
   pub front : ending ≡ status.WriteFault
       → HasBegun words base (edges.left source) (edges.left source_then)
       (edges.written sink) (edges.written sink_then)
-  pub nothing : writes ending ≡ false → ending ≢ status.WriteFault → sink_then ≡ sink
+  pub nothing : tells_all ending ≡ false → ending ≢ status.WriteFault → sink_then ≡ sink
   pub unread : reads words ≡ false → source_then ≡ source
   pub only : (ending ≡ status.TooLong) ⊎ (ending ≡ status.ReadFault) → reads words ≡ true
   pub too_long : ending ≡ status.TooLong

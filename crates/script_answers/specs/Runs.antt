@@ -12,7 +12,7 @@ use Rattle.gpu_journal.specs.Legal.{IsLegal}
 use Rattle.gpu_journal.specs.Complete.{IsComplete}
 use Rattle.gpu_journal.specs.Serial.{serial}
 use Rattle.journal_text.specs.Output.{output, dump_lines, AreDumpLines}
-use Rattle.serial_laws.specs.Going.{wants_memory}
+use Rattle.serial_laws.specs.Going.{is_memory_loss}
 use Rattle.script_laws.specs.Trials.{trial_text}
 use Rattle.live_view.specs.declared.look.Look.{Look}
 use Rattle.gpu_hall.specs.Looks.{AreViewerLooks}
@@ -32,7 +32,7 @@ is_error_loss _ = false
 -- how a run ends that prints these events: whether a stream is lost as out of memory, or else by an error
 abbrev pub run_ending : List Event → Status
 run_ending events =
-    if list_any wants_memory events then status.MemoryLost
+    if list_any is_memory_loss events then status.MemoryLost
     else (if list_any is_error_loss events then status.SomeLost else status.Ok)
 
 -- the rule of threads:
@@ -43,7 +43,7 @@ pub record IsRun (p : PlansData) (history : List Event) (dumps : List ℕ) : Typ
   pub legal : IsLegal p history
   pub complete : IsComplete p history
   pub dumped : AreDumpLines p history dumps
-  pub kept : (run_ending (reverse history) ≡ status.MemoryLost → ⊥) → All (λ event. wants_memory event ≡ false) history
+  pub kept : (run_ending (reverse history) ≡ status.MemoryLost → ⊥) → All (λ event. is_memory_loss event ≡ false) history
 
 -- the lines of the looks of each viewer, counted from viewer v on
 abbrev pub view_lines : ℕ → List (List Look) → List ℕ
@@ -70,7 +70,7 @@ pub record IsViewedRun (viewers : ℕ) (p : PlansData) (history : List Event) (b
 pub record IsSerialRun (p : PlansData) (history : List Event) (dumps : List ℕ) : Type 0 where
   pub run : IsRun p history dumps
   pub played : history ≡ serial p
-  pub kept : All (λ event. wants_memory event ≡ false) history
+  pub kept : All (λ event. is_memory_loss event ≡ false) history
   pub read : dumps ≡ dump_lines p history
 
 -- the text is the output of a run of these plans by a rule, with its marks over a base, and the lines after it

@@ -61,17 +61,17 @@ IsYesText input text =
 
 -- a command that ends so writes this text of an input, with the marks of a run over a base; the run goes by the rule of one
 -- thread, or by that of threads with a given number of viewers
-abbrev pub Writes : Command → ℕ → List ℕ → Status → List ℕ → Type 0
-Writes Run base input ending text =
+abbrev pub WritesText : Command → ℕ → List ℕ → Status → List ℕ → Type 0
+WritesText Run base input ending text =
     (p : PlansData) × (script_of input ≡ Ok p) × IsOutput IsSerialRun p base ending text
-Writes (RunOnThreads workers views) base input ending text =
+WritesText (RunOnThreads workers views) base input ending text =
     (p : PlansData) × (script_of input ≡ Ok p) × IsOutput (IsViewedRun views) p base ending text
-Writes Check base input ending text =
+WritesText Check base input ending text =
     (p : PlansData) × (script_of input ≡ Ok p) × (ending ≡ status.Ok) × (text ≡ check_text p)
-Writes (Generate size seed) base input ending text = (ending ≡ status.Ok) × (text ≡ generated size seed)
-Writes (Trial size seed) base input ending text = (ending ≡ status.Ok) × IsTrial size seed text
-Writes VerifyWhole base input ending text = (ending ≡ status.Ok) × IsJudgedWhole base input text
-Writes Verify base input ending text = (ending ≡ status.Ok) × IsYesText input text
+WritesText (Generate size seed) base input ending text = (ending ≡ status.Ok) × (text ≡ generated size seed)
+WritesText (Trial size seed) base input ending text = (ending ≡ status.Ok) × IsTrial size seed text
+WritesText VerifyWhole base input ending text = (ending ≡ status.Ok) × IsJudgedWhole base input text
+WritesText Verify base input ending text = (ending ≡ status.Ok) × IsYesText input text
 
 -- this is found
 abbrev pub HasFinding : Command → ℕ → List ℕ → Finding → Type 0
@@ -81,9 +81,9 @@ HasFinding command base input found = ⊥
 
 -- a command ends so on an input, and writes this text
 abbrev pub Says : Command → ℕ → List ℕ → Status → List ℕ → Type 0
-Says command base input status.Ok text = Writes command base input status.Ok text
-Says command base input status.SomeLost text = Writes command base input status.SomeLost text
-Says command base input status.MemoryLost text = Writes command base input status.MemoryLost text
+Says command base input status.Ok text = WritesText command base input status.Ok text
+Says command base input status.SomeLost text = WritesText command base input status.SomeLost text
+Says command base input status.MemoryLost text = WritesText command base input status.MemoryLost text
 Says command base input (status.Refused line kind) text =
     (reads (Some command) ≡ true) × (script_by command input ≡ Err (line, kind)) × (text ≡ [])
 Says command base input (status.No event rule) text = HasFinding command base input (finding.No event rule) × (text ≡ [])

@@ -6,43 +6,43 @@ use Rattle.script_answers.specs.declared.fault.Fault.{Fault}
 use Rattle.script_answers.specs.declared.fault.Fault.TheVariants as fault
 
 -- the number that ends the program
-abbrev pub code_of : Status → ℕ
-code_of status.Ok = 0
-code_of status.SomeLost = 1
-code_of status.Usage = 2
-code_of status.ReadFault = 3
-code_of status.WriteFault = 4
-code_of (status.Refused line kind) = 5
-code_of status.NoMemory = 6
-code_of status.TooLong = 7
-code_of status.MemoryLost = 8
-code_of (status.No event rule) = 9
-code_of (status.Differs line what) = 9
-code_of status.NotComplete = 10
-code_of (status.NoJournal line) = 11
+abbrev pub status_code : Status → ℕ
+status_code status.Ok = 0
+status_code status.SomeLost = 1
+status_code status.Usage = 2
+status_code status.ReadFault = 3
+status_code status.WriteFault = 4
+status_code (status.Refused line kind) = 5
+status_code status.NoMemory = 6
+status_code status.TooLong = 7
+status_code status.MemoryLost = 8
+status_code (status.No event rule) = 9
+status_code (status.Differs line what) = 9
+status_code status.NotComplete = 10
+status_code (status.NoJournal line) = 11
 
 -- the text that standard error gets, named by its place in the table of texts: none for Ok
-abbrev pub fault_of : Status → Option Fault
-fault_of status.Ok = None
-fault_of status.SomeLost = Some fault.SomeLost
-fault_of status.Usage = Some fault.Usage
-fault_of status.ReadFault = Some fault.Read
-fault_of status.WriteFault = Some fault.Write
-fault_of (status.Refused line kind) = Some (fault.Refused line kind)
-fault_of status.NoMemory = Some fault.Memory
-fault_of status.TooLong = Some fault.TooLong
-fault_of status.MemoryLost = Some fault.MemoryLost
-fault_of (status.No event rule) = Some (fault.No event rule)
-fault_of (status.Differs line what) = Some (fault.Differs line what)
-fault_of status.NotComplete = Some fault.NotComplete
-fault_of (status.NoJournal line) = Some (fault.NoJournal line)
+abbrev pub status_fault : Status → Option Fault
+status_fault status.Ok = None
+status_fault status.SomeLost = Some fault.SomeLost
+status_fault status.Usage = Some fault.Usage
+status_fault status.ReadFault = Some fault.Read
+status_fault status.WriteFault = Some fault.Write
+status_fault (status.Refused line kind) = Some (fault.Refused line kind)
+status_fault status.NoMemory = Some fault.Memory
+status_fault status.TooLong = Some fault.TooLong
+status_fault status.MemoryLost = Some fault.MemoryLost
+status_fault (status.No event rule) = Some (fault.No event rule)
+status_fault (status.Differs line what) = Some (fault.Differs line what)
+status_fault status.NotComplete = Some fault.NotComplete
+status_fault (status.NoJournal line) = Some (fault.NoJournal line)
 
 -- the status tells that all of a text was written
-abbrev pub writes : Status → Bool
-writes status.Ok = true
-writes status.SomeLost = true
-writes status.MemoryLost = true
-writes _ = false
+abbrev pub tells_all : Status → Bool
+tells_all status.Ok = true
+tells_all status.SomeLost = true
+tells_all status.MemoryLost = true
+tells_all _ = false
 
 -- the status speaks of the input: a text of it was written, or something is wrong with it
 abbrev pub speaks : Status → Bool
@@ -51,4 +51,4 @@ speaks (status.No event rule) = true
 speaks (status.Differs line what) = true
 speaks status.NotComplete = true
 speaks (status.NoJournal line) = true
-speaks ending = writes ending
+speaks ending = tells_all ending

@@ -6,7 +6,7 @@ use Rattle.run_output.specs.Pieces.{AppendsFront}
 use Rattle.script_answers.specs.declared.command.Command.{Command}
 use Rattle.script_answers.specs.declared.status.Status.{Status}
 use Rattle.script_answers.specs.declared.status.Status.TheVariants as status
-use Rattle.script_answers.specs.Statuses.{writes}
+use Rattle.script_answers.specs.Statuses.{tells_all}
 use Rattle.script_answers.specs.Says.{reads, Says}
 
 -- the input of a command: all that its source has left, within the limit, and nothing where it does not read
@@ -34,7 +34,7 @@ pub record HasTold (words : Option Command) (base : ℕ) (left left_then : Optio
 pub record HasBegun (words : Option Command) (base : ℕ) (left left_then : Option (List ℕ))
     (written written_then : Option (List ℕ)) : Type 0 where
   pub ending : Status
-  pub writing : writes ending ≡ true
+  pub writing : tells_all ending ≡ true
   pub text : List ℕ
   pub told : Tells words base left left_then ending text
   pub begun : AppendsFront written written_then text

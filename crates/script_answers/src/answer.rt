@@ -3,8 +3,8 @@ ghost use Rattle.std.specs.List.{list_any};
 ghost use Rattle.run_output.specs.Pieces.{Adds};
 ghost use Rattle.script_answers.specs.Answers.{answer_ending, answer_text};
 ghost use Rattle.script_answers.specs.Runs.{is_error_loss, run_ending};
-ghost use Rattle.script_answers.specs.Statuses.{writes};
-ghost use Rattle.serial_laws.specs.Going.{wants_memory};
+ghost use Rattle.script_answers.specs.Statuses.{tells_all};
+ghost use Rattle.serial_laws.specs.Going.{is_memory_loss};
 
 use crate::status::Status;
 use gpu_io::{Failed, Sink};
@@ -39,7 +39,7 @@ fn is_error_loss(event: &Event) -> bool
 
 // Whether an event is a loss as out of memory.
 fn wants_memory(event: &Event) -> bool
-    ensures { result ≡ wants_memory event.now }
+    ensures { result ≡ is_memory_loss event.now }
 {
     matches!(
         event,
@@ -59,7 +59,7 @@ fn has_error_loss(events: &[Event]) -> bool
 
 // Whether one of the events is a loss as out of memory.
 fn has_memory_loss(events: &[Event]) -> bool
-    ensures { result ≡ list_any wants_memory events.now }
+    ensures { result ≡ list_any is_memory_loss events.now }
 {
     events.iter().any(wants_memory)
 }
@@ -80,7 +80,7 @@ fn run_ending(events: &[Event]) -> Status
 fn write_run<K: Sink>(run: RunOutput, sink: &mut K) -> Result<Status, Failed>
     ensures adds { Adds K.written K.faults sink.old sink.new result (answer_text (Answer.Ran run)) }
     ensures ending { IfOk result (λ ending. ending ≡ answer_ending (Answer.Ran run)) }
-    ensures writing { writes (answer_ending (Answer.Ran run)) ≡ true }
+    ensures writing { tells_all (answer_ending (Answer.Ran run)) ≡ true }
 {
     let ending = run_ending(run.report().journal().events());
     run.write(sink)?;
@@ -98,8 +98,8 @@ impl Answer {
         ensures adds { Adds K.written K.faults sink.old sink.new result (answer_text self) }
         ensures ending { IfOk result (λ ending. ending ≡ answer_ending self) }
         // Only an ending that tells of a text is written.
-        ensures writing { OnErr result (writes (answer_ending self) ≡ true) }
-        ensures silent { writes (answer_ending self) ≡ false → sink.new ≡ sink.old }
+        ensures writing { OnErr result (tells_all (answer_ending self) ≡ true) }
+        ensures silent { tells_all (answer_ending self) ≡ false → sink.new ≡ sink.old }
     {
         match self {
             Answer::Found(ending) => Ok(ending),

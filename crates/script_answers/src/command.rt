@@ -1,7 +1,7 @@
 ghost use Rattle.std.specs.Prelude.{◌≡◌, ◌≤◌, ◌+◌, Some, map, string_bytes, option_map, IfSome};
 ghost use Rattle.script_lines.specs.Numbers.{decimal_of};
 ghost use Rattle.script_answers.specs.declared.command.Command.TheVariants.{Generate, Trial};
-ghost use Rattle.script_answers.specs.Commands.{sized, with_both, digit_in, workers_in, behind_equals, run_with, views_in, viewed_with, of_one, of_verify, of_two, of_workers, of_three, of_views, of_five, command_of, is_plain, IsSized};
+ghost use Rattle.script_answers.specs.Commands.{size_said, with_both, digit_in, workers_in, behind_equals, run_with, views_in, viewed_with, of_one, of_verify, of_two, of_workers, of_three, of_views, of_five, command_of, is_plain, IsSized};
 ghost use Rattle.script_answers.specs.Says.{reads};
 
 use script_lines::decimal_u32;
@@ -52,7 +52,7 @@ impl Command {
 
 // The size that a word says, from 1 to 2000.
 fn size_in(word: &str) -> Option<u32>
-    ensures size { result ≡ sized (decimal_of word.now) }
+    ensures size { result ≡ size_said (decimal_of word.now) }
     ensures range { IfSome result (λ size. (1 ≤ size) × (size ≤ MOST_SIZE)) }
 {
     let size = decimal_u32(word.as_bytes())?;
@@ -64,9 +64,9 @@ fn size_in(word: &str) -> Option<u32>
 
 // The size and the seed that two words say.
 fn both_in(size: &str, seed: &str) -> Option<(u32, u32)>
-    ensures generate { with_both Generate (sized (decimal_of size.now)) (decimal_of seed.now)
+    ensures generate { with_both Generate (size_said (decimal_of size.now)) (decimal_of seed.now)
         ≡ option_map (λ both. Generate both.0 both.1) result }
-    ensures trial { with_both Trial (sized (decimal_of size.now)) (decimal_of seed.now)
+    ensures trial { with_both Trial (size_said (decimal_of size.now)) (decimal_of seed.now)
         ≡ option_map (λ both. Trial both.0 both.1) result }
     ensures range { IfSome result (λ both. (1 ≤ both.0) × (both.0 ≤ MOST_SIZE)) }
 {

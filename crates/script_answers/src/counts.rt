@@ -1,7 +1,7 @@
 ghost use Rattle.std.specs.Prelude.{◌≡◌, ◌++◌, IfOk, OnOk};
 ghost use Rattle.std.specs.List.{count_by};
 ghost use Rattle.gpu_plan.specs.Plans.{is_flush, actions_in, flushes_in};
-ghost use Rattle.script_answers.specs.Counts.{counted, check_text};
+ghost use Rattle.script_answers.specs.Counts.{number_counted, check_text};
 
 use gpu_plan::{Action, Plans};
 use gpu_word::Memory;
@@ -44,7 +44,7 @@ fn flush_total(plans: &Plans) -> usize
 
 // Appends what is counted, and its number in decimal digits.
 fn push_count(out: &mut Vec<u8>, what: &[u8], number: usize) -> Result<(), Memory>
-    ensures { OnOk result (out.new.items ≡ out.old.items ++ counted what.now number) }
+    ensures { OnOk result (out.new.items ≡ out.old.items ++ number_counted what.now number) }
 {
     let mut buffer = Buffer::new();
     out.extend_from_slice(what)?;

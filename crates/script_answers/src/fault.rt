@@ -1,5 +1,5 @@
 ghost use Rattle.std.specs.Prelude.{◌≡◌};
-ghost use Rattle.script_answers.specs.Statuses.{fault_of};
+ghost use Rattle.script_answers.specs.Statuses.{status_fault};
 
 use crate::status::Status;
 use gpu_plan::Kind;
@@ -37,7 +37,7 @@ pub enum Fault {
 
 /// What a status says.
 pub fn fault_of(status: Status) -> Option<Fault>
-    ensures { result ≡ fault_of status }
+    ensures { result ≡ status_fault status }
 {
     match status {
         Status::Ok => None,

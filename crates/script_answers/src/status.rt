@@ -1,5 +1,5 @@
 ghost use Rattle.std.specs.Prelude.{◌≡◌};
-ghost use Rattle.script_answers.specs.Statuses.{code_of};
+ghost use Rattle.script_answers.specs.Statuses.{status_code};
 
 use gpu_plan::Kind;
 use verify_input::What;
@@ -38,7 +38,7 @@ pub enum Status {
 impl Status {
     /// The exit status of the program.
     pub fn code(&self) -> u8
-        ensures { result ≡ code_of self.now }
+        ensures { result ≡ status_code self.now }
     {
         match self {
             Status::Ok => 0,

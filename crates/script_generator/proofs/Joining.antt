@@ -5,8 +5,8 @@ use Rattle.std.proofs.lemmas.List.{append-nil}
 use Rattle.std.specs.Prelude.{codes}
 use Rattle.std.specs.Fmt.{digits}
 use Rattle.std.specs.List.{flat_map}
-use Rattle.script_generator.specs.Draws.{drawn, below}
-use Rattle.script_generator.specs.Generator.{number_text, value_text, wait_words, clear_words, copy_words, upload_words, fence_words, block}
+use Rattle.script_generator.specs.Draws.{next_draw, below}
+use Rattle.script_generator.specs.Generator.{spaced_number, value_text, wait_words, clear_words, copy_words, upload_words, fence_words, block}
 
 -- one text after another that was written after it
 pub joined : (out one two text behind : List ℕ) → one ≡ out ++ text → two ≡ one ++ behind → two ≡ out ++ (text ++ behind)
@@ -18,7 +18,7 @@ six_pieces out a b c d e f = simp (append_assoc, append-nil)
 
 -- the pieces of a block are one text
 pub block_said : (out a b c d new : List ℕ) (stream round state d1 d2 d3 d4 d5 d6 other x y to_x to_y : ℕ)
-    → d1 ≡ drawn state → d2 ≡ drawn d1 → d3 ≡ drawn d2 → d4 ≡ drawn d3 → d5 ≡ drawn d4 → d6 ≡ drawn d5
+    → d1 ≡ next_draw state → d2 ≡ next_draw d1 → d3 ≡ next_draw d2 → d4 ≡ next_draw d3 → d5 ≡ next_draw d4 → d6 ≡ next_draw d5
     → other ≡ below 4 d1 → x ≡ below 16 d2 → y ≡ below 16 d3 → to_x ≡ below 16 d5 → to_y ≡ below 16 d6
     → a ≡ out ++ flat_map value_text (wait_words (1 + other) round)
     → b ≡ a ++ flat_map value_text (clear_words stream x y d4)
@@ -40,11 +40,11 @@ block_said out a b c d new stream round state d1 d2 d3 d4 d5 d6 other x y to_x t
     whole ∙ ap (λ words. out ++ flat_map value_text words) same
 
 -- the number of the first half of the ring
-pub first_half : (half : ℕ) → half ≡ 0 → codes " 0" ≡ number_text (32 * half)
+pub first_half : (half : ℕ) → half ≡ 0 → codes " 0" ≡ spaced_number (32 * half)
 unfolding digits
 first_half half none = rw none refl
 
 -- the number of the second half
-pub second_half : (half : ℕ) → half ≡ 1 → codes " 32" ≡ number_text (32 * half)
+pub second_half : (half : ℕ) → half ≡ 1 → codes " 32" ≡ spaced_number (32 * half)
 unfolding digits
 second_half half one = rw one refl

@@ -5,8 +5,8 @@ use Rattle.std.specs.List.{flat_map}
 use Rattle.script_generator.specs.Draws.{after_draws, below}
 
 -- a space and a number in decimal digits
-abbrev pub number_text : ℕ → List ℕ
-number_text number = codes " " ++ decimal number
+abbrev pub spaced_number : ℕ → List ℕ
+spaced_number number = codes " " ++ decimal number
 
 -- a space and a value in hexadecimal digits of lower case, without leading zeros
 abbrev pub value_text : ℕ → List ℕ
@@ -50,9 +50,9 @@ block stream round state =
 -- the lines of a round: its block, the word that is uploaded, a flush of the block, and an await
 abbrev pub round_lines : ℕ → List ℕ → ℕ → List ℕ
 round_lines round words uploaded =
-    codes "put" ++ number_text (base_of round) ++ flat_map value_text words
+    codes "put" ++ spaced_number (base_of round) ++ flat_map value_text words
     ++ codes "\nfill 0 0" ++ value_text uploaded
-    ++ codes "\nflush" ++ number_text (32 - base_of round) ++ codes "\nfinish\n"
+    ++ codes "\nflush" ++ spaced_number (32 - base_of round) ++ codes "\nfinish\n"
 
 -- the same of a round of a stream, where the state before it is this; the word is the seventh draw
 unfoldable pub round_text : ℕ → ℕ → ℕ → List ℕ
@@ -66,18 +66,18 @@ rounds (suc more) stream round state = round_text stream round state ++ rounds m
 -- the lines of a stream before its rounds: it creates its image
 unfoldable pub start_text : List ℕ → ℕ → List ℕ
 start_text priority stream =
-    codes "stream" ++ number_text stream ++ codes " " ++ priority ++ codes " 64\nmemory 0 16\nput 0"
+    codes "stream" ++ spaced_number stream ++ codes " " ++ priority ++ codes " 64\nmemory 0 16\nput 0"
     ++ flat_map value_text (0x20400004 ∷ stream ∷ 16 ∷ 16 ∷ 28 ∷ []) ++ codes "\nflush 32\nfinish\n"
 
 -- the lines of a stream with a given number of rounds
-abbrev pub stream_lines : List ℕ → ℕ → ℕ → ℕ → List ℕ
-stream_lines priority size stream state = start_text priority stream ++ rounds size stream 1 state
+abbrev pub stream_script : List ℕ → ℕ → ℕ → ℕ → List ℕ
+stream_script priority size stream state = start_text priority stream ++ rounds size stream 1 state
 
 -- the lines of streams with these priorities from one on, with a given number of rounds each
-unfoldable pub streams : List (List ℕ) → ℕ → ℕ → ℕ → List ℕ
-streams [] size stream state = []
-streams (priority ∷ priorities) size stream state = stream_lines priority size stream state ++ streams priorities size (stream + 1) (after_draws (7 * size) state)
+unfoldable pub stream_scripts : List (List ℕ) → ℕ → ℕ → ℕ → List ℕ
+stream_scripts [] size stream state = []
+stream_scripts (priority ∷ priorities) size stream state = stream_script priority size stream state ++ stream_scripts priorities size (stream + 1) (after_draws (7 * size) state)
 
 -- the script of a size and a seed
 unfoldable pub generated : ℕ → ℕ → List ℕ
-generated size seed = codes "gpu-script 1\n" ++ streams (codes "low" ∷ codes "low" ∷ codes "normal" ∷ codes "high" ∷ []) size 1 seed
+generated size seed = codes "gpu-script 1\n" ++ stream_scripts (codes "low" ∷ codes "low" ∷ codes "normal" ∷ codes "high" ∷ []) size 1 seed

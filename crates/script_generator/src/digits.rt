@@ -1,7 +1,7 @@
 ghost use Rattle.std.specs.Prelude.{◌≡◌, ◌+◌, ◌<◌, ◌≤◌, ◌++◌, length, drop, false, vec_len, vec_capacity, OnOk};
 ghost use Rattle.std.specs.Fmt.{digits, digit_glyph};
 ghost use Rattle.std.specs.List.{flat_map};
-ghost use Rattle.script_generator.specs.Generator.{number_text, value_text};
+ghost use Rattle.script_generator.specs.Generator.{spaced_number, value_text};
 
 use itoa::Buffer;
 use std::alloc::AllocError;
@@ -24,7 +24,7 @@ pub(crate) fn put_text(out: &mut Vec<u8>, text: &[u8])
 
 /// Appends a space and a number in decimal digits.
 pub(crate) fn push_number(out: &mut Vec<u8>, number: u32) -> Result<(), AllocError>
-    ensures { OnOk result (out.new.items ≡ out.old.items ++ number_text number) }
+    ensures { OnOk result (out.new.items ≡ out.old.items ++ spaced_number number) }
 {
     let mut buffer = Buffer::new();
     out.push(b' ')?;

@@ -1,9 +1,9 @@
 ghost use Rattle.std.specs.Prelude.{◌≡◌, ◌<◌};
-ghost use Rattle.script_generator.specs.Draws.{drawn, below};
+ghost use Rattle.script_generator.specs.Draws.{next_draw, below};
 
 /// The state after a draw, which is also what the draw gives.
 pub(crate) fn drawn(state: u32) -> u32
-    ensures { result ≡ drawn state }
+    ensures { result ≡ next_draw state }
 {
     ((1_664_525 * u64::from(state) + 1_013_904_223) % (1 << 32)) as u32
 }

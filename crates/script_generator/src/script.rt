@@ -1,7 +1,7 @@
 ghost use Rattle.std.specs.Prelude.{◌≡◌, ◌+◌, ◌*◌, ◌≤◌, ◌++◌, vec_len, vec_capacity, IfOk, OnOk};
 ghost use Rattle.std.specs.List.{flat_map};
 ghost use Rattle.script_generator.specs.Draws.{after_draws};
-ghost use Rattle.script_generator.specs.Generator.{number_text, value_text, wait_words, clear_words, copy_words, upload_words, fence_words, block, round_text, rounds, start_text, stream_lines, generated};
+ghost use Rattle.script_generator.specs.Generator.{spaced_number, value_text, wait_words, clear_words, copy_words, upload_words, fence_words, block, round_text, rounds, start_text, stream_script, generated};
 
 use crate::digits::{push_number, push_values, put_text, put_value};
 use crate::draws::{below, drawn};
@@ -120,7 +120,7 @@ fn put_block(out: &mut Vec<u8>, stream: u32, round: u32, state: u32) -> u32
 fn put_half(out: &mut Vec<u8>, half: u32)
     requires within { vec_len out.old + 3 ≤ vec_capacity out.old }
     requires half { half ≤ 1 }
-    ensures text { out.new.items ≡ out.old.items ++ number_text (32 * half) }
+    ensures text { out.new.items ≡ out.old.items ++ spaced_number (32 * half) }
     ensures few { vec_len out.new ≤ vec_len out.old + 3 }
     ensures room { vec_capacity out.old ≤ vec_capacity out.new }
 {
@@ -204,7 +204,7 @@ fn push_stream(
 ) -> Result<u32, AllocError>
     requires { size ≤ 2000 }
     ensures text { OnOk result
-        (out.new.items ≡ out.old.items ++ stream_lines priority.now size stream state) }
+        (out.new.items ≡ out.old.items ++ stream_script priority.now size stream state) }
     ensures state { IfOk result (λ next. next ≡ after_draws (7 * size) state) }
 {
     push_start(out, priority, stream)?;

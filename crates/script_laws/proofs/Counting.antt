@@ -9,15 +9,15 @@ use Rattle.std.proofs.lemmas.Bool.{both_ways, and_parts, and_right, eqb-true, eq
 use Rattle.sync_core.specs.declared.wait.Number.{Number}
 use Rattle.sync_core.specs.declared.wait.Wait.{Wait}
 use Rattle.sync_core.specs.Standing.{Rises, is_known, is_open, first_order, contains_number, has_below, front_of}
-use Rattle.sync_core.specs.Events.{Deed, Ordered, Waited, Released, Finished, WasLost, WasClosed, SyncEvent, noted, orders, moved, standing}
-use Rattle.sync_core.specs.Pending.{is_kept, judged, placed, wait_of, is_held, still, ends, ending_of, added, kept_waits, pending, endings, has_wait_of, is_blocked}
+use Rattle.sync_core.specs.Events.{Deed, Ordered, Waited, Released, Finished, WasLost, WasClosed, SyncEvent, happened, orders, moved, standing}
+use Rattle.sync_core.specs.Pending.{is_kept, kept_fences, placed, wait_of, is_held, still, ends, ending_of, with_kept, kept_waits, pending, endings, has_wait_of, is_blocked}
 use Rattle.sync_core.proofs.Numbers.{Each, each_after, orders_grow, left_drawn, left_rises}
 use Rattle.sync_core.proofs.Waits.{news, IsNew, news_new}
 use Rattle.sync_core.proofs.Rising.{pending_drawn}
 use Rattle.sync_core.proofs.Targets.{kept_is_decided}
 use Rattle.sync_core.proofs.Together.{three_all}
 use Rattle.sync_core.proofs.Keeps.{All-pending, kept_other, kept_parts, filter_none}
-use Rattle.script_laws.specs.Kept.{is_wait, is_end}
+use Rattle.script_laws.specs.Kept.{is_wait, is_ending_of}
 
 -- ---- how many elements of a list pass
 
@@ -89,8 +89,8 @@ count_none p xs all = ap length (filter_none p xs all)
 
 -- ---- waits that a deed makes
 
-count_added : (q : Wait → Bool) (streams s : ℕ) (d : Deed) (h : List SyncEvent) (ws : List Wait) → count q (added streams s d h ws) ≡ count q ws + count q (news streams s d h)
-count_added q streams s (Ordered fences) h ws = count_append q ws (judged streams (standing h) s (orders h + 1) 0 fences)
+count_added : (q : Wait → Bool) (streams s : ℕ) (d : Deed) (h : List SyncEvent) (ws : List Wait) → count q (with_kept streams s d h ws) ≡ count q ws + count q (news streams s d h)
+count_added q streams s (Ordered fences) h ws = count_append q ws (kept_fences streams (standing h) s (orders h + 1) 0 fences)
 count_added q streams s (Waited t r) h ws = by (is_kept streams (standing h) s (front_of (standing h s).left) t r)
   where
     by : (b : Bool) → count q (cond b (placed (wait_of (standing h s) s t r) ws) ws) ≡ count q ws + count q (cond b (wait_of (standing h s) s t r ∷ []) [])
@@ -122,14 +122,14 @@ abbrev pending_of : ℕ → ℕ → ℕ → ℕ → ℕ → List SyncEvent → �
 pending_of streams s n t r h = count (is_wait s n t r) (pending streams h)
 
 abbrev ended_of : ℕ → ℕ → ℕ → ℕ → ℕ → List SyncEvent → ℕ
-ended_of streams s n t r h = count (is_end s n t r) (endings streams h)
+ended_of streams s n t r h = count (is_ending_of s n t r) (endings streams h)
 
 ended_then : (streams s n t r : ℕ) (e : SyncEvent) (h : List SyncEvent)
     → ended_of streams s n t r (e ∷ h) ≡ ended_of streams s n t r h + count (λ w. ends (standing (e ∷ h)) w && is_wait s n t r w) (pending streams h)
 ended_then streams s n t r e h =
     let f = standing (e ∷ h) in
-    let a = count_append (is_end s n t r) (endings streams h) (map (ending_of f) (filter (ends f) (pending streams h))) in
-    let b = count_map (is_end s n t r) (ending_of f) (filter (ends f) (pending streams h)) in
+    let a = count_append (is_ending_of s n t r) (endings streams h) (map (ending_of f) (filter (ends f) (pending streams h))) in
+    let b = count_map (is_ending_of s n t r) (ending_of f) (filter (ends f) (pending streams h)) in
     let c = count_filter (is_wait s n t r) (ends f) (pending streams h) in
     omega (arith, a, b, c)
 
@@ -163,7 +163,7 @@ balance streams s n t r (e ∷ h) may =
     let up = orders_grow e.1 (orders h) in
     let before = balance streams s n t r h (may_before s n e h may) in
     let kept = count_added (is_wait s n t r) streams e.0 e.1 h (kept_waits streams h) in
-    let stay = count_filter (is_wait s n t r) (still f) (added streams e.0 e.1 h (pending streams h)) in
+    let stay = count_filter (is_wait s n t r) (still f) (with_kept streams e.0 e.1 h (pending streams h)) in
     let olds = count_added (λ w. still f w && is_wait s n t r w) streams e.0 e.1 h (pending streams h) in
     let new = count_same (λ w. still f w && is_wait s n t r w) (is_wait s n t r) (news streams e.0 e.1 h) (All-weaker (IsNew streams e h) (λ w. (still f w && is_wait s n t r w) ≡ is_wait s n t r w) new_still (news streams e.0 e.1 h) (news_new streams e h)) in
     let ended = ended_then streams s n t r e h in
@@ -260,12 +260,12 @@ news_other streams s n t r e h gone low = of e.0 e.1
         by true k = absurd (never (is_of s n t r w k))
         by false k = k
 
-    next : (u k : ℕ) (fences : List (ℕ × ℕ)) → All (λ w. is_wait s n t r w ≡ false) (judged streams (standing h) u (orders h + 1) k fences)
+    next : (u k : ℕ) (fences : List (ℕ × ℕ)) → All (λ w. is_wait s n t r w ≡ false) (kept_fences streams (standing h) u (orders h + 1) k fences)
     next u k [] = All-nil (λ w. is_wait s n t r w ≡ false)
     next u k (f ∷ fences) = by (is_kept streams (standing h) u (orders h + 1) f.0 f.1) (next u (k + 1) fences)
       where
-        by : (b : Bool) → All (λ w. is_wait s n t r w ≡ false) (judged streams (standing h) u (orders h + 1) (k + 1) fences)
-            → All (λ w. is_wait s n t r w ≡ false) (cond b (record { stream = u; order = orders h + 1; target = f.0; release = f.1; position = k } ∷ judged streams (standing h) u (orders h + 1) (k + 1) fences) (judged streams (standing h) u (orders h + 1) (k + 1) fences))
+        by : (b : Bool) → All (λ w. is_wait s n t r w ≡ false) (kept_fences streams (standing h) u (orders h + 1) (k + 1) fences)
+            → All (λ w. is_wait s n t r w ≡ false) (cond b (record { stream = u; order = orders h + 1; target = f.0; release = f.1; position = k } ∷ kept_fences streams (standing h) u (orders h + 1) (k + 1) fences) (kept_fences streams (standing h) u (orders h + 1) (k + 1) fences))
         by true rest = All-cons (λ w. is_wait s n t r w ≡ false) _ _ (is_not record { stream = u; order = orders h + 1; target = f.0; release = f.1; position = k } (λ q. let is = q.1 in absurd (omega arith))) rest
         by false rest = rest
 
@@ -317,6 +317,6 @@ settled_then streams s n t r e h was =
             (subst (λ (m : ℕ). contains_number m (standing h w.stream).left ≡ false) (sym q.1) (subst (λ (u : ℕ). contains_number n (standing h u).left ≡ false) (sym q.0) (list_any_none (λ (x : Number). eqb x.order n) (standing h s).left was.gone))) has)
         by false off = off
 
-pub settled_noted : (streams s n t r u : ℕ) (d : Option Deed) (h : List SyncEvent) → Settled streams s n t r h → Settled streams s n t r (noted u d h)
+pub settled_noted : (streams s n t r u : ℕ) (d : Option Deed) (h : List SyncEvent) → Settled streams s n t r h → Settled streams s n t r (happened u d h)
 settled_noted streams s n t r u None h was = was
 settled_noted streams s n t r u (Some d) h was = settled_then streams s n t r (u, d) h was

@@ -5,7 +5,7 @@ use Rattle.std.specs.Fmt.{digits}
 use Rattle.std.specs.List.{flat_map, list_all}
 use Rattle.std.proofs.lemmas.Bool.{ltb-true, and_parts}
 use Rattle.script_generator.specs.Draws.{after_draws}
-use Rattle.script_generator.specs.Generator.{number_text, value_text, base_of, block, round_text, rounds, start_text, stream_lines, streams, generated}
+use Rattle.script_generator.specs.Generator.{spaced_number, value_text, base_of, block, round_text, rounds, start_text, stream_script, stream_scripts, generated}
 use Rattle.script_laws.proofs.Values.{hex, is_small, few_digits}
 use Rattle.script_laws.proofs.Rounds.{drawn_small, block_small, by_parity}
 use Rattle.script_laws.proofs.Streams.{values_small}
@@ -25,13 +25,13 @@ length-values (value ∷ values) small =
 
 -- ---- rounds
 
-base_short : (round : ℕ) → length (number_text (base_of round)) ≤ 3
+base_short : (round : ℕ) → length (spaced_number (base_of round)) ≤ 3
 unfolding digits
-base_short round = by_parity (λ n. length (number_text (32 * n)) ≤ 3) (omega arith) (omega arith) (round % 2) (omega arith)
+base_short round = by_parity (λ n. length (spaced_number (32 * n)) ≤ 3) (omega arith) (omega arith) (round % 2) (omega arith)
 
-left_short : (round : ℕ) → length (number_text (32 - base_of round)) ≤ 3
+left_short : (round : ℕ) → length (spaced_number (32 - base_of round)) ≤ 3
 unfolding digits
-left_short round = by_parity (λ n. length (number_text (32 - 32 * n)) ≤ 3) (omega arith) (omega arith) (round % 2) (omega arith)
+left_short round = by_parity (λ n. length (spaced_number (32 - 32 * n)) ≤ 3) (omega arith) (omega arith) (round % 2) (omega arith)
 
 eight : (put base values fill uploaded flush left finish : List ℕ)
     → length (put ++ base ++ values ++ fill ++ uploaded ++ flush ++ left ++ finish) ≡ length put + length base + length values + length fill + length uploaded + length flush + length left + length finish
@@ -44,7 +44,7 @@ round_short stream round state known within =
     let uploaded = after_draws 7 state in
     let values : length (flat_map value_text words) ≤ 9 * 32 = length-values words (block_small stream round state known within) in
     let word = length-value uploaded (drawn_small (after_draws 6 state)) in
-    omega (arith, base_short round, left_short round, values, word, eight (codes "put") (number_text (base_of round)) (flat_map value_text words) (codes "\nfill 0 0") (value_text uploaded) (codes "\nflush") (number_text (32 - base_of round)) (codes "\nfinish\n"))
+    omega (arith, base_short round, left_short round, values, word, eight (codes "put") (spaced_number (base_of round)) (flat_map value_text words) (codes "\nfill 0 0") (value_text uploaded) (codes "\nflush") (spaced_number (32 - base_of round)) (codes "\nfinish\n"))
 
 rounds_short : (size stream round state : ℕ) → stream ≤ 4 → round + size ≤ 2001 → length (rounds size stream round state) ≤ 400 * size
 unfolding rounds
@@ -60,29 +60,29 @@ seven : (head number space priority put values finish : List ℕ)
     → length (head ++ number ++ space ++ priority ++ put ++ values ++ finish) ≡ length head + length number + length space + length priority + length put + length values + length finish
 seven head number space priority put values finish = simp length-append refl
 
-start_short : (priority : List ℕ) (stream : ℕ) → stream ≤ 4 → length priority ≤ 6 → length (number_text stream) ≤ 2 → length (start_text priority stream) ≤ 200
+start_short : (priority : List ℕ) (stream : ℕ) → stream ≤ 4 → length priority ≤ 6 → length (spaced_number stream) ≤ 2 → length (start_text priority stream) ≤ 200
 unfolding start_text
 start_short priority stream known named short =
     let values = 0x20400004 ∷ stream ∷ 16 ∷ 16 ∷ 28 ∷ [] in
     let made : length (flat_map value_text values) ≤ 9 * 5 = length-values values (values_small stream known) in
-    omega (arith, named, short, made, seven (codes "stream") (number_text stream) (codes " ") priority (codes " 64\nmemory 0 16\nput 0") (flat_map value_text values) (codes "\nflush 32\nfinish\n"))
+    omega (arith, named, short, made, seven (codes "stream") (spaced_number stream) (codes " ") priority (codes " 64\nmemory 0 16\nput 0") (flat_map value_text values) (codes "\nflush 32\nfinish\n"))
 
-stream_short : (priority : List ℕ) (size stream state : ℕ) → size ≤ 2000 → stream ≤ 4 → length priority ≤ 6 → length (number_text stream) ≤ 2 → length (stream_lines priority size stream state) ≤ 200 + 400 * size
+stream_short : (priority : List ℕ) (size stream state : ℕ) → size ≤ 2000 → stream ≤ 4 → length priority ≤ 6 → length (spaced_number stream) ≤ 2 → length (stream_script priority size stream state) ≤ 200 + 400 * size
 stream_short priority size stream state within known named short =
     let first = start_short priority stream known named short in
     let rest = rounds_short size stream 1 state known (omega arith) in
     omega (arith, first, rest, length-append (start_text priority stream) (rounds size stream 1 state))
 
 pub generated_is_short : (size seed : ℕ) → size ≤ 2000 → length (generated size seed) ≤ 16777216
-unfolding generated streams digits
+unfolding generated stream_scripts digits
 generated_is_short size seed within =
     let second_state = after_draws (7 * size) seed in
     let third_state = after_draws (7 * size) second_state in
     let fourth_state = after_draws (7 * size) third_state in
-    let first = stream_lines (codes "low") size 1 seed in
-    let second = stream_lines (codes "low") size 2 second_state in
-    let third = stream_lines (codes "normal") size 3 third_state in
-    let fourth = stream_lines (codes "high") size 4 fourth_state in
+    let first = stream_script (codes "low") size 1 seed in
+    let second = stream_script (codes "low") size 2 second_state in
+    let third = stream_script (codes "normal") size 3 third_state in
+    let fourth = stream_script (codes "high") size 4 fourth_state in
     omega (
       arith,
       within,

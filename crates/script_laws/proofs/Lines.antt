@@ -6,7 +6,7 @@ use Rattle.std.proofs.lemmas.Bool.{le-leb, and_from}
 use Rattle.std.proofs.lemmas.List.{length-map}
 use Rattle.std.proofs.lemmas.List.Folds.{list_all-append}
 use Rattle.gpu_cmd.specs.declared.areas.Areas.{Areas}
-use Rattle.script_lines.specs.Numbers.{decimal_of, is_value, value_of, number_of}
+use Rattle.script_lines.specs.Numbers.{decimal_of, is_value, value_of, number_said}
 use Rattle.gpu_cmd.specs.declared.priority.Priority.{Priority}
 use Rattle.script_lines.specs.Said.{put_said, fill_said, flush_said, pairs_of, none_said}
 use Rattle.gpu_plan.specs.declared.plan.Action.{Action}
@@ -54,7 +54,7 @@ module _ (done : List PlanData) (stream : ℕ) (priority : Priority) (actions : 
   fill_taken : (n : ℕ) (word : List ℕ) → is_value word ≡ true → count + 1 ≤ 1000000
       → numbered 1 [] n (codes "fill" ∷ codes "0" ∷ codes "0" ∷ word ∷ []) (at_work done stream priority actions count flushes)
       ≡ Ok (at_work done stream priority (actions ++ puts 64 (value_of word ∷ [])) (count + 1) flushes)
-  unfolding numbered with_line with_fill fill_said put_said acting added number_of
+  unfolding numbered with_line with_fill fill_said put_said acting added number_said
   fill_taken n word good few = rw (good, lasts, le-leb (count + 1) 1000000 few) refl
 
   flush_taken : (n put : ℕ) (word : List ℕ) → decimal_of word ≡ Some put → count + 1 ≤ 1000000 → flushes + 1 ≤ 100000

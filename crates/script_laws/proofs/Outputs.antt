@@ -29,7 +29,7 @@ use Rattle.journal_text.specs.Text.{event_text, journal_text, stream_text, tally
 use Rattle.journal_text.specs.Picture.{head_text, image_text, picture_text}
 use Rattle.journal_text.specs.Lines.{journal_head, name_text, mark_text, dump_text, view_text}
 use Rattle.journal_text.specs.Output.{head_lines, stream_lines, mark_lines, output, AreDumps, AreDumpsOf, dump_line, dump_lines}
-use Rattle.journal_text.specs.Laws.{HasWords, is_other}
+use Rattle.journal_text.specs.Laws.{HasWords, begins_other_part}
 use Rattle.journal_text.proofs.Numerals.{behind_first, number_cut}
 use Rattle.journal_text.proofs.Telling.{output_tells}
 use Rattle.serial_laws.specs.Scripts.{AreLawfulPlans}
@@ -73,7 +73,7 @@ is_apart x = not (first x == 103) && not (first x == 110)
 
 -- the text can stand after a journal, and be told from head lines too
 abbrev CanFollow : List ℕ → Type 0
-CanFollow x = IsTrue (is_other x) × (is_apart x ≡ true)
+CanFollow x = IsTrue (begins_other_part x) × (is_apart x ≡ true)
 
 dumps_follow : (p : PlansData) (h : List Event) (s : ℕ) (dumps : List (ℕ × ℕ)) (behind : List ℕ) → CanFollow behind → CanFollow (flat_map (dump_line p h s) dumps ++ behind)
 unfolding dump_text

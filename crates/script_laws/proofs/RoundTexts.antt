@@ -3,7 +3,7 @@ use Rattle.std.proofs.Common.{◌≡◌, ℕ, ◌-◌, List, [], ◌∷◌, ◌+
 use Rattle.std.specs.Prelude.{codes, decimal}
 use Rattle.std.specs.Fmt.{digits}
 use Rattle.std.specs.List.{flat_map}
-use Rattle.script_generator.specs.Generator.{number_text, value_text, base_of, round_lines, start_text}
+use Rattle.script_generator.specs.Generator.{spaced_number, value_text, base_of, round_lines, start_text}
 use Rattle.script_laws.proofs.Words.{spaced, line_text}
 use Rattle.script_laws.proofs.Values.{hex}
 
@@ -24,7 +24,7 @@ join : (put base values nl fill zero uploaded flush left finish : List ℕ) → 
 join put base values nl fill zero uploaded flush left finish = simp (append_assoc, append-nil)
 
 pub round_is : (round : ℕ) (words : List ℕ) (uploaded : ℕ) → round_lines round words uploaded ≡ round_of (base_of round) words uploaded
-round_is round words uploaded = rw (same_values words) (join (codes "put") (number_text (base_of round)) (flat_map spaced (map hex words)) (codes "\n") (codes "fill") (codes " 0") (value_text uploaded) (codes "flush") (number_text (32 - base_of round)) (codes "finish"))
+round_is round words uploaded = rw (same_values words) (join (codes "put") (spaced_number (base_of round)) (flat_map spaced (map hex words)) (codes "\n") (codes "fill") (codes " 0") (value_text uploaded) (codes "flush") (spaced_number (32 - base_of round)) (codes "finish"))
 
 -- the lines of a stream before its rounds, after the stream line
 abbrev pub start_of : ℕ → List ℕ
@@ -38,4 +38,4 @@ pub start_is : (priority : List ℕ) (stream : ℕ) → start_text priority stre
 unfolding start_text digits
 start_is priority stream =
     let values = 0x20400004 ∷ stream ∷ 16 ∷ 16 ∷ 28 ∷ [] in
-    rw (same_values values) (join_start (codes "stream") (number_text stream) (codes " ") priority (codes " 64") (codes "\n") (codes "memory 0 16") (codes "put 0") (flat_map spaced (map hex values)) (codes "flush 32") (codes "finish"))
+    rw (same_values values) (join_start (codes "stream") (spaced_number stream) (codes " ") priority (codes " 64") (codes "\n") (codes "memory 0 16") (codes "put 0") (flat_map spaced (map hex values)) (codes "flush 32") (codes "finish"))

@@ -5,7 +5,7 @@ use Rattle.std.proofs.lemmas.Bool.{lt-ltb}
 use Rattle.gpu_cmd.specs.declared.priority.Priority.{Priority}
 use Rattle.gpu_plan.specs.declared.plan.Action.{Action}
 use Rattle.gpu_plan.specs.Plans.{PlanData}
-use Rattle.script_generator.specs.Draws.{drawn, after_draws, below}
+use Rattle.script_generator.specs.Draws.{next_draw, after_draws, below}
 use Rattle.script_generator.specs.Generator.{base_of, block, round_text, rounds}
 use Rattle.script_laws.proofs.Values.{is_small}
 use Rattle.script_laws.proofs.Lines.{at_work, is_open}
@@ -14,7 +14,7 @@ use Rattle.script_laws.proofs.Works.{Works, Said, zero_said, half_said, works_on
 
 -- ---- what a round says
 
-pub drawn_small : (state : ℕ) → drawn state < 2 ^ 32
+pub drawn_small : (state : ℕ) → next_draw state < 2 ^ 32
 drawn_small state = omega arith
 
 stream_small : (draw : ℕ) → is_small (1 + below 4 draw) ≡ true

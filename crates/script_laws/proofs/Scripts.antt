@@ -21,7 +21,7 @@ use Rattle.script_lines.specs.declared.keyword.Keyword.{Keyword}
 use Rattle.script_lines.specs.declared.keyword.Keyword.TheVariants.{StreamLine, MemoryLine, ResultsLine, PutLine, FillLine, FlushLine, FinishLine, TokenLine, CloseLine, DumpLine}
 use Rattle.script_lines.specs.Outcome.{◌>>=◌, or_error, unless, at_line}
 use Rattle.script_lines.specs.Said.{keyword_of, none_said, one_said, two_said, stream_said, put_said, fill_said, flush_said}
-use Rattle.script_lines.specs.Naming.{names_of}
+use Rattle.script_lines.specs.Naming.{fence_names}
 use Rattle.gpu_plan.specs.declared.plan.Action.{Action}
 use Rattle.gpu_plan.specs.declared.plan.Action.TheVariants.{Flush, Finish, Token, Close}
 use Rattle.gpu_plan.specs.Plans.{PlansData, PlanData, IsWithin, HasFewFences, IsLawfulPlan, IsDump, is_closed, is_flush, is_of, actions_in, flushes_in, ring_alone}
@@ -465,7 +465,7 @@ body_lawful version names n d (line ∷ lines) known old named =
 version_lawful : (version : Option ℕ) (n : ℕ) (lines : List (List (List ℕ))) → IfSome version IsVersion → IfOk (from_version version n lines) AreLawfulPlans
 unfolding from_version
 version_lawful None n lines known = tt
-version_lawful (Some version) n lines known = body_lawful version (names_of version lines) (n + 1) no_stream lines known none_lawful (lawful_none version)
+version_lawful (Some version) n lines known = body_lawful version (fence_names version lines) (n + 1) no_stream lines known none_lawful (lawful_none version)
 
 by_words : (head one two : Bool) → IfSome (cond head (cond one (Some 1) (cond two (Some 2) None)) None) IsVersion
 by_words true true two = inl refl

@@ -3,13 +3,13 @@ use Rattle.std.proofs.Common.{◌≡◌, ◌&&◌, ℕ, ◌+◌, ◌*◌, ◌≤
 use Rattle.std.specs.Prelude.{codes, decimal}
 use Rattle.std.specs.List.{list_all}
 use Rattle.std.proofs.lemmas.Bool.{lt-ltb, and_from}
-use Rattle.script_lines.specs.Numbers.{number_of}
+use Rattle.script_lines.specs.Numbers.{number_said}
 use Rattle.gpu_cmd.specs.declared.priority.Priority.{Priority}
 use Rattle.script_lines.specs.Said.{two_said}
 use Rattle.gpu_plan.specs.Plans.{PlanData}
 use Rattle.gpu_plan.specs.Adding.{Draft, fresh_plan, fresh, spans_with, with_memory, with_line}
 use Rattle.gpu_plan.specs.Script.{numbered}
-use Rattle.script_generator.specs.Generator.{rounds, start_text, stream_lines}
+use Rattle.script_generator.specs.Generator.{rounds, start_text, stream_script}
 use Rattle.script_laws.proofs.Words.{is_word}
 use Rattle.script_laws.proofs.Values.{hex, is_small}
 use Rattle.script_laws.proofs.Taken.{Takes, takes_line}
@@ -24,7 +24,7 @@ just_begun done stream priority count flushes = record { done = done; last = Som
 
 memory_taken : (n : ℕ) (done : List PlanData) (stream : ℕ) (priority : Priority) (count flushes : ℕ)
     → numbered 1 [] n (codes "memory" ∷ codes "0" ∷ codes "16" ∷ []) (just_begun done stream priority count flushes) ≡ Ok (at_work done stream priority [] count flushes)
-unfolding numbered with_line with_memory two_said number_of fresh spans_with
+unfolding numbered with_line with_memory two_said number_said fresh spans_with
 memory_taken n done stream priority count flushes = refl
 
 pub values_small : (stream : ℕ) → stream ≤ 4 → list_all is_small (0x20400004 ∷ stream ∷ 16 ∷ 16 ∷ 28 ∷ []) ≡ true
@@ -62,7 +62,7 @@ module _ (done : List PlanData) (stream : ℕ) (priority : Priority) (count flus
         subst (λ text. Works done stream priority d text (count + 7) (flushes + 1)) (sym (start_is word stream))
         (works_behind done stream priority d (just_begun done stream priority count flushes) (line (codes "stream") (decimal stream ∷ word ∷ codes "64" ∷ [])) (start_of stream) (count + 7) (flushes + 1) begun (start_works few fewer))
 
-    pub stream_works : (size state : ℕ) → size ≤ 2000 → count + 7 + 35 * size ≤ 1000000 → flushes + 1 + size ≤ 100000 → Works done stream priority d (stream_lines word size stream state) (count + 7 + 35 * size) (flushes + 1 + size)
+    pub stream_works : (size state : ℕ) → size ≤ 2000 → count + 7 + 35 * size ≤ 1000000 → flushes + 1 + size ≤ 100000 → Works done stream priority d (stream_script word size stream state) (count + 7 + 35 * size) (flushes + 1 + size)
     stream_works size state within few fewer =
         works_on done stream priority d (start_text word stream) (rounds size stream 1 state) (count + 7) (flushes + 1) (count + 7 + 35 * size) (flushes + 1 + size) (begins_text (omega arith) (omega arith))
         (λ actions₁ count₁ flushes₁ lasts₁ few₁ fewer₁. widened done stream priority (all_rounds done stream priority known size 1 state (omega arith) actions₁ count₁ flushes₁ lasts₁ (omega arith) (omega arith)) (omega arith) (omega arith))

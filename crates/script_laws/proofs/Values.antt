@@ -8,7 +8,7 @@ use Rattle.std.specs.Str.Parse.{digits_value, AllDigits}
 use Rattle.std.proofs.lemmas.Bool.{ltb-true, ltb-false, lt-ltb, le-leb, ne_eqb, and_parts, and_from}
 use Rattle.std.proofs.lemmas.Fmt.{digits_is_IsNumeral}
 use native.Mathlib.Numerals.{unary_clauses}
-use Rattle.script_lines.specs.Numbers.{number_of, is_value}
+use Rattle.script_lines.specs.Numbers.{number_said, is_value}
 use Rattle.script_laws.proofs.Words.{is_plain, is_word}
 
 -- a value in digits
@@ -70,7 +70,7 @@ module _ (value : ℕ) (small : value < 2 ^ 32) where
   hex_is_word = rw (ne_eqb (length (hex value)) 0 (omega (arith, numeral.0))) (all_plain (hex value) numeral.1)
 
   pub hex_is_value : is_value (hex value) ≡ true
-  unfolding number_of
+  unfolding number_said
   hex_is_value =
       let below : nat_lt (digits_value 16 (hex value)) (2 ^ 32) ≡ true = lt-ltb _ _ (omega (arith, numeral.2)) in
       rw (lt-ltb 0 (length (hex value)) numeral.0, le-leb (length (hex value)) 8 (few_digits value small), all_digits (hex value) numeral.1, below) refl

@@ -10,7 +10,7 @@ use Rattle.sync_core.specs.declared.wait.Wait.{Wait}
 use Rattle.sync_core.specs.declared.ending.Ending.{Ending}
 use Rattle.sync_core.specs.declared.ending.How.TheVariants.{Release, Guard, Closed}
 use Rattle.sync_core.specs.Standing.{Standing, is_open, first_order, contains_number, has_below}
-use Rattle.sync_core.specs.Events.{Deed, Ordered, Waited, Released, Finished, WasLost, WasClosed, SyncEvent, noted, orders, moved, standing}
+use Rattle.sync_core.specs.Events.{Deed, Ordered, Waited, Released, Finished, WasLost, WasClosed, SyncEvent, happened, orders, moved, standing}
 use Rattle.sync_core.specs.Pending.{is_blocked, is_held, still, ends, how_of, ending_of, pending, endings}
 use Rattle.sync_core.proofs.Waits.{filter_both}
 use Rattle.sync_core.proofs.Keeps.{All-pending}
@@ -159,12 +159,12 @@ endings_have_causes p (e ∷ h) = by (All-weaker (HasCause p h) (HasCause p (e �
   where
     by : All (HasCause p (e ∷ h)) (endings_in p h) → (o : Option Deed) → deed p e (world p h) ≡ o → All (HasCause p (e ∷ h)) (endings_in p (e ∷ h))
     by older None q =
-        let is : sync_of p (e ∷ h) ≡ sync_of p h = sync_then p e h ∙ ap (λ (o : Option Deed). noted (stream_in e) o (sync_of p h)) q in
+        let is : sync_of p (e ∷ h) ≡ sync_of p h = sync_then p e h ∙ ap (λ (o : Option Deed). happened (stream_in e) o (sync_of p h)) q in
         subst (λ (g : List SyncEvent). All (HasCause p (e ∷ h)) (endings (length p.plans) g)) (sym is) older
     by older (Some d) q =
         let n = length p.plans in
         let g = standing ((stream_in e, d) ∷ sync_of p h) in
-        let is : sync_of p (e ∷ h) ≡ (stream_in e, d) ∷ sync_of p h = sync_then p e h ∙ ap (λ (o : Option Deed). noted (stream_in e) o (sync_of p h)) q in
+        let is : sync_of p (e ∷ h) ≡ (stream_in e, d) ∷ sync_of p h = sync_then p e h ∙ ap (λ (o : Option Deed). happened (stream_in e) o (sync_of p h)) q in
         let new = All-map (HasCause p (e ∷ h)) (ending_of g) (filter (ends g) (pending n (sync_of p h)))
         (All-weaker (Ended n (stream_in e) d (sync_of p h)) (λ (w : Wait). HasCause p (e ∷ h) (ending_of g w)) (λ w ended. record {
           later = [];

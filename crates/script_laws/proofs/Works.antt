@@ -3,7 +3,7 @@ use Rattle.std.proofs.Common.{◌≡◌, ℕ, ◌+◌, ◌-◌, ◌≤◌, ◌<�
 use Rattle.std.specs.Prelude.{codes, decimal}
 use Rattle.std.specs.Fmt.{digits}
 use Rattle.std.specs.List.{list_all}
-use Rattle.script_lines.specs.Numbers.{number_of, decimal_of, value_of}
+use Rattle.script_lines.specs.Numbers.{number_said, decimal_of, value_of}
 use Rattle.gpu_cmd.specs.declared.priority.Priority.{Priority}
 use Rattle.gpu_plan.specs.declared.plan.Action.{Action}
 use Rattle.gpu_plan.specs.declared.plan.Action.TheVariants.{Flush, Finish}
@@ -31,11 +31,11 @@ pub record Said (place : ℕ) : Type 0 where
   pub word : is_word (decimal place) ≡ true
 
 pub zero_said : Said 0
-unfolding number_of digits
+unfolding number_said digits
 zero_said = record { read = refl; word = refl }
 
 pub half_said : Said 32
-unfolding number_of digits
+unfolding number_said digits
 half_said = record { read = refl; word = refl }
 
 module _ (done : List PlanData) (stream : ℕ) (priority : Priority) where

@@ -21,12 +21,12 @@ abbrev pub is_wait : ℕ → ℕ → ℕ → ℕ → Wait → Bool
 is_wait s n t r w = (w.stream == s) && ((w.order == n) && ((w.target == t) && (w.release == r)))
 
 -- the ending is that of such a wait
-abbrev pub is_end : ℕ → ℕ → ℕ → ℕ → Ending → Bool
-is_end s n t r e = (e.stream == s) && ((e.order == n) && ((e.target == t) && (e.release == r)))
+abbrev pub is_ending_of : ℕ → ℕ → ℕ → ℕ → Ending → Bool
+is_ending_of s n t r e = (e.stream == s) && ((e.order == n) && ((e.target == t) && (e.release == r)))
 
 -- each kept wait of number n of stream s has exactly one ending: of each stream and release there are as many of both
 abbrev pub HaveEnded : PlansData → List Event → ℕ → ℕ → Type 0
-HaveEnded p h s n = (t r : ℕ) → length (filter (is_end s n t r) (endings_in p h)) ≡ length (filter (is_wait s n t r) (kept_in p h))
+HaveEnded p h s n = (t r : ℕ) → length (filter (is_ending_of s n t r) (endings_in p h)) ≡ length (filter (is_wait s n t r) (kept_in p h))
 
 -- what an event does that ends a wait so, where f and g tell how its streams stand before and after it
 --

@@ -24,17 +24,17 @@ abbrev pub losses : List Event → ℕ
 losses h = count_by is_loss h
 
 -- a number after what it counts
-abbrev pub counted : List ℕ → ℕ → List ℕ
-counted what number = what ++ number_text number
+abbrev pub number_after : List ℕ → ℕ → List ℕ
+number_after what number = what ++ number_text number
 
 -- the line of a size and a seed, with what a run left: its history, its images and its endings
 unfoldable pub line_text : ℕ → ℕ → List Event → Pictures → List Ending → List ℕ
 line_text size seed h images endings =
-    counted (codes "trial") size ++ number_text seed
-    ++ counted (codes " events") (length h)
-    ++ counted (codes " lost") (losses h)
-    ++ counted (codes " images") (length images)
-    ++ counted (codes " endings") (length endings)
+    number_after (codes "trial") size ++ number_text seed
+    ++ number_after (codes " events") (length h)
+    ++ number_after (codes " lost") (losses h)
+    ++ number_after (codes " images") (length images)
+    ++ number_after (codes " endings") (length endings)
     ++ codes " sum " ++ hex8 (texel_sum images) ++ codes "\n"
 
 -- the line of a trial of a size and a seed, whose script has these plans and was run to this history

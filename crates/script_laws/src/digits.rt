@@ -1,6 +1,6 @@
 ghost use Rattle.std.specs.Prelude.{◌≡◌, ◌++◌, OnOk};
 ghost use Rattle.journal_text.specs.Digits.{number_text};
-ghost use Rattle.script_laws.specs.Trials.{counted};
+ghost use Rattle.script_laws.specs.Trials.{number_after};
 
 use itoa::Buffer;
 use std::alloc::AllocError;
@@ -16,7 +16,7 @@ pub(crate) fn push_number(out: &mut Vec<u8>, number: usize) -> Result<(), AllocE
 
 /// Appends what is counted, and its number.
 pub(crate) fn push_count(out: &mut Vec<u8>, what: &[u8], number: usize) -> Result<(), AllocError>
-    ensures { OnOk result (out.new.items ≡ out.old.items ++ counted what.now number) }
+    ensures { OnOk result (out.new.items ≡ out.old.items ++ number_after what.now number) }
 {
     out.extend_from_slice(what)?;
     push_number(out, number)

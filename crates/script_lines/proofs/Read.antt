@@ -11,7 +11,7 @@ use Rattle.std.proofs.lemmas.List.Folds.{list_all_at}
 use Rattle.std.proofs.lemmas.List.Sums.{passes_at_first}
 use Rattle.std.proofs.Math.Nat.{mul-le-mul_left}
 use Rattle.script_lines.specs.Text.{is_blank, is_empty, words_of}
-use Rattle.script_lines.specs.Numbers.{number_of, decimal_of, hex_of}
+use Rattle.script_lines.specs.Numbers.{number_said, decimal_of, hex_of}
 use Rattle.script_lines.specs.Reading.{IsFirstRead, IsShortNumber}
 use Rattle.script_lines.proofs.Cuts.{found_at, found_nowhere, words_found, words_last, words_none}
 use Rattle.script_lines.proofs.Digits.{value_below, digits_step, value_step}
@@ -90,8 +90,8 @@ short_room radix word i value digit low short all is less =
     let scaled : value * radix ≤ value * 16 = mul-le-mul_left value low in
     omega arith
 
-short_says : (radix value : ℕ) (word : List ℕ) → 0 < length word → length word ≤ 8 → list_all (λ c. is_digit c radix) word ≡ true → value ≡ digits_value radix word → digits_value radix word < 2 ^ 32 → Some value ≡ number_of radix 8 (2 ^ 32) word
-unfolding number_of
+short_says : (radix value : ℕ) (word : List ℕ) → 0 < length word → length word ≤ 8 → list_all (λ c. is_digit c radix) word ≡ true → value ≡ digits_value radix word → digits_value radix word < 2 ^ 32 → Some value ≡ number_said radix 8 (2 ^ 32) word
+unfolding number_said
 short_says radix value word some short all is small =
     rw (lt-ltb 0 (length word) some, le-leb (length word) 8 short, all, lt-ltb (digits_value radix word) (2 ^ 32) small) (ap (λ (n : ℕ). Some n) is)
 
@@ -145,8 +145,8 @@ module _ (line : List ℕ) (digit : ℕ) (some : 0 < length line) (is : digit �
   one_read rest begins = short_read line (take 8 line) 1 refl front_some 16 digit rest (omega arith) (omega arith) one_all one_is begins
 
 -- a number of up to eight digits is one of up to ten
-longer : (radix limit value : ℕ) (word : List ℕ) → Some value ≡ number_of radix 8 limit word → Some value ≡ number_of radix 10 limit word
-unfolding number_of
+longer : (radix limit value : ℕ) (word : List ℕ) → Some value ≡ number_said radix 8 limit word → Some value ≡ number_said radix 10 limit word
+unfolding number_said
 longer radix limit value word says =
     let f = cond_some _ (digits_value radix word) value (sym says) in
     let inner = and_parts _ (nat_lt (digits_value radix word) limit) f.0 in

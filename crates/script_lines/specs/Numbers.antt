@@ -22,21 +22,21 @@ is_number radix most limit word =
     is_short most word && are_digits radix word && nat_lt (digits_value radix word) limit
 
 -- the number that such digits say
-unfoldable pub number_of : ℕ → ℕ → ℕ → List ℕ → Option ℕ
-number_of radix most limit word =
+unfoldable pub number_said : ℕ → ℕ → ℕ → List ℕ → Option ℕ
+number_said radix most limit word =
     if is_number radix most limit word then Some (digits_value radix word) else None
 
 -- a decimal number of 32 bits: at most ten digits
 abbrev pub decimal_of : List ℕ → Option ℕ
-decimal_of word = number_of 10 10 (2 ^ 32) word
+decimal_of word = number_said 10 10 (2 ^ 32) word
 
 -- a decimal number of 64 bits: at most twenty digits
 abbrev pub long_decimal_of : List ℕ → Option ℕ
-long_decimal_of word = number_of 10 20 (2 ^ 64) word
+long_decimal_of word = number_said 10 20 (2 ^ 64) word
 
 -- a value: at most eight hexadecimal digits of either case
 abbrev pub hex_of : List ℕ → Option ℕ
-hex_of word = number_of 16 8 (2 ^ 32) word
+hex_of word = number_said 16 8 (2 ^ 32) word
 
 -- whether a word is a value
 abbrev pub is_value : List ℕ → Bool

@@ -2,7 +2,7 @@
 use Rattle.std.specs.Prelude.{◌≡◌, ℕ, ◌^◌, Option, Some, List, [], ◌∷◌, MatchOption}
 use Rattle.std.specs.Borrow.{Bor}
 use Rattle.script_lines.specs.Text.{words_of}
-use Rattle.script_lines.specs.Numbers.{number_of}
+use Rattle.script_lines.specs.Numbers.{number_said}
 
 -- of the pieces that bytes make up, this is the first, and these bytes make up the others
 abbrev pub BeginsWith : (List ℕ → List (List ℕ)) → List ℕ → List ℕ → List ℕ → Type 0
@@ -28,4 +28,4 @@ ReadsFirst read line result =
 -- the first word of a line is one to eight digits of a base, which say this number
 abbrev pub IsShortNumber : ℕ → List ℕ → ℕ → List ℕ → Type 0
 IsShortNumber radix line number rest =
-    IsFirstRead (number_of radix 8 (2 ^ 32)) line (Some number) rest
+    IsFirstRead (number_said radix 8 (2 ^ 32)) line (Some number) rest

@@ -1,5 +1,5 @@
 ghost use Rattle.std.specs.Prelude.{◌≡◌, ◌≤◌, ◌^◌, length};
-ghost use Rattle.script_lines.specs.Numbers.{digits_said, number_of, decimal_of, hex_of, long_decimal_of};
+ghost use Rattle.script_lines.specs.Numbers.{digits_said, number_said, decimal_of, hex_of, long_decimal_of};
 
 use crate::digit::digit_of;
 
@@ -38,7 +38,7 @@ fn long_value_of(word: &[u8]) -> Option<u128>
 }
 
 /// The number below 2^64 that a word of one to twenty digits says.
-#[tactic(auto, unfolding(crate::specs::Numbers::number_of))]
+#[tactic(auto, unfolding(crate::specs::Numbers::number_said))]
 pub fn decimal_u64(word: &[u8]) -> Option<u64>
     ensures { result ≡ long_decimal_of word.now }
 {
@@ -54,12 +54,12 @@ pub fn decimal_u64(word: &[u8]) -> Option<u64>
 
 // The number below 2^32 that a word of one to a given number of digits of a base says.
 #[inline(always)]
-#[tactic(auto, unfolding(crate::specs::Numbers::number_of))]
+#[tactic(auto, unfolding(crate::specs::Numbers::number_said))]
 fn number_u32(word: &[u8], radix: u32, most: usize) -> Option<u32>
     requires two { 2 ≤ radix }
     requires sixteen { radix ≤ 16 }
     requires short { most ≤ 15 }
-    ensures { result ≡ number_of radix most (2 ^ 32) word.now }
+    ensures { result ≡ number_said radix most (2 ^ 32) word.now }
 {
     if word.is_empty() || word.len() > most {
         return None;

@@ -7,7 +7,7 @@ use Rattle.sync_core.specs.Core.{Core}
 use Rattle.seq_sched.specs.declared.seat.Seat.{Seat}
 use Rattle.seq_sched.specs.declared.seat.Runner.{Runner}
 use Rattle.seq_sched.specs.Seats.{seat_of}
-use Rattle.seq_sched.specs.Choice.{can_run, runner_of, goes_before, lesser, least, choice, IsChoice, NoneCanRun}
+use Rattle.seq_sched.specs.Choice.{can_run, runner_of, goes_before, lesser, least, least_runnable, IsChoice, NoneCanRun}
 
 -- what holds of the streams 1 to k and of the next holds of all
 pub upto : (P : ℕ → Type 0) (k : ℕ) → ((t : ℕ) → IsKnown k t → P t) → P (suc k) → (t : ℕ) → IsKnown (suc k) t → P t
@@ -92,7 +92,7 @@ least_is seats core (suc k) = step (least seats core k) (least_is seats core k) 
     )
 
 -- the choice is one
-pub choice_is : (seats : List Seat) (core : Core) → IfSome (choice seats core) (IsChoice seats core)
+pub choice_is : (seats : List Seat) (core : Core) → IfSome (least_runnable seats core) (IsChoice seats core)
 choice_is seats core = by (least seats core (length seats)) (least_is seats core (length seats))
   where
     by : (o : Option Runner) → IsLeastOf seats core (length seats) o → IfSome (option_map (λ (r : Runner). r.stream) o) (IsChoice seats core)
@@ -102,7 +102,7 @@ choice_is seats core = by (least seats core (length seats)) (least_is seats core
         subst (IsChoice seats core) (sym same) (record { known = w.1; runs = w.3; first = λ t known run. subst (λ (x : Runner). goes_before (runner_of (seat_of seats t) core t) x ≡ false) w.2 (w.4 t known run) })
 
 -- and there is none exactly where no stream can run
-pub choice_none : (seats : List Seat) (core : Core) → (IsNone (choice seats core) → NoneCanRun seats core) × (NoneCanRun seats core → IsNone (choice seats core))
+pub choice_none : (seats : List Seat) (core : Core) → (IsNone (least_runnable seats core) → NoneCanRun seats core) × (NoneCanRun seats core → IsNone (least_runnable seats core))
 choice_none seats core = by (least seats core (length seats)) (least_is seats core (length seats))
   where
     by : (o : Option Runner) → IsLeastOf seats core (length seats) o → (IsNone (option_map (λ (r : Runner). r.stream) o) → NoneCanRun seats core) × (NoneCanRun seats core → IsNone (option_map (λ (r : Runner). r.stream) o))

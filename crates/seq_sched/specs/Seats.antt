@@ -4,13 +4,13 @@ use Rattle.sync_core.specs.Standing.{IsKnown}
 use Rattle.seq_sched.specs.declared.seat.Seat.{Seat}
 
 -- a stream that is not there
-abbrev pub nobody : Seat
-nobody = record { priority = 0; home = false }
+abbrev pub empty_seat : Seat
+empty_seat = record { priority = 0; home = false }
 
 -- the seat of stream s in a row that begins with stream 1
 abbrev pub seat_of : List Seat → ℕ → Seat
-seat_of seats zero = nobody
-seat_of seats (suc k) = slice_index_or seats k nobody
+seat_of seats zero = empty_seat
+seat_of seats (suc k) = slice_index_or seats k empty_seat
 
 -- streams of these priorities, all at home
 abbrev pub all_home : List ℕ → List Seat

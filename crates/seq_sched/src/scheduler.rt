@@ -2,7 +2,7 @@ ghost use Rattle.std.specs.Prelude.{◌≡◌, ◌↔◌, ◌^◌, ◌<◌, List
 ghost use Rattle.sync_core.specs.Events.{SyncEvent};
 ghost use Rattle.sync_core.specs.Core.{StandsFor};
 ghost use Rattle.seq_sched.specs.Seats.{seat_of, all_home, AreHome, IsAway, with_home};
-ghost use Rattle.seq_sched.specs.Choice.{choice, IsChoice, NoneCanRun, NothingLeft};
+ghost use Rattle.seq_sched.specs.Choice.{least_runnable, IsChoice, NoneCanRun, NothingLeft};
 
 use crate::choice::{candidate, lesser};
 use crate::seat::Seat;
@@ -56,7 +56,7 @@ impl Scheduler {
     /// since the stream with the least number of all waits for nothing.
     pub fn pick(&self, core: &SyncCore) -> Option<u32>
         requires streams { length core.now.streams ≡ length self.now }
-        ensures choice { result ≡ choice self.now core.now }
+        ensures choice { result ≡ least_runnable self.now core.now }
         ensures least { IfSome result (λ s. IsChoice self.now core.now s) }
         ensures none { IsNone result ↔ NoneCanRun self.now core.now }
         ensures idle { (h : List SyncEvent) → StandsFor core.now h → AreHome self.now

@@ -10,7 +10,7 @@ use Rattle.gpu_journal.specs.declared.event.Event.TheVariants.{Finish, Close}
 use Rattle.gpu_journal.specs.Waits.{front}
 use Rattle.gpu_journal.specs.Facts.{facts_at, verdict_at}
 use Rattle.gpu_journal.specs.Serial.{either, first, has_flush, is_at_close, runner, order_event, run_event, judged_event, next_words, next}
-use Rattle.serial_laws.specs.Going.{wants_memory}
+use Rattle.serial_laws.specs.Going.{is_memory_loss}
 use Rattle.serial_laws.specs.Laws.{PlayedWantsNoMemory}
 
 -- which of the three kinds follows
@@ -42,16 +42,16 @@ run_is p h s P ends goes = by (eqb (facts_at p h s).get (facts_at p h s).put) re
     by false e = goes e (verdict_at p h s (next_words p h s)) refl
 
 -- what a verdict makes of a command is no loss as out of memory
-pub judged_wants : (s : ℕ) (words : List (ℕ × ℕ)) (answer : Result Command CmdError) → wants_memory (judged_event s words answer) ≡ false
+pub judged_wants : (s : ℕ) (words : List (ℕ × ℕ)) (answer : Result Command CmdError) → is_memory_loss (judged_event s words answer) ≡ false
 judged_wants s words (Ok command) = refl
 judged_wants s words (Err error) = refl
 
 -- no event that follows is a loss as out of memory
-next_wants : (p : PlansData) (h : List Event) (e : Event) → Kind p h e → wants_memory e ≡ false
-next_wants p h e (orders_it s x q) = ap wants_memory q
-next_wants p h e (closes_it s x y q) = ap wants_memory q
-next_wants p h e (runs_it s x q) = ap wants_memory q ∙ run_is p h s (λ e. wants_memory e ≡ false) (λ _. refl) (λ _ answer _. judged_wants s (next_words p h s) answer)
+next_wants : (p : PlansData) (h : List Event) (e : Event) → Kind p h e → is_memory_loss e ≡ false
+next_wants p h e (orders_it s x q) = ap is_memory_loss q
+next_wants p h e (closes_it s x y q) = ap is_memory_loss q
+next_wants p h e (runs_it s x q) = ap is_memory_loss q ∙ run_is p h s (λ e. is_memory_loss e ≡ false) (λ _. refl) (λ _ answer _. judged_wants s (next_words p h s) answer)
 
 pub played_wants_no_memory : PlayedWantsNoMemory
-played_wants_no_memory p [] y = All-nil (λ e. wants_memory e ≡ false)
-played_wants_no_memory p (e ∷ h) y = All-cons (λ e. wants_memory e ≡ false) e h (next_wants p h e (kind_of p h e y.0)) (played_wants_no_memory p h y.1)
+played_wants_no_memory p [] y = All-nil (λ e. is_memory_loss e ≡ false)
+played_wants_no_memory p (e ∷ h) y = All-cons (λ e. is_memory_loss e ≡ false) e h (next_wants p h e (kind_of p h e y.0)) (played_wants_no_memory p h y.1)

@@ -63,7 +63,7 @@ none_at_home p h at_home = (none_chosen p h at_home, none_passes p h at_home)
 module _ (p : PlansData) (h : List Event) (at_home : ℕ → Bool) (row : List Seat) (core : cores.Core) (seated : AreSeats p at_home row) (is_core : IsCoreOf p h core) where
   runs_same : (s : ℕ) → IsKnown (length p.plans) s → seats.can_run (seat_of row s) core s ≡ (at_home s && is_runnable p h s)
   runs_same s k =
-      ap (λ (b : Bool). b && (is_some (first_order (cores.left_of core s)) && not (cores.blocked core s))) (seated.home s k)
+      ap (λ (b : Bool). b && (is_some (first_order (cores.unprocessed_of core s)) && not (cores.blocked core s))) (seated.home s k)
       ∙ ap (λ (xs : List Number). at_home s && (is_some (first_order xs) && not (cores.blocked core s))) (core_left p h core is_core s)
       ∙ ap (λ (b : Bool). at_home s && (is_some (first_order (left_of p h s)) && not b)) (core_blocked p h core is_core s)
 
@@ -74,11 +74,11 @@ module _ (p : PlansData) (h : List Event) (at_home : ℕ → Bool) (row : List S
   before_same s t a b =
       let q = seated.priority s a in
       let r = seated.priority t b in
-      let f : front_of (cores.left_of core s) ≡ front p h s = core_front p h core is_core s in
-      let g : front_of (cores.left_of core t) ≡ front p h t = core_front p h core is_core t in
-      ap (λ (x : ℕ). nat_lt x (seat_of row t).priority || (eqb x (seat_of row t).priority && nat_lt (front_of (cores.left_of core s)) (front_of (cores.left_of core t)))) q
-      ∙ ap (λ (x : ℕ). nat_lt (rank (plan_of p s).priority) x || (eqb (rank (plan_of p s).priority) x && nat_lt (front_of (cores.left_of core s)) (front_of (cores.left_of core t)))) r
-      ∙ ap (λ (x : ℕ). nat_lt (rank (plan_of p s).priority) (rank (plan_of p t).priority) || (eqb (rank (plan_of p s).priority) (rank (plan_of p t).priority) && nat_lt x (front_of (cores.left_of core t)))) f
+      let f : front_of (cores.unprocessed_of core s) ≡ front p h s = core_front p h core is_core s in
+      let g : front_of (cores.unprocessed_of core t) ≡ front p h t = core_front p h core is_core t in
+      ap (λ (x : ℕ). nat_lt x (seat_of row t).priority || (eqb x (seat_of row t).priority && nat_lt (front_of (cores.unprocessed_of core s)) (front_of (cores.unprocessed_of core t)))) q
+      ∙ ap (λ (x : ℕ). nat_lt (rank (plan_of p s).priority) x || (eqb (rank (plan_of p s).priority) x && nat_lt (front_of (cores.unprocessed_of core s)) (front_of (cores.unprocessed_of core t)))) r
+      ∙ ap (λ (x : ℕ). nat_lt (rank (plan_of p s).priority) (rank (plan_of p t).priority) || (eqb (rank (plan_of p s).priority) (rank (plan_of p t).priority) && nat_lt x (front_of (cores.unprocessed_of core t)))) f
       ∙ ap (λ (x : ℕ). nat_lt (rank (plan_of p s).priority) (rank (plan_of p t).priority) || (eqb (rank (plan_of p s).priority) (rank (plan_of p t).priority) && nat_lt (front p h s) x)) g
 
   -- the lesser of two runners is the better of their streams
@@ -103,7 +103,7 @@ module _ (p : PlansData) (h : List Event) (at_home : ℕ → Bool) (row : List S
       ∙ lesser_same (suc n) (test (suc n)) (best test (comes_before p h) n)
       (λ t q. let passed = best_passes test (comes_before p h) n t q in before_same (suc n) t is (passed.1, (let below = passed.2 in omega (arith, below, le))))
 
-  pub scheduler_chooses : seats.choice row core ≡ choice_at_home p h at_home
+  pub scheduler_chooses : seats.least_runnable row core ≡ choice_at_home p h at_home
   scheduler_chooses =
       ap (λ (n : ℕ). option_map (λ (r : Runner). r.stream) (seats.least row core n)) seated.count
       ∙ ap (option_map (λ (r : Runner). r.stream)) (least_same (length p.plans) (omega arith)) ∙ stream_of (choice_at_home p h at_home)

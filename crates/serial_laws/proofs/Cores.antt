@@ -10,7 +10,7 @@ use Rattle.sync_core.specs.Pending.{is_kept, is_blocked, pending}
 use Rattle.sync_core.specs.Core as cores
 use Rattle.gpu_journal.specs.declared.event.Event.{Event}
 use Rattle.gpu_journal.specs.Waits.{sync_of, standing_of, left_of, front, drawn, pending_in}
-use Rattle.serial_laws.specs.Runs.{keeps}
+use Rattle.serial_laws.specs.Runs.{step_keeps}
 use Rattle.serial_laws.specs.Needs.{need_of, need}
 use Rattle.serial_laws.specs.Choosing.{IsCoreOf}
 
@@ -27,10 +27,10 @@ module _ (p : PlansData) (h : List Event) (core : cores.Core) (is : IsCoreOf p h
   pub core_need : (s : ℕ) → need_of (at core.streams s) ≡ need p h s
   core_need s = ap need_of (core_standing s)
 
-  pub core_left : (s : ℕ) → cores.left_of core s ≡ left_of p h s
+  pub core_left : (s : ℕ) → cores.unprocessed_of core s ≡ left_of p h s
   core_left s = ap (λ (x : Standing). x.left) (core_standing s)
 
-  pub core_front : (s : ℕ) → front_of (cores.left_of core s) ≡ front p h s
+  pub core_front : (s : ℕ) → front_of (cores.unprocessed_of core s) ≡ front p h s
   core_front s = ap front_of (core_left s)
 
   pub core_pending : core.pending ≡ pending_in p h
@@ -40,12 +40,12 @@ module _ (p : PlansData) (h : List Event) (core : cores.Core) (is : IsCoreOf p h
   core_blocked s = ap (λ (xs : List Number). is_blocked s xs core.pending) (core_left s) ∙ ap (is_blocked s (left_of p h s)) core_pending
 
   -- whether a wait is kept
-  pub core_kept : (s t r : ℕ) → is_kept (length core.streams) (at core.streams) s (front_of (cores.left_of core s)) t r ≡ is_kept (length p.plans) (standing_of p h) s (front p h s) t r
+  pub core_kept : (s t r : ℕ) → is_kept (length core.streams) (at core.streams) s (front_of (cores.unprocessed_of core s)) t r ≡ is_kept (length p.plans) (standing_of p h) s (front p h s) t r
   core_kept s t r =
-      ap (λ (n : ℕ). is_kept n (at core.streams) s (front_of (cores.left_of core s)) t r) is.count
+      ap (λ (n : ℕ). is_kept n (at core.streams) s (front_of (cores.unprocessed_of core s)) t r) is.count
       ∙ ap (λ (n : ℕ). is_kept (length p.plans) (at core.streams) s n t r) (core_front s)
       ∙ ap (λ (x : Standing). is_known (length p.plans) t && (not (eqb s t) && (is_open x && (nat_lt x.release r && has_below (front p h s) x.left)))) (core_standing t)
 
   -- its judgement is that of the step that waits
-  pub core_judged : (s t r : ℕ) → cores.judgement core s t r ≡ cond (keeps p h s (Wait t r)) Kept Dropped
+  pub core_judged : (s t r : ℕ) → cores.judgement core s t r ≡ cond (step_keeps p h s (Wait t r)) Kept Dropped
   core_judged s t r = ap (λ (b : Bool). cond b Kept Dropped) (core_kept s t r)

@@ -10,7 +10,7 @@ use Rattle.stream_state.specs.declared.effect.Effect.{Effect}
 use Rattle.stream_state.specs.declared.effect.Effect.TheVariants.{Nothing, Token, Release, Wait, WaitName, Pixels, Results}
 use Rattle.gpu_journal.specs.declared.event.Event.{Event}
 use Rattle.gpu_journal.specs.declared.event.Event.TheVariants.{Order, Step, Finish, Lost, Close}
-use Rattle.gpu_journal.specs.World.{Known, World, world, stream_in, asked_by, with_token, known, known_after}
+use Rattle.gpu_journal.specs.World.{Known, World, world, stream_in, asked_by, tokens_after, known, known_after}
 use Rattle.gpu_journal.specs.Facts.{reach}
 use Rattle.gpu_journal.specs.Serial.{begins_round, count}
 use Rattle.serial_laws.proofs.Others.{known_own, known_other}
@@ -19,7 +19,7 @@ use Rattle.serial_laws.proofs.Others.{known_own, known_other}
 abbrev bound_by : PlansData → ℕ → Known → ℕ
 bound_by p s k = bound (plan_of p s).actions k.finished k.tokens
 
-token_grows : (p : PlansData) (s f : ℕ) (effect : Effect) (tokens : List ℕ) → bound (plan_of p s).actions f tokens ≤ bound (plan_of p s).actions f (with_token effect tokens)
+token_grows : (p : PlansData) (s f : ℕ) (effect : Effect) (tokens : List ℕ) → bound (plan_of p s).actions f tokens ≤ bound (plan_of p s).actions f (tokens_after effect tokens)
 token_grows p s f (Token token) tokens = bound_grows_by_token (plan_of p s).actions f token tokens
 token_grows p s f Nothing tokens = omega arith
 token_grows p s f (Release r) tokens = omega arith

@@ -27,7 +27,7 @@ one _ = 0
 drawn_then : (p : PlansData) (e : Event) (h : List Event) → drawn p (e ∷ h) ≡ drawn p h + one e
 drawn_then p e h = ap sync.orders (sync_then p e h) ∙ by e
   where
-    asked : (s : ℕ) (effect : Effect) → sync.orders (sync.noted s (deed_asked p effect) (sync_of p h)) ≡ drawn p h + 0
+    asked : (s : ℕ) (effect : Effect) → sync.orders (sync.happened s (deed_asked p effect) (sync_of p h)) ≡ drawn p h + 0
     asked s Nothing = omega arith
     asked s (Token token) = omega arith
     asked s (Release r) = omega arith
@@ -36,7 +36,7 @@ drawn_then p e h = ap sync.orders (sync_then p e h) ∙ by e
     asked s (Pixels op) = omega arith
     asked s (Results write) = omega arith
 
-    by : (e : Event) → sync.orders (sync.noted (stream_in e) (deed p e (world p h)) (sync_of p h)) ≡ drawn p h + one e
+    by : (e : Event) → sync.orders (sync.happened (stream_in e) (deed p e (world p h)) (sync_of p h)) ≡ drawn p h + one e
     by (Order s n c) = refl
     by (Step s words) = asked s (asked_by p s words (world p h))
     by (Finish s n) = omega arith

@@ -15,7 +15,7 @@ use Rattle.gpu_journal.specs.Facts.{place_of, flush_of, reach}
 use Rattle.gpu_journal.specs.Legal.{MayClose, Obeys, IsLegal}
 use Rattle.gpu_journal.specs.Serial.{first, is_close, is_runnable}
 use Rattle.serial_laws.specs.Scripts.{AreLawfulPlans}
-use Rattle.serial_laws.specs.Going.{wants_memory, HasNextFlush}
+use Rattle.serial_laws.specs.Going.{is_memory_loss, HasNextFlush}
 use Rattle.serial_laws.specs.Laws.{UnfinishedHasEvent}
 use Rattle.serial_laws.proofs.First.{first_passes, first_fails}
 use Rattle.serial_laws.proofs.Flushes.{flushes_grow, flushes_before, close_is_last}
@@ -55,17 +55,17 @@ flush_reached p h s lawful legal can =
     (first_placed (place_of h) (flush_places (plan_of p s).actions) (known p h s).finished (left_of p h s) f.placed o.1)
 
 -- an event for each way to go on where no number is left
-event_of : (p : PlansData) (h : List Event) (s : ℕ) → IsOpen p h s → HasNextFlush p h s ⊎ MayClose p h s → (e : Event) × (wants_memory e ≡ false) × Obeys p h e
+event_of : (p : PlansData) (h : List Event) (s : ℕ) → IsOpen p h s → HasNextFlush p h s ⊎ MayClose p h s → (e : Event) × (is_memory_loss e ≡ false) × Obeys p h e
 event_of p h s open' (inl flush) = (Order s (drawn p h + 1) flush.place, refl, order_obeys p h s flush.place open' flush.next)
 event_of p h s open' (inr may) = (Close s, refl, close_obeys p h s may)
 
 pub unfinished_has_event : UnfinishedHasEvent
 unfinished_has_event p h lawful legal unfinished = by (first (is_runnable p h) (length p.plans)) refl
   where
-    legal_then : (e : Event) × (wants_memory e ≡ false) × Obeys p h e → (e : Event) × (wants_memory e ≡ false) × IsLegal p (e ∷ h)
+    legal_then : (e : Event) × (is_memory_loss e ≡ false) × Obeys p h e → (e : Event) × (is_memory_loss e ≡ false) × IsLegal p (e ∷ h)
     legal_then x = (x.0, x.1, (x.2, legal))
 
-    by : (o : Option ℕ) → first (is_runnable p h) (length p.plans) ≡ o → (e : Event) × (wants_memory e ≡ false) × IsLegal p (e ∷ h)
+    by : (o : Option ℕ) → first (is_runnable p h) (length p.plans) ≡ o → (e : Event) × (is_memory_loss e ≡ false) × IsLegal p (e ∷ h)
     by (Some s) q =
         let can = can_run p h s legal (first_passes (is_runnable p h) (length p.plans) s q).0 in
         legal_then (runs_on p h s can (flush_reached p h s lawful legal can))

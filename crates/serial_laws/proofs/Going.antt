@@ -9,7 +9,7 @@ use Rattle.stream_state.specs.declared.effect.Effect.{Effect}
 use Rattle.stream_state.specs.declared.effect.Effect.TheVariants.{Nothing, Token, Release, Wait, WaitName, Pixels, Results}
 use Rattle.sync_core.specs.declared.wait.Number.{Number}
 use Rattle.sync_core.specs.Standing.{Standing, is_open, first_order, front_of, bumped}
-use Rattle.sync_core.specs.Events.{Deed, Ordered, Waited, Released, SyncEvent, noted, moved, orders, standing}
+use Rattle.sync_core.specs.Events.{Deed, Ordered, Waited, Released, SyncEvent, happened, moved, orders, standing}
 use Rattle.sync_core.specs.Pending.{is_kept, is_blocked, pending, has_wait_of}
 use Rattle.sync_core.proofs.Numbers.{Each, left_drawn}
 use Rattle.gpu_journal.specs.declared.event.Event.{Event}
@@ -19,13 +19,13 @@ use Rattle.gpu_journal.specs.World.{world, stream_in, asked_by}
 use Rattle.gpu_journal.specs.Waits.{deed, deed_asked, fences_in, sync_of, standing_of, left_of, pending_in}
 use Rattle.gpu_journal.proofs.Worlds.{sync_then}
 use Rattle.serial_laws.proofs.Others.{standing_own}
-use Rattle.serial_laws.specs.Runs.{GoesOn, MayGoOn, keeps}
+use Rattle.serial_laws.specs.Runs.{GoesOn, MayGoOn, step_keeps}
 use Rattle.serial_laws.proofs.Pending.{none_left, none_ordered, none_dropped, none_other, blocked_is}
 
 -- ---- over sync events
 
 -- of another stream
-other_standing : (s : ℕ) (d : Option Deed) (g : List SyncEvent) (t : ℕ) → eqb s t ≡ false → standing (noted s d g) t ≡ standing g t
+other_standing : (s : ℕ) (d : Option Deed) (g : List SyncEvent) (t : ℕ) → eqb s t ≡ false → standing (happened s d g) t ≡ standing g t
 other_standing s None g t off = refl
 other_standing s (Some d) g t off = ap (λ (b : Bool). cond b (moved d (orders g + 1) (standing g t)) (standing g t)) off
 
@@ -46,10 +46,10 @@ goes_on_so k g now s n was_paused paused may same first free = record {
       blocked_is s n (standing now s).left (pending k now) (first f) ∙ none.1 (sym (blocked_is s n (standing g s).left (pending k g) f) ∙ may.free was none.0);
 }
 
-other_event : (k s : ℕ) (d : Option Deed) (g : List SyncEvent) (t n : ℕ) (paused : Bool) → eqb s t ≡ false → GoesOn k g t n paused → GoesOn k (noted s d g) t n paused
+other_event : (k s : ℕ) (d : Option Deed) (g : List SyncEvent) (t n : ℕ) (paused : Bool) → eqb s t ≡ false → GoesOn k g t n paused → GoesOn k (happened s d g) t n paused
 other_event k s d g t n paused off may =
     let st = other_standing s d g t off in
-    goes_on_so k g (noted s d g) t n paused paused may (ap is_open st) (λ f. ap (λ (x : Standing). first_order x.left) st ∙ f) (λ f going. (going, none_other k s d g t n off))
+    goes_on_so k g (happened s d g) t n paused paused may (ap is_open st) (λ f. ap (λ (x : Standing). first_order x.left) st ∙ f) (λ f going. (going, none_other k s d g t n off))
 
 first_drawn : (m n : ℕ) (xs : List Number) → Each (λ k. k ≤ m) xs → first_order xs ≡ Some n → n ≤ m
 first_drawn m n [] low e = absurd (cc)
@@ -98,14 +98,14 @@ order_goes_on p h s m c n paused may =
     (own_order (length p.plans) s (fences_in (slice_get (plan_of p s).actions c)) (sync_of p h) n paused may)
 
 -- a step of the run pauses it exactly where the step's wait is kept
-pub step_goes_on : (p : PlansData) (h : List Event) (s : ℕ) (words : List (ℕ × ℕ)) (n : ℕ) (paused : Bool) → paused ≡ keeps p h s (asked_by p s words (world p h)) → MayGoOn p h s n false → MayGoOn p (Step s words ∷ h) s n paused
+pub step_goes_on : (p : PlansData) (h : List Event) (s : ℕ) (words : List (ℕ × ℕ)) (n : ℕ) (paused : Bool) → paused ≡ step_keeps p h s (asked_by p s words (world p h)) → MayGoOn p h s n false → MayGoOn p (Step s words ∷ h) s n paused
 step_goes_on p h s words n paused kept may =
     subst (λ (g : List SyncEvent). GoesOn (length p.plans) g s n paused) (sym (sync_then p (Step s words) h)) (by (asked_by p s words (world p h)) paused kept)
   where
     going : (now : List SyncEvent) (q : Bool) → q ≡ false → GoesOn (length p.plans) now s n false → GoesOn (length p.plans) now s n q
     going now q off may = subst (GoesOn (length p.plans) now s n) (sym off) may
 
-    by : (effect : Effect) (q : Bool) → q ≡ keeps p h s effect → GoesOn (length p.plans) (noted s (deed_asked p effect) (sync_of p h)) s n q
+    by : (effect : Effect) (q : Bool) → q ≡ step_keeps p h s effect → GoesOn (length p.plans) (happened s (deed_asked p effect) (sync_of p h)) s n q
     by Nothing q off = going (sync_of p h) q off may
     by (Token token) q off = going (sync_of p h) q off may
     by (Pixels op) q off = going (sync_of p h) q off may

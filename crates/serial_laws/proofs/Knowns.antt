@@ -9,7 +9,7 @@ use Rattle.stream_state.specs.Steps.{stepped}
 use Rattle.gpu_journal.specs.declared.event.Event.{Event}
 use Rattle.gpu_journal.specs.declared.event.Event.TheVariants.{Order, Step, Finish, Lost, Close}
 use Rattle.gpu_journal.specs.declared.event.Why.{Why}
-use Rattle.gpu_journal.specs.World.{Known, world, asked_by, drawn_by, with_token, greatest_after, known, known_after_step, state_of, replay}
+use Rattle.gpu_journal.specs.World.{Known, world, asked_by, drawn_by, tokens_after, greatest_after, known, known_after_step, state_of, replay}
 use Rattle.gpu_journal.proofs.Worlds.{images_then}
 use Rattle.serial_laws.proofs.Others.{known_own}
 
@@ -44,10 +44,10 @@ step_ordered p h s words = ap (λ (k : Known). k.ordered) (known_step p h s word
 pub step_finished : (p : PlansData) (h : List Event) (s : ℕ) (words : List (ℕ × ℕ)) → (known p (Step s words ∷ h) s).finished ≡ (known p h s).finished
 step_finished p h s words = ap (λ (k : Known). k.finished) (known_step p h s words)
 
-pub step_tokens : (p : PlansData) (h : List Event) (s : ℕ) (words : List (ℕ × ℕ)) → (known p (Step s words ∷ h) s).tokens ≡ with_token (asked_by p s words (world p h)) (known p h s).tokens
+pub step_tokens : (p : PlansData) (h : List Event) (s : ℕ) (words : List (ℕ × ℕ)) → (known p (Step s words ∷ h) s).tokens ≡ tokens_after (asked_by p s words (world p h)) (known p h s).tokens
 step_tokens p h s words = ap (λ (k : Known). k.tokens) (known_step p h s words)
 
-greatest_more : (effect : Effect) (tokens : List ℕ) → greatest (with_token effect tokens) ≡ greatest_after effect (greatest tokens)
+greatest_more : (effect : Effect) (tokens : List ℕ) → greatest (tokens_after effect tokens) ≡ greatest_after effect (greatest tokens)
 greatest_more Nothing tokens = refl
 greatest_more (Token token) tokens = refl
 greatest_more (Release r) tokens = refl

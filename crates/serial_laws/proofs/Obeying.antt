@@ -26,7 +26,7 @@ use Rattle.gpu_journal.specs.Legal.{MayHaveBeenPut, MayClose, Obeys, IsLegal}
 use Rattle.gpu_journal.specs.Serial.{first, is_runnable, count, stays, has_flush, order_event, is_close, is_at_close, comes_before, choice, runner, judged_event, run_event, IsPlayed}
 use Rattle.gpu_journal.proofs.Worlds.{known_of_left}
 use Rattle.serial_laws.specs.Scripts.{AreLawfulPlans}
-use Rattle.serial_laws.specs.Going.{wants_memory}
+use Rattle.serial_laws.specs.Going.{is_memory_loss}
 use Rattle.serial_laws.specs.Laws.{PlayedIsLegal}
 use Rattle.serial_laws.proofs.First.{first_passes, first_fails, best_passes}
 use Rattle.serial_laws.proofs.Choices.{Kind, orders_it, closes_it, runs_it, kind_of, run_is, judged_wants}
@@ -242,10 +242,10 @@ obeys_run p h s legal played can =
     (λ e answer q. obeys_judged p h s (count p h s) can (omega (arith, below)) most (eqb-false (facts_at p h s).get (facts_at p h s).put e) answer q)
 
 -- a stream that can run, and whose client can have come to its flush, has a legal event, which is no loss as out of memory
-pub runs_on : (p : PlansData) (h : List Event) (s : ℕ) → CanRun p h s → flush_of p h s ≤ reach p h s → (e : Event) × (wants_memory e ≡ false) × Obeys p h e
+pub runs_on : (p : PlansData) (h : List Event) (s : ℕ) → CanRun p h s → flush_of p h s ≤ reach p h s → (e : Event) × (is_memory_loss e ≡ false) × Obeys p h e
 runs_on p h s can reached = by (eqb (facts_at p h s).get (facts_at p h s).put) refl
   where
-    by : (b : Bool) → eqb (facts_at p h s).get (facts_at p h s).put ≡ b → (e : Event) × (wants_memory e ≡ false) × Obeys p h e
+    by : (b : Bool) → eqb (facts_at p h s).get (facts_at p h s).put ≡ b → (e : Event) × (is_memory_loss e ≡ false) × Obeys p h e
     by true e = (Finish s (front p h s), refl, obeys_finish p h s can reached (eqb-true (facts_at p h s).get (facts_at p h s).put e))
     by false e =
         let words = words_after p h s (reach p h s) in

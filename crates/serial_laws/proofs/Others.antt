@@ -14,7 +14,7 @@ abbrev pub moved_by : Option sync.Deed → ℕ → Standing → Standing
 moved_by None n old = old
 moved_by (Some deed) n old = sync.moved deed n old
 
-standing_noted : (s t : ℕ) (d : Option sync.Deed) (g : List sync.SyncEvent) → sync.standing (sync.noted s d g) t ≡ cond (eqb s t) (moved_by d (sync.orders g + 1) (sync.standing g t)) (sync.standing g t)
+standing_noted : (s t : ℕ) (d : Option sync.Deed) (g : List sync.SyncEvent) → sync.standing (sync.happened s d g) t ≡ cond (eqb s t) (moved_by d (sync.orders g + 1) (sync.standing g t)) (sync.standing g t)
 standing_noted s t None g = by (eqb s t)
   where
     by : (b : Bool) → sync.standing g t ≡ cond b (sync.standing g t) (sync.standing g t)

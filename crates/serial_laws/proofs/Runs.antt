@@ -10,7 +10,7 @@ use Rattle.stream_state.specs.declared.effect.Effect.TheVariants.{Nothing, Token
 use Rattle.sync_core.specs.declared.wait.Number.{Number}
 use Rattle.sync_core.specs.declared.wait.Wait as waits
 use Rattle.sync_core.specs.Standing.{is_open, first_order, front_of}
-use Rattle.sync_core.specs.Events.{Waited, SyncEvent, noted, standing}
+use Rattle.sync_core.specs.Events.{Waited, SyncEvent, happened, standing}
 use Rattle.sync_core.specs.Pending.{is_kept, placed, wait_of, pending, has_wait_of, is_blocked}
 use Rattle.sync_core.proofs.Keeps.{waited_ends}
 use Rattle.gpu_journal.specs.declared.event.Event.{Event}
@@ -21,7 +21,7 @@ use Rattle.gpu_journal.specs.Serial.{is_runnable}
 use Rattle.gpu_journal.proofs.Worlds.{sync_then}
 use Rattle.serial_laws.proofs.Others.{standing_own}
 use Rattle.serial_laws.proofs.Spent.{asked_open}
-use Rattle.serial_laws.specs.Runs.{MayGoOn, keeps}
+use Rattle.serial_laws.specs.Runs.{MayGoOn, step_keeps}
 use Rattle.serial_laws.proofs.Pending.{blocked_is}
 use Rattle.serial_laws.proofs.Going.{step_goes_on}
 
@@ -52,7 +52,7 @@ kept_waits_there k s t r g n first kept =
     is_its (x ∷ xs) e = let is : x.order ≡ n = cc in ap (λ (b : Bool). b && eqb x.order n) (eq-eqb s s refl) ∙ ap (λ (m : ℕ). eqb m n) is ∙ eq-eqb n n refl
 
 -- a step whose wait is kept leaves it pending
-kept_pending : (p : PlansData) (h : List Event) (s n : ℕ) → first_order (left_of p h s) ≡ Some n → (effect : Effect) → keeps p h s effect ≡ true → has_wait_of s n (pending (length p.plans) (noted s (deed_asked p effect) (sync_of p h))) ≡ true
+kept_pending : (p : PlansData) (h : List Event) (s n : ℕ) → first_order (left_of p h s) ≡ Some n → (effect : Effect) → step_keeps p h s effect ≡ true → has_wait_of s n (pending (length p.plans) (happened s (deed_asked p effect) (sync_of p h))) ≡ true
 kept_pending p h s n first Nothing kept = absurd (cc)
 kept_pending p h s n first (Token token) kept = absurd (cc)
 kept_pending p h s n first (Release r) kept = absurd (cc)
@@ -63,10 +63,10 @@ kept_pending p h s n first (Results write) kept = absurd (cc)
 
 -- its stream is blocked
 pub step_blocked : (p : PlansData) (h : List Event) (s : ℕ) (words : List (ℕ × ℕ)) (n : ℕ) → is_open (standing_of p h s) ≡ true → MayGoOn p h s n false
-    → is_blocked s (left_of p (Step s words ∷ h) s) (pending_in p (Step s words ∷ h)) ≡ keeps p h s (asked_by p s words (world p h))
-step_blocked p h s words n open' may = by (keeps p h s (asked_by p s words (world p h))) refl
+    → is_blocked s (left_of p (Step s words ∷ h) s) (pending_in p (Step s words ∷ h)) ≡ step_keeps p h s (asked_by p s words (world p h))
+step_blocked p h s words n open' may = by (step_keeps p h s (asked_by p s words (world p h))) refl
   where
-    by : (b : Bool) → keeps p h s (asked_by p s words (world p h)) ≡ b → is_blocked s (left_of p (Step s words ∷ h) s) (pending_in p (Step s words ∷ h)) ≡ b
+    by : (b : Bool) → step_keeps p h s (asked_by p s words (world p h)) ≡ b → is_blocked s (left_of p (Step s words ∷ h) s) (pending_in p (Step s words ∷ h)) ≡ b
     by true kept =
         let first = (step_goes_on p h s words n true (sym kept) may).first (step_open p h s words ∙ open') in
         blocked_is s n (left_of p (Step s words ∷ h) s) (pending_in p (Step s words ∷ h)) first
@@ -75,8 +75,8 @@ step_blocked p h s words n open' may = by (keeps p h s (asked_by p s words (worl
     by false dropped = (step_goes_on p h s words n false (sym dropped) may).free (step_open p h s words ∙ open') refl
 
 -- so it can run exactly where the step keeps no wait
-pub step_runs : (p : PlansData) (h : List Event) (s : ℕ) (words : List (ℕ × ℕ)) (n : ℕ) → IsOpen p h s → MayGoOn p h s n false → is_runnable p (Step s words ∷ h) s ≡ not (keeps p h s (asked_by p s words (world p h)))
+pub step_runs : (p : PlansData) (h : List Event) (s : ℕ) (words : List (ℕ × ℕ)) (n : ℕ) → IsOpen p h s → MayGoOn p h s n false → is_runnable p (Step s words ∷ h) s ≡ not (step_keeps p h s (asked_by p s words (world p h)))
 step_runs p h s words n open' may =
-    let paused = keeps p h s (asked_by p s words (world p h)) in
+    let paused = step_keeps p h s (asked_by p s words (world p h)) in
     let first = (step_goes_on p h s words n paused refl may).first (step_open p h s words ∙ open'.stays) in
     ap (λ (o : Option ℕ). is_some o && not (is_blocked s (left_of p (Step s words ∷ h) s) (pending_in p (Step s words ∷ h)))) first ∙ ap not (step_blocked p h s words n open'.stays may)

@@ -9,7 +9,7 @@ use Rattle.stream_state.specs.declared.effect.Effect.{Effect}
 use Rattle.stream_state.specs.declared.effect.Effect.TheVariants.{Nothing, Token, Release, Wait, WaitName, Pixels, Results}
 use Rattle.gpu_journal.specs.declared.event.Event.{Event}
 use Rattle.gpu_journal.specs.declared.event.Event.TheVariants.{Order, Step, Finish, Lost, Close}
-use Rattle.gpu_journal.specs.World.{Known, World, world, stream_in, asked_by, with_token, known, known_after}
+use Rattle.gpu_journal.specs.World.{Known, World, world, stream_in, asked_by, tokens_after, known, known_after}
 use Rattle.gpu_journal.specs.Facts.{reach}
 use Rattle.gpu_journal.proofs.Worlds.{world_none}
 use Rattle.serial_laws.proofs.Others.{known_own, known_other}
@@ -19,7 +19,7 @@ abbrev pub HasToken : List ℕ → Type 0
 HasToken [] = ⊥
 HasToken (token ∷ tokens) = Unit {0}
 
-has_more : (effect : Effect) (tokens : List ℕ) → HasToken tokens → HasToken (with_token effect tokens)
+has_more : (effect : Effect) (tokens : List ℕ) → HasToken tokens → HasToken (tokens_after effect tokens)
 has_more Nothing tokens some = some
 has_more (Token token) tokens some = tt
 has_more (Release r) tokens some = some

@@ -11,9 +11,9 @@ use Rattle.gpu_journal.specs.Facts.{reach}
 use Rattle.gpu_journal.specs.Legal.{MayClose}
 
 -- the event is a loss as out of memory
-abbrev pub wants_memory : Event → Bool
-wants_memory (Lost s Memory words) = true
-wants_memory _ = false
+abbrev pub is_memory_loss : Event → Bool
+is_memory_loss (Lost s Memory words) = true
+is_memory_loss _ = false
 
 -- no stream has an unprocessed number
 abbrev pub IsIdle : PlansData → List Event → Type 0

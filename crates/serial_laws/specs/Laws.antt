@@ -7,7 +7,7 @@ use Rattle.gpu_journal.specs.Legal.{IsLegal}
 use Rattle.gpu_journal.specs.Complete.{IsComplete}
 use Rattle.gpu_journal.specs.Serial.{next, IsPlayed, IsSerial, most_events, serial}
 use Rattle.serial_laws.specs.Scripts.{AreLawfulPlans}
-use Rattle.serial_laws.specs.Going.{wants_memory, IsIdle, CanGoOn}
+use Rattle.serial_laws.specs.Going.{is_memory_loss, IsIdle, CanGoOn}
 
 -- what is played is legal: each event that follows obeys its rules
 abbrev pub PlayedIsLegal : Type 0
@@ -15,7 +15,7 @@ PlayedIsLegal = (p : PlansData) (h : List Event) → AreLawfulPlans p → IsPlay
 
 -- and it loses no stream as out of memory
 abbrev pub PlayedWantsNoMemory : Type 0
-PlayedWantsNoMemory = (p : PlansData) (h : List Event) → IsPlayed p h → All (λ event. wants_memory event ≡ false) h
+PlayedWantsNoMemory = (p : PlansData) (h : List Event) → IsPlayed p h → All (λ event. is_memory_loss event ≡ false) h
 
 -- after a legal history no event follows exactly where it is complete
 abbrev pub EndsWhereComplete : Type 0
@@ -43,7 +43,7 @@ SerialIsComplete = (p : PlansData) → AreLawfulPlans p → IsComplete p (serial
 
 -- and it loses no stream as out of memory
 abbrev pub SerialWantsNoMemory : Type 0
-SerialWantsNoMemory = (p : PlansData) → AreLawfulPlans p → All (λ event. wants_memory event ≡ false) (serial p)
+SerialWantsNoMemory = (p : PlansData) → AreLawfulPlans p → All (λ event. is_memory_loss event ≡ false) (serial p)
 
 -- a legal history that is not complete, and in which no number is left, can go on
 abbrev pub UnfinishedGoesOn : Type 0
@@ -51,4 +51,4 @@ UnfinishedGoesOn = (p : PlansData) (h : List Event) → AreLawfulPlans p → IsL
 
 -- after every legal history that is not complete some event is legal that is no loss as out of memory
 abbrev pub UnfinishedHasEvent : Type 0
-UnfinishedHasEvent = (p : PlansData) (h : List Event) → AreLawfulPlans p → IsLegal p h → (IsComplete p h → ⊥) → (e : Event) × (wants_memory e ≡ false) × IsLegal p (e ∷ h)
+UnfinishedHasEvent = (p : PlansData) (h : List Event) → AreLawfulPlans p → IsLegal p h → (IsComplete p h → ⊥) → (e : Event) × (is_memory_loss e ≡ false) × IsLegal p (e ∷ h)

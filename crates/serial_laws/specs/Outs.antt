@@ -14,7 +14,7 @@ use Rattle.gpu_journal.specs.Waits.{standing_of, drawn, IsOpen}
 use Rattle.gpu_journal.specs.Legal.{IsLegal}
 use Rattle.gpu_journal.specs.Serial.{is_runnable, choice}
 use Rattle.serial_laws.specs.Scripts.{AreLawfulPlans}
-use Rattle.serial_laws.specs.Runs.{MayGoOn, keeps}
+use Rattle.serial_laws.specs.Runs.{MayGoOn, step_keeps}
 use Rattle.serial_laws.specs.Needs.{need, needs}
 use Rattle.serial_laws.specs.Choosing.{choice_at_home, AreSeats, IsCoreOf}
 
@@ -30,11 +30,11 @@ OrderGoesOn = (p : PlansData) (h : List Event) (s m c n : ℕ) (paused : Bool) �
 
 -- a step of the run pauses it exactly where the step's wait is kept
 abbrev pub StepGoesOn : Type 0
-StepGoesOn = (p : PlansData) (h : List Event) (s : ℕ) (words : List (ℕ × ℕ)) (n : ℕ) (paused : Bool) → paused ≡ keeps p h s (asked_by p s words (world p h)) → MayGoOn p h s n false → MayGoOn p (Step s words ∷ h) s n paused
+StepGoesOn = (p : PlansData) (h : List Event) (s : ℕ) (words : List (ℕ × ℕ)) (n : ℕ) (paused : Bool) → paused ≡ step_keeps p h s (asked_by p s words (world p h)) → MayGoOn p h s n false → MayGoOn p (Step s words ∷ h) s n paused
 
 -- after a step of a run its stream can run, unless the step's wait was kept
 abbrev pub StepRuns : Type 0
-StepRuns = (p : PlansData) (h : List Event) (s : ℕ) (words : List (ℕ × ℕ)) (n : ℕ) → IsOpen p h s → MayGoOn p h s n false → is_runnable p (Step s words ∷ h) s ≡ not (keeps p h s (asked_by p s words (world p h)))
+StepRuns = (p : PlansData) (h : List Event) (s : ℕ) (words : List (ℕ × ℕ)) (n : ℕ) → IsOpen p h s → MayGoOn p h s n false → is_runnable p (Step s words ∷ h) s ≡ not (step_keeps p h s (asked_by p s words (world p h)))
 
 -- an event changes the need of its own stream alone
 abbrev pub NeedsOfOne : Type 0
@@ -70,4 +70,4 @@ NoneAtHome = (p : PlansData) (h : List Event) (at_home : ℕ → Bool) → (choi
 
 -- the choice of the scheduler, over the seats of the streams and the core of the history, is this one
 abbrev pub SchedulerChooses : Type 0
-SchedulerChooses = (p : PlansData) (h : List Event) (at_home : ℕ → Bool) (row : List Seat) (core : Core) → AreSeats p at_home row → IsCoreOf p h core → seats.choice row core ≡ choice_at_home p h at_home
+SchedulerChooses = (p : PlansData) (h : List Event) (at_home : ℕ → Bool) (row : List Seat) (core : Core) → AreSeats p at_home row → IsCoreOf p h core → seats.least_runnable row core ≡ choice_at_home p h at_home

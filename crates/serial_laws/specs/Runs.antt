@@ -19,7 +19,7 @@ abbrev pub MayGoOn : PlansData → List Event → ℕ → ℕ → Bool → Type 
 MayGoOn p h s n paused = GoesOn (length p.plans) (sync_of p h) s n paused
 
 -- a step of stream s with this effect waits, and its wait is kept
-abbrev pub keeps : PlansData → List Event → ℕ → Effect → Bool
-keeps p h s (Wait stream release) = is_kept (length p.plans) (standing_of p h) s (front p h s) stream release
-keeps p h s (WaitName name release) = is_kept (length p.plans) (standing_of p h) s (front p h s) (number_of p.plans name) release
-keeps p h s _ = false
+abbrev pub step_keeps : PlansData → List Event → ℕ → Effect → Bool
+step_keeps p h s (Wait stream release) = is_kept (length p.plans) (standing_of p h) s (front p h s) stream release
+step_keeps p h s (WaitName name release) = is_kept (length p.plans) (standing_of p h) s (front p h s) (number_of p.plans name) release
+step_keeps p h s _ = false

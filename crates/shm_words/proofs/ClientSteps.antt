@@ -17,8 +17,8 @@ use Rattle.gpu_plan.specs.Passes.{flushes, passes_behind, passes_if_there, passe
 use Rattle.gpu_plan.proofs.Holding.{value_one_further}
 use Rattle.gpu_plan.proofs.Passing.{bound_one_further}
 use Rattle.shm_words.specs.declared.view.ClientView.{ClientView}
-use Rattle.shm_words.specs.Views.{Sat, client_of, next_of, flushes_of, is_enough, reach_of, counted, flushed, loaded, stores_data, stores_mark, loads_finish, loads_token}
-use Rattle.shm_words.specs.Rule.{Words, InUse, Keeps}
+use Rattle.shm_words.specs.Views.{WordSeat, client_of, client_next, flushes_of, is_enough, reach_of, one_done, flush_done, loaded, stores_data, stores_mark, loads_finish, loads_token}
+use Rattle.shm_words.specs.Rule.{WordState, InUse, KeepsWords}
 use Rattle.shm_words.specs.Seen.{IsClient}
 use Rattle.shm_words.specs.Acts.{is_await}
 use Rattle.shm_words.proofs.Seats.{ClientMoves, client_step}
@@ -31,7 +31,7 @@ placed p ws place val k i in_words next was = dite (ℕ_discrete place i)
     (λ ne. get_or-set_other ws (3 + place) (3 + i) val 0 (λ e. ne (omega arith)) ∙ was ∙ sym (value_one_further p.actions k i (Put place val) next ∙ ap (λ (b : Bool). cond b val (value_at p.actions k i)) (ne_eqb place i ne)))
 
 -- the client's next action, where it passes, lies below its bound
-below : (p : PlanData) (s : Words) (run : InUse p s) (a : Action) → slice_get p.actions run.client.done ≡ Some a → passes_behind (flushes (take run.client.done p.actions)) run.service.finished (run.service.greatest ∷ []) a ≡ true → run.client.done + 1 ≤ reach_of run.service
+below : (p : PlanData) (s : WordState) (run : InUse p s) (a : Action) → slice_get p.actions run.client.done ≡ Some a → passes_behind (flushes (take run.client.done p.actions)) run.service.finished (run.service.greatest ∷ []) a ≡ true → run.client.done + 1 ≤ reach_of run.service
 below p s run a next through =
     let k = run.client.done in
     let g = run.service.finished in
@@ -40,10 +40,10 @@ below p s run a next through =
     bound_one_further run.service.plan.actions k g tokens run.bounded here
 
 -- what is next for the client's view is next in the plan
-next_in : (p : PlanData) (s : Words) (run : InUse p s) (c : ClientView) (a : Action) → c ≡ run.client → next_of c ≡ Some a → slice_get p.actions run.client.done ≡ Some a
-next_in p s run c a same next = subst (λ (q : PlanData). slice_get q.actions run.client.done ≡ Some a) run.client_plan (subst (λ (k : ClientView). next_of k ≡ Some a) same next)
+next_in : (p : PlanData) (s : WordState) (run : InUse p s) (c : ClientView) (a : Action) → c ≡ run.client → client_next c ≡ Some a → slice_get p.actions run.client.done ≡ Some a
+next_in p s run c a same next = subst (λ (q : PlanData). slice_get q.actions run.client.done ≡ Some a) run.client_plan (subst (λ (k : ClientView). client_next k ≡ Some a) same next)
 
-data_moves : (p : PlanData) (s : Words) (run : InUse p s) (place val : ℕ) → slice_get p.actions run.client.done ≡ Some (Put place val) → place < places_of p.areas → ClientMoves p s run.service (set s.words (3 + place) val) (counted run.client)
+data_moves : (p : PlanData) (s : WordState) (run : InUse p s) (place val : ℕ) → slice_get p.actions run.client.done ≡ Some (Put place val) → place < places_of p.areas → ClientMoves p s run.service (set s.words (3 + place) val) (one_done run.client)
 data_moves p s run place val next within =
     let wide = run.wide in
     let in_words : 3 + place < length s.words = omega arith in
@@ -60,14 +60,14 @@ data_moves p s run place val next within =
     }
 
 -- kind 1: the client stores the value of a put
-pub stores : (p : PlanData) (slots id : ℕ) (me : Sat) (place val : ℕ) → IsClient me → next_of (client_of me.0) ≡ Some (Put place val) → place < places_of (client_of me.0).plan.areas
-    → Allows (Keeps p) slots id me (3 + place) (λ _. val) (λ _. stores_data (step slots (3 + place) val 0 none) me val)
-stores p slots id me place val is next within = client_step p slots id me (3 + place) (λ _. val) (λ _ c. counted c) (λ _. stores_data (step slots (3 + place) val 0 none) me val) is
+pub stores : (p : PlanData) (slots id : ℕ) (me : WordSeat) (place val : ℕ) → IsClient me → client_next (client_of me.0) ≡ Some (Put place val) → place < places_of (client_of me.0).plan.areas
+    → Allows (KeepsWords p) slots id me (3 + place) (λ _. val) (λ _. stores_data (step slots (3 + place) val 0 none) me val)
+stores p slots id me place val is next within = client_step p slots id me (3 + place) (λ _. val) (λ _ c. one_done c) (λ _. stores_data (step slots (3 + place) val 0 none) me val) is
     (λ s run same. data_moves p s run place val (next_in p s run (client_of me.0) (Put place val) same next)
     (subst (λ (q : PlanData). place < places_of q.areas) run.client_plan (subst (λ (k : ClientView). place < places_of k.plan.areas) same within)))
     (λ _. refl)
 
-mark_moves : (p : PlanData) (s : Words) (run : InUse p s) (put : ℕ) (fences : List (ℕ × ℕ)) (val : ℕ) → slice_get p.actions run.client.done ≡ Some (Flush put fences) → val ≡ run.client.done + 1 → ClientMoves p s run.service (set s.words 0 val) (flushed run.client)
+mark_moves : (p : PlanData) (s : WordState) (run : InUse p s) (put : ℕ) (fences : List (ℕ × ℕ)) (val : ℕ) → slice_get p.actions run.client.done ≡ Some (Flush put fences) → val ≡ run.client.done + 1 → ClientMoves p s run.service (set s.words 0 val) (flush_done run.client)
 mark_moves p s run put fences val next is =
     let wide = run.wide in
     let stored : get_or (set s.words 0 val) 0 0 ≡ val = get_or-set_same s.words 0 val 0 (omega arith) in record {
@@ -83,9 +83,9 @@ mark_moves p s run put fences val next is =
     }
 
 -- kind 2: the client stores the mark of a flush
-pub marks : (p : PlanData) (slots id : ℕ) (me : Sat) (put : ℕ) (fences : List (ℕ × ℕ)) (val : ℕ) → IsClient me → next_of (client_of me.0) ≡ Some (Flush put fences) → val ≡ (client_of me.0).done + 1
-    → Allows (Keeps p) slots id me 0 (λ _. val) (λ _. stores_mark (step slots 0 val 0 none) me val)
-marks p slots id me put fences val is next mark = client_step p slots id me 0 (λ _. val) (λ _ c. flushed c) (λ _. stores_mark (step slots 0 val 0 none) me val) is
+pub marks : (p : PlanData) (slots id : ℕ) (me : WordSeat) (put : ℕ) (fences : List (ℕ × ℕ)) (val : ℕ) → IsClient me → client_next (client_of me.0) ≡ Some (Flush put fences) → val ≡ (client_of me.0).done + 1
+    → Allows (KeepsWords p) slots id me 0 (λ _. val) (λ _. stores_mark (step slots 0 val 0 none) me val)
+marks p slots id me put fences val is next mark = client_step p slots id me 0 (λ _. val) (λ _ c. flush_done c) (λ _. stores_mark (step slots 0 val 0 none) me val) is
     (λ s run same. mark_moves p s run put fences val (next_in p s run (client_of me.0) (Flush put fences) same next) (mark ∙ ap (λ (k : ClientView). k.done + 1) same))
     (λ _. refl)
 
@@ -108,7 +108,7 @@ token_is_enough : (f g token x : ℕ) → nat_le token x ≡ true → passes_beh
 token_is_enough f g token x h = ap (λ (b : Bool). nat_le f g || (b || false)) h ∙ or-true (nat_le f g)
 
 -- the client loads a word
-load_moves : (p : PlanData) (s : Words) (run : InUse p s) (a : Action) (word r : ℕ) (b : Bool) → slice_get p.actions run.client.done ≡ Some a → is_await a ≡ true
+load_moves : (p : PlanData) (s : WordState) (run : InUse p s) (a : Action) (word r : ℕ) (b : Bool) → slice_get p.actions run.client.done ≡ Some a → is_await a ≡ true
     → (b ≡ true → passes_behind (flushes (take run.client.done p.actions)) run.service.finished (run.service.greatest ∷ []) a ≡ true) → ClientMoves p s run.service s.words (loaded b word r run.client)
 load_moves p s run a word r true next awaits through = record {
   plan = run.client_plan;
@@ -135,8 +135,8 @@ load_moves p s run a word r false next awaits through =
     }
 
 -- kind 3: the client loads the finish word
-pub loads : (p : PlanData) (slots id : ℕ) (me : Sat) (a : Action) → IsClient me → next_of (client_of me.0) ≡ Some a → is_await a ≡ true
-    → Allows (Keeps p) slots id me 1 (λ n. n) (loads_finish (step slots 1 0 0 none) me)
+pub loads : (p : PlanData) (slots id : ℕ) (me : WordSeat) (a : Action) → IsClient me → client_next (client_of me.0) ≡ Some a → is_await a ≡ true
+    → Allows (KeepsWords p) slots id me 1 (λ n. n) (loads_finish (step slots 1 0 0 none) me)
 loads p slots id me a is next awaits = client_step p slots id me 1 (λ n. n) (λ r c. loaded (nat_le (flushes_of c) r) 1 r c) (loads_finish (step slots 1 0 0 none) me) is
     (λ s run same. subst (λ (ws : List ℕ). ClientMoves p s run.service ws (loaded (nat_le (flushes_of run.client) (get_or s.words 1 0)) 1 (get_or s.words 1 0) run.client)) (sym (set-get_or s.words 1 0))
     (load_moves p s run a 1 (get_or s.words 1 0) (nat_le (flushes_of run.client) (get_or s.words 1 0)) (next_in p s run (client_of me.0) a same next) awaits
@@ -145,13 +145,13 @@ loads p slots id me a is next awaits = client_step p slots id me 1 (λ n. n) (λ
     (λ _. refl)
 
 -- kind 9: the client loads the token word
-pub loads_a_token : (p : PlanData) (slots id : ℕ) (me : Sat) (token : ℕ) → IsClient me → next_of (client_of me.0) ≡ Some (Token token)
-    → Allows (Keeps p) slots id me 2 (λ n. n) (loads_token (step slots 2 0 0 none) me)
-loads_a_token p slots id me token is next = client_step p slots id me 2 (λ n. n) (λ r c. loaded (is_enough (next_of c) r) 2 r c) (loads_token (step slots 2 0 0 none) me) is
+pub loads_a_token : (p : PlanData) (slots id : ℕ) (me : WordSeat) (token : ℕ) → IsClient me → client_next (client_of me.0) ≡ Some (Token token)
+    → Allows (KeepsWords p) slots id me 2 (λ n. n) (loads_token (step slots 2 0 0 none) me)
+loads_a_token p slots id me token is next = client_step p slots id me 2 (λ n. n) (λ r c. loaded (is_enough (client_next c) r) 2 r c) (loads_token (step slots 2 0 0 none) me) is
     (λ s run same.
-    let here : next_of run.client ≡ Some (Token token) = subst (λ (k : ClientView). next_of k ≡ Some (Token token)) same next in
-    subst (λ (ws : List ℕ). ClientMoves p s run.service ws (loaded (is_enough (next_of run.client) (get_or s.words 2 0)) 2 (get_or s.words 2 0) run.client)) (sym (set-get_or s.words 2 0))
-    (load_moves p s run (Token token) 2 (get_or s.words 2 0) (is_enough (next_of run.client) (get_or s.words 2 0)) (next_in p s run (client_of me.0) (Token token) same next) refl
+    let here : client_next run.client ≡ Some (Token token) = subst (λ (k : ClientView). client_next k ≡ Some (Token token)) same next in
+    subst (λ (ws : List ℕ). ClientMoves p s run.service ws (loaded (is_enough (client_next run.client) (get_or s.words 2 0)) 2 (get_or s.words 2 0) run.client)) (sym (set-get_or s.words 2 0))
+    (load_moves p s run (Token token) 2 (get_or s.words 2 0) (is_enough (client_next run.client) (get_or s.words 2 0)) (next_in p s run (client_of me.0) (Token token) same next) refl
     (λ enough. token_is_enough (flushes (take run.client.done p.actions)) run.service.finished token run.service.greatest
     (ap (nat_le token) (sym run.token_word) ∙ ap (λ (o : Option Action). is_enough o (get_or s.words 2 0)) (sym here) ∙ enough))))
     (λ _. refl)

@@ -12,12 +12,12 @@ use Rattle.gpu_plan.specs.Passes.{flushes, flush_count}
 use Rattle.gpu_plan.proofs.Passing.{flushes_one_further}
 use Rattle.shm_words.specs.declared.view.ClientView.{ClientView}
 use Rattle.shm_words.specs.declared.view.View.TheVariants.{Client}
-use Rattle.shm_words.specs.Views.{Sat, client_of, next_of, flushes_of}
+use Rattle.shm_words.specs.Views.{WordSeat, client_of, client_next, flushes_of}
 use Rattle.shm_words.specs.Seen.{ClientKeeps, IsClient}
 use Rattle.shm_words.specs.Acts.{is_await}
 
-pub client_still : (m m' : Sat) (c : ClientView) → IsClient m → m' ≡ (Client c, m.1) → IsClient m'
-client_still m m' c was is = let c_is : client_of m'.0 ≡ c = ap (λ (x : Sat). client_of x.0) is in is ∙ (λ i. (Client (sym c_is i), (was i).1))
+pub client_still : (m m' : WordSeat) (c : ClientView) → IsClient m → m' ≡ (Client c, m.1) → IsClient m'
+client_still m m' c was is = let c_is : client_of m'.0 ≡ c = ap (λ (x : WordSeat). client_of x.0) is in is ∙ (λ i. (Client (sym c_is i), (was i).1))
 
 -- an await is no flush
 pub await_counts : (a : Action) → is_await a ≡ true → flush_count a ≡ 0
@@ -27,18 +27,18 @@ await_counts Finish e = refl
 await_counts (Token token) e = refl
 await_counts Close e = refl
 
-module _ (plan : PlanData) (done f : ℕ) (t : TableId) (m : Sat) (kept : ClientKeeps plan done f t m) where
-  pub next_there : (a : Action) → slice_get plan.actions done ≡ Some a → next_of (client_of m.0) ≡ Some a
+module _ (plan : PlanData) (done f : ℕ) (t : TableId) (m : WordSeat) (kept : ClientKeeps plan done f t m) where
+  pub next_there : (a : Action) → slice_get plan.actions done ≡ Some a → client_next (client_of m.0) ≡ Some a
   next_there a next = (λ i. slice_get (kept.plan_is i).actions (kept.done_is i)) ∙ next
 
   pub before_there : flushes_of (client_of m.0) ≡ f
   before_there = (λ i. flushes (take (kept.done_is i) (kept.plan_is i).actions)) ∙ sym kept.before_is
 
   -- one action more is done
-  pub moved : (a : Action) (f' : ℕ) (t' : TableId) (m' : Sat) (c : ClientView) → slice_get plan.actions done ≡ Some a → f' ≡ f + flush_count a → t' ≡ t → m' ≡ (Client c, m.1) → c.plan ≡ (client_of m.0).plan → c.done ≡ (client_of m.0).done + 1
+  pub moved : (a : Action) (f' : ℕ) (t' : TableId) (m' : WordSeat) (c : ClientView) → slice_get plan.actions done ≡ Some a → f' ≡ f + flush_count a → t' ≡ t → m' ≡ (Client c, m.1) → c.plan ≡ (client_of m.0).plan → c.done ≡ (client_of m.0).done + 1
       → ClientKeeps plan (done + 1) f' t' m'
   moved a f' t' m' c next count same is same_plan one_more =
-      let c_is : client_of m'.0 ≡ c = ap (λ (x : Sat). client_of x.0) is in
+      let c_is : client_of m'.0 ≡ c = ap (λ (x : WordSeat). client_of x.0) is in
       let inside = slice_get_within plan.actions done a next in record {
         is = client_still m m' c kept.is is;
         plan_is = ap (λ (x : ClientView). x.plan) c_is ∙ same_plan ∙ kept.plan_is;

@@ -13,20 +13,20 @@ use Rattle.shm_words.specs.declared.view.ClientView.{ClientView}
 use Rattle.shm_words.specs.declared.view.ServiceView.{ServiceView}
 use Rattle.shm_words.specs.declared.view.View.{View}
 use Rattle.shm_words.specs.declared.view.View.TheVariants.{Whole, Client, Service, Note, Spent}
-use Rattle.shm_words.specs.Views.{client_of, service_of, Sat, reach_of}
+use Rattle.shm_words.specs.Views.{client_of, service_of, WordSeat, reach_of}
 use Rattle.shm_words.specs.Seen.{IsClient, IsService}
 use Rattle.atomic_table.specs.Table.{keeps, Allows}
-use Rattle.shm_words.specs.Rule.{Words, IsStoredNote, Fresh, InUse, Keeps}
+use Rattle.shm_words.specs.Rule.{WordState, IsStoredNote, Fresh, InUse, KeepsWords}
 
 -- in a table as it is made, the one view is the whole
 lone : (p : PlanData) (id : ℕ) (v : View) → get_elem? (Whole p ∷ []) id ≡ some v → v ≡ Whole p
 lone p zero v e = sym (some-injective _ _ e)
 lone p (suc id) v e = absurd (some-ne-none v (sym e))
 
-pub not_fresh : (p : PlanData) (s : Words) (id : ℕ) (v : View) → Fresh p s → get_elem? s.views id ≡ some v → v ≡ Whole p
+pub not_fresh : (p : PlanData) (s : WordState) (id : ℕ) (v : View) → Fresh p s → get_elem? s.views id ≡ some v → v ≡ Whole p
 not_fresh p s id v fresh at = lone p id v (subst (λ (l : List View). get_elem? l id ≡ some v) fresh.alone at)
 
-module _ (p : PlanData) (s : Words) (run : InUse p s) where
+module _ (p : PlanData) (s : WordState) (run : InUse p s) where
   pub client_is : (id : ℕ) (c : ClientView) → get_elem? s.views id ≡ some (Client c) → (id ≡ run.client_seat) × (c ≡ run.client)
   client_is id c at = dite (ℕ_discrete id run.client_seat)
       (λ e. let same : Client c ≡ Client run.client = some-injective _ _ (sym at ∙ ap (get_elem? s.views) e ∙ run.client_there) in let is : c ≡ run.client = cc in (e, is))
@@ -52,7 +52,7 @@ note_grows m n (Client c) h b = b
 note_grows m n (Service v) h b = b
 
 -- the client's new view and the words are as the rule wants
-pub record ClientMoves (p : PlanData) (s : Words) (v : ServiceView) (ws : List ℕ) (c : ClientView) : Type 0 where
+pub record ClientMoves (p : PlanData) (s : WordState) (v : ServiceView) (ws : List ℕ) (c : ClientView) : Type 0 where
   pub plan : c.plan ≡ p
   pub wide : length ws ≡ length s.words
   pub values : (i : ℕ) → i < places_of p.areas → get_or ws (3 + i) 0 ≡ value_at p.actions c.done i
@@ -63,7 +63,7 @@ pub record ClientMoves (p : PlanData) (s : Words) (v : ServiceView) (ws : List �
   pub token_word : get_or ws 2 0 ≡ get_or s.words 2 0
   pub bounded : c.done ≤ reach_of v
 
-pub client_moves : (p : PlanData) (s : Words) (run : InUse p s) (id : ℕ) (ws : List ℕ) (c : ClientView) → id ≡ run.client_seat → ClientMoves p s run.service ws c → InUse p (record { words = ws; homes = s.homes; views = set s.views id (Client c) })
+pub client_moves : (p : PlanData) (s : WordState) (run : InUse p s) (id : ℕ) (ws : List ℕ) (c : ClientView) → id ≡ run.client_seat → ClientMoves p s run.service ws c → InUse p (record { words = ws; homes = s.homes; views = set s.views id (Client c) })
 client_moves p s run id ws c is m = record {
   client_seat = run.client_seat;
   service_seat = run.service_seat;
@@ -85,7 +85,7 @@ client_moves p s run id ws c is m = record {
 }
 
 -- the service's new view and the words are as the rule wants
-pub record ServiceMoves (p : PlanData) (s : Words) (k : ClientView) (ws : List ℕ) (v : ServiceView) : Type 0 where
+pub record ServiceMoves (p : PlanData) (s : WordState) (k : ClientView) (ws : List ℕ) (v : ServiceView) : Type 0 where
   pub plan : v.plan ≡ p
   pub wide : length ws ≡ length s.words
   pub values : (i : ℕ) → get_or ws (3 + i) 0 ≡ get_or s.words (3 + i) 0
@@ -95,7 +95,7 @@ pub record ServiceMoves (p : PlanData) (s : Words) (k : ClientView) (ws : List �
   pub token_word : get_or ws 2 0 ≡ v.greatest
   pub bounded : k.done ≤ reach_of v
 
-pub service_moves : (p : PlanData) (s : Words) (run : InUse p s) (id : ℕ) (ws : List ℕ) (v : ServiceView) → id ≡ run.service_seat → ServiceMoves p s run.client ws v → InUse p (record { words = ws; homes = s.homes; views = set s.views id (Service v) })
+pub service_moves : (p : PlanData) (s : WordState) (run : InUse p s) (id : ℕ) (ws : List ℕ) (v : ServiceView) → id ≡ run.service_seat → ServiceMoves p s run.client ws v → InUse p (record { words = ws; homes = s.homes; views = set s.views id (Service v) })
 service_moves p s run id ws v is m = record {
   client_seat = run.client_seat;
   service_seat = run.service_seat;
@@ -117,14 +117,14 @@ service_moves p s run id ws v is m = record {
 }
 
 -- a step of the client on the word i, which becomes f of what it was
-pub client_step : (p : PlanData) (slots id : ℕ) (me : Sat) (i : ℕ) (f : ℕ → ℕ) (g : ℕ → ClientView → ClientView) (then : ℕ → Sat → Type 0) → IsClient me
-    → ((s : Words) (run : InUse p s) → client_of me.0 ≡ run.client → ClientMoves p s run.service (set s.words i (f (get_or s.words i 0))) (g (get_or s.words i 0) run.client))
+pub client_step : (p : PlanData) (slots id : ℕ) (me : WordSeat) (i : ℕ) (f : ℕ → ℕ) (g : ℕ → ClientView → ClientView) (then : ℕ → WordSeat → Type 0) → IsClient me
+    → ((s : WordState) (run : InUse p s) → client_of me.0 ≡ run.client → ClientMoves p s run.service (set s.words i (f (get_or s.words i 0))) (g (get_or s.words i 0) run.client))
     → ((r : ℕ) → then r (Client (g r (client_of me.0)), me.1))
-    → Allows (Keeps p) slots id me i f then
+    → Allows (KeepsWords p) slots id me i f then
 client_step p slots id me i f g then is moves tells s kept _ at _ =
     let c : ClientView = client_of me.0 in
     let r : ℕ = get_or s.words i 0 in
-    let at' : get_elem? s.views id ≡ some (Client c) = at ∙ ap (λ (m : Sat). some m.0) is in
+    let at' : get_elem? s.views id ≡ some (Client c) = at ∙ ap (λ (m : WordSeat). some m.0) is in
     ⊎_elim
     (λ (fresh : Fresh p s). let no : Client c ≡ Whole p = not_fresh p s id (Client c) fresh at' in absurd (cc))
     (λ (run : InUse p s).
@@ -134,14 +134,14 @@ client_step p slots id me i f g then is moves tells s kept _ at _ =
     kept
 
 -- the same of the service
-pub service_step : (p : PlanData) (slots id : ℕ) (me : Sat) (i : ℕ) (f : ℕ → ℕ) (g : ℕ → ServiceView → ServiceView) (then : ℕ → Sat → Type 0) → IsService me
-    → ((s : Words) (run : InUse p s) → service_of me.0 ≡ run.service → ServiceMoves p s run.client (set s.words i (f (get_or s.words i 0))) (g (get_or s.words i 0) run.service))
-    → ((s : Words) (run : InUse p s) → service_of me.0 ≡ run.service → then (get_or s.words i 0) (Service (g (get_or s.words i 0) (service_of me.0)), me.1))
-    → Allows (Keeps p) slots id me i f then
+pub service_step : (p : PlanData) (slots id : ℕ) (me : WordSeat) (i : ℕ) (f : ℕ → ℕ) (g : ℕ → ServiceView → ServiceView) (then : ℕ → WordSeat → Type 0) → IsService me
+    → ((s : WordState) (run : InUse p s) → service_of me.0 ≡ run.service → ServiceMoves p s run.client (set s.words i (f (get_or s.words i 0))) (g (get_or s.words i 0) run.service))
+    → ((s : WordState) (run : InUse p s) → service_of me.0 ≡ run.service → then (get_or s.words i 0) (Service (g (get_or s.words i 0) (service_of me.0)), me.1))
+    → Allows (KeepsWords p) slots id me i f then
 service_step p slots id me i f g then is moves tells s kept _ at _ =
     let v : ServiceView = service_of me.0 in
     let r : ℕ = get_or s.words i 0 in
-    let at' : get_elem? s.views id ≡ some (Service v) = at ∙ ap (λ (m : Sat). some m.0) is in
+    let at' : get_elem? s.views id ≡ some (Service v) = at ∙ ap (λ (m : WordSeat). some m.0) is in
     ⊎_elim
     (λ (fresh : Fresh p s). let no : Service v ≡ Whole p = not_fresh p s id (Service v) fresh at' in absurd (cc))
     (λ (run : InUse p s).

@@ -13,8 +13,8 @@ use Rattle.shm_words.specs.declared.view.View.TheVariants.{Whole, Client, Servic
 use Rattle.shm_words.specs.Views.{reach_of}
 
 -- the words of a stream, and the views of all seats
-abbrev pub Words : Type 0
-Words = State (Unit {0}) View
+abbrev pub WordState : Type 0
+WordState = State (Unit {0}) View
 
 -- a note of a flush that is stored, or one that was met
 abbrev pub IsStoredNote : ℕ → View → Type 0
@@ -25,7 +25,7 @@ IsStoredNote stored (Client client) = ⊥
 IsStoredNote stored (Service service) = ⊥
 
 -- the words as they are made: all are 0, and one seat has the whole
-pub record Fresh (plan : PlanData) (s : Words) : Type 0 where
+pub record Fresh (plan : PlanData) (s : WordState) : Type 0 where
   pub zeros : s.words ≡ replicate (3 + places_of plan.areas) 0
   pub alone : s.views ≡ Whole plan ∷ []
 
@@ -33,7 +33,7 @@ pub record Fresh (plan : PlanData) (s : Words) : Type 0 where
 -- - each place has its value after the actions that the client has done
 -- - marks are stored before they are reported, and the other two words are the service's numbers
 -- - the client has not gone past its bound at these numbers
-pub record InUse (plan : PlanData) (s : Words) : Type 0 where
+pub record InUse (plan : PlanData) (s : WordState) : Type 0 where
   pub client_seat : ℕ
   pub service_seat : ℕ
   pub client : ClientView
@@ -53,5 +53,5 @@ pub record InUse (plan : PlanData) (s : Words) : Type 0 where
   pub bounded : client.done ≤ reach_of service
 
 -- the rule of the words
-abbrev pub Keeps : PlanData → Words → Type 0
-Keeps plan s = Fresh plan s ⊎ InUse plan s
+abbrev pub KeepsWords : PlanData → WordState → Type 0
+KeepsWords plan s = Fresh plan s ⊎ InUse plan s

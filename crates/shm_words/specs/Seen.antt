@@ -6,7 +6,7 @@ use Rattle.gpu_plan.specs.declared.plan.Action.{Action}
 use Rattle.gpu_plan.specs.Plans.{PlanData, IsLawfulPlan}
 use Rattle.gpu_plan.specs.Passes.{flushes, bound}
 use Rattle.shm_words.specs.declared.view.View.TheVariants.{Client, Service, Note}
-use Rattle.shm_words.specs.Views.{Sat, client_of, service_of, mark_of}
+use Rattle.shm_words.specs.Views.{WordSeat, client_of, service_of, note_mark}
 
 -- the words that the client steps on, its plan, the number of actions done, and the words that it has loaded, each with
 -- its value: word 1 tells the flushes finished, and word 2 the greatest token
@@ -48,41 +48,41 @@ abbrev pub flushes_before : ClientData → ℕ
 flushes_before client = flushes (take client.done client.plan.actions)
 
 -- how far the client can be, by the service's own numbers
-abbrev pub reach : ServiceData → ℕ
-reach service = bound service.plan.actions service.finished (service.greatest ∷ [])
+abbrev pub service_reach : ServiceData → ℕ
+service_reach service = bound service.plan.actions service.finished (service.greatest ∷ [])
 
 -- there are three words, and one more for each place
-abbrev pub IsWide : TableId → PlanData → Type 0
-IsWide table plan = table.words ≡ 3 + places_of plan.areas
+abbrev pub HasWordsOf : TableId → PlanData → Type 0
+HasWordsOf table plan = table.words ≡ 3 + places_of plan.areas
 
 -- the seat is a client's
-abbrev pub IsClient : Sat → Type 0
+abbrev pub IsClient : WordSeat → Type 0
 IsClient seat = seat ≡ (Client (client_of seat.0), [])
 
 -- the seat is a service's
-abbrev pub IsService : Sat → Type 0
+abbrev pub IsService : WordSeat → Type 0
 IsService seat = seat ≡ (Service (service_of seat.0), [])
 
 -- the seat is a note's
-abbrev pub IsNote : Sat → Type 0
-IsNote seat = seat ≡ (Note (mark_of seat.0), [])
+abbrev pub IsNote : WordSeat → Type 0
+IsNote seat = seat ≡ (Note (note_mark seat.0), [])
 
 -- what a client's pass keeps: its seat knows the plan and the actions done, the plan is lawful and has a word for each of
 -- its places, and the flushes done are counted
-pub record ClientKeeps (plan : PlanData) (done before : ℕ) (table : TableId) (seat : Sat) : Type 0 where
+pub record ClientKeeps (plan : PlanData) (done before : ℕ) (table : TableId) (seat : WordSeat) : Type 0 where
   pub is : IsClient seat
   pub plan_is : (client_of seat.0).plan ≡ plan
   pub done_is : (client_of seat.0).done ≡ done
-  pub wide : IsWide table plan
+  pub wide : HasWordsOf table plan
   pub lawful : IsLawfulPlan plan.areas plan.actions
   pub before_is : before ≡ flushes (take done plan.actions)
   pub within : done ≤ length plan.actions
 
 -- what a service's pass keeps: its seat knows the numbers that were published, and the plan is lawful and has a word for
 -- each of its places
-pub record ServiceKeeps (finished greatest : ℕ) (table : TableId) (seat : Sat) : Type 0 where
+pub record ServiceKeeps (finished greatest : ℕ) (table : TableId) (seat : WordSeat) : Type 0 where
   pub is : IsService seat
   pub lawful : IsLawfulPlan (service_of seat.0).plan.areas (service_of seat.0).plan.actions
-  pub wide : IsWide table (service_of seat.0).plan
+  pub wide : HasWordsOf table (service_of seat.0).plan
   pub finished_is : (service_of seat.0).finished ≡ finished
   pub greatest_is : (service_of seat.0).greatest ≡ greatest

@@ -12,8 +12,8 @@ use Rattle.shm_words.specs.declared.view.View.{View}
 use Rattle.shm_words.specs.declared.view.View.TheVariants.{Whole, Client, Service, Note, Spent}
 
 -- a seat's view; the words have no slots
-abbrev pub Sat : Type 0
-Sat = Me (Unit {0}) View
+abbrev pub WordSeat : Type 0
+WordSeat = Me (Unit {0}) View
 
 -- a client that has done nothing
 abbrev pub fresh_client : PlanData → ClientView
@@ -40,16 +40,16 @@ service_of (Note mark) = fresh_service no_plan
 service_of Spent = fresh_service no_plan
 
 -- the mark of a note's view
-abbrev pub mark_of : View → ℕ
-mark_of (Note mark) = mark
-mark_of (Whole plan) = 0
-mark_of (Client client) = 0
-mark_of (Service service) = 0
-mark_of Spent = 0
+abbrev pub note_mark : View → ℕ
+note_mark (Note mark) = mark
+note_mark (Whole plan) = 0
+note_mark (Client client) = 0
+note_mark (Service service) = 0
+note_mark Spent = 0
 
 -- the client's next action
-abbrev pub next_of : ClientView → Option Action
-next_of client = slice_get client.plan.actions client.done
+abbrev pub client_next : ClientView → Option Action
+client_next client = slice_get client.plan.actions client.done
 
 -- the flushes before the client's next action
 abbrev pub flushes_of : ClientView → ℕ
@@ -69,12 +69,12 @@ is_enough (Some (Token token)) greatest = nat_le token greatest
 is_enough (Some Close) greatest = false
 
 -- one action more is done
-abbrev pub counted : ClientView → ClientView
-counted client = record client { done = client.done + 1 }
+abbrev pub one_done : ClientView → ClientView
+one_done client = record client { done = client.done + 1 }
 
 -- and it is a flush
-abbrev pub flushed : ClientView → ClientView
-flushed client = record client { done = client.done + 1; mark = client.done + 1 }
+abbrev pub flush_done : ClientView → ClientView
+flush_done client = record client { done = client.done + 1; mark = client.done + 1 }
 
 -- a word was loaded, and one action more is done where that lets it pass
 abbrev pub loaded : Bool → ℕ → ℕ → ClientView → ClientView
@@ -97,42 +97,42 @@ abbrev pub told_token : ℕ → ServiceView → ServiceView
 told_token token service = record service { greatest = token }
 
 -- what a step tells: of the step, the seat before, the value found or stored, and the seat after
-abbrev Tells : Type 1
-Tells = Step (Unit {0}) → Sat → ℕ → Sat → Type 0
+abbrev WordTelling : Type 1
+WordTelling = Step (Unit {0}) → WordSeat → ℕ → WordSeat → Type 0
 
 -- one action more is done
-abbrev pub stores_data : Tells
-stores_data step before value after = after ≡ (Client (counted (client_of before.0)), before.1)
+abbrev pub stores_data : WordTelling
+stores_data step before value after = after ≡ (Client (one_done (client_of before.0)), before.1)
 
 -- one action more is done, and the latest mark is its own
-abbrev pub stores_mark : Tells
-stores_mark step before value after = after ≡ (Client (flushed (client_of before.0)), before.1)
+abbrev pub stores_mark : WordTelling
+stores_mark step before value after = after ≡ (Client (flush_done (client_of before.0)), before.1)
 
 -- the finish word lets an await pass where all flushes before it are finished
-abbrev pub loads_finish : Tells
+abbrev pub loads_finish : WordTelling
 loads_finish step before value after = after ≡ (Client (loaded (nat_le (flushes_of (client_of before.0)) value) step.word value (client_of before.0)), before.1)
 
 -- the token word lets an await pass where it is as great as what is awaited
-abbrev pub loads_token : Tells
-loads_token step before value after = after ≡ (Client (loaded (is_enough (next_of (client_of before.0)) value) step.word value (client_of before.0)), before.1)
+abbrev pub loads_token : WordTelling
+loads_token step before value after = after ≡ (Client (loaded (is_enough (client_next (client_of before.0)) value) step.word value (client_of before.0)), before.1)
 
 -- the latest flush met lies within the client's reach
-abbrev pub loads_mark : Tells
+abbrev pub loads_mark : WordTelling
 loads_mark step before value after = (after ≡ before) × ((service_of before.0).met ≤ reach_of (service_of before.0))
 
 -- the client may have put the value there, between the latest flush met and its reach
-abbrev pub fetches : Tells
+abbrev pub fetches : WordTelling
 fetches step before value after =
     let service : ServiceView = service_of before.0 in
     let place : ℕ = step.word - 3 in
     (after ≡ (Service (fetched_one place value service), before.1)) × MayHold service.plan.actions service.met (reach_of service) place value
 
 -- one flush more is published as finished
-abbrev pub stores_finish : Tells
+abbrev pub stores_finish : WordTelling
 stores_finish step before value after = after ≡ (Service (finished_one (service_of before.0)), before.1)
 
 -- the stored token is the greatest one published
-abbrev pub stores_token : Tells
+abbrev pub stores_token : WordTelling
 stores_token step before value after = after ≡ (Service (told_token step.first (service_of before.0)), before.1)
 
 -- the first seat becomes the client's
@@ -156,5 +156,5 @@ abbrev pub note_part : View → View
 note_part view = Note (client_of view).mark
 
 -- the service has met a note
-abbrev pub joined : View → View → View
-joined service note = Service (met_one (mark_of note) (service_of service))
+abbrev pub note_met : View → View → View
+note_met service note = Service (met_one (note_mark note) (service_of service))

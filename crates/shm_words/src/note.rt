@@ -13,11 +13,11 @@ pub struct Note {
 
 impl Model for Note {
     ghost use Rattle.shm_words.specs.Seen.{NoteData, IsNote};
-    ghost use Rattle.shm_words.specs.Views.{mark_of};
+    ghost use Rattle.shm_words.specs.Views.{note_mark};
 
     ghost Value = { NoteData };
 
-    ghost view = { λ n. record { table = n.seat.table_id; mark = mark_of n.seat.me.0 } };
+    ghost view = { λ n. record { table = n.seat.table_id; mark = note_mark n.seat.me.0 } };
 
     ghost invariant = { λ n. IsNote n.seat.me };
 }

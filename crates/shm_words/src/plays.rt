@@ -1,6 +1,6 @@
 // The kinds of step on the words, each with what it tells.
 
-ghost use Rattle.shm_words.specs.Views.{stores_data, stores_mark, loads_finish, loads_token, loads_mark, fetches, stores_finish, stores_token, client_part, service_part, note_part, joined};
+ghost use Rattle.shm_words.specs.Views.{stores_data, stores_mark, loads_finish, loads_token, loads_mark, fetches, stores_finish, stores_token, client_part, service_part, note_part, note_met};
 ghost use Rattle.shm_words.specs.declared.view.View.TheVariants.{Note, Spent};
 
 use crate::view::View;
@@ -81,7 +81,7 @@ impl Split<View> for Notes {
 }
 
 impl Join<View> for Notes {
-    ghost both = { joined };
+    ghost both = { note_met };
 
     ghost spent = { Spent };
 }

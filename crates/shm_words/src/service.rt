@@ -1,7 +1,7 @@
 ghost use Rattle.std.specs.Prelude.{◌≡◌, ◌+◌, ◌<◌, ◌≤◌, ◌^◌, max, [], ◌∷◌, ◌++◌};
 ghost use Rattle.gpu_cmd.specs.Lawful.{places_of};
 ghost use Rattle.gpu_plan.specs.MayHold.{MayHold};
-ghost use Rattle.shm_words.specs.Seen.{ServiceKeeps, reach, service_at};
+ghost use Rattle.shm_words.specs.Seen.{ServiceKeeps, service_reach, service_at};
 ghost use Rattle.shm_words.specs.Views.{service_of, fresh_service};
 
 use crate::note::Note;
@@ -60,7 +60,7 @@ impl ServicePass {
         requires note { note.table ≡ self.old.table }
 
         ensures met { self.new ≡ record self.old { met = max self.old.met note.mark } }
-        ensures bounded { self.new.met ≤ reach self.new }
+        ensures bounded { self.new.met ≤ service_reach self.new }
     {
         let shared = &words.table.shared;
         let Note { seat } = note;
@@ -76,7 +76,8 @@ impl ServicePass {
 
         ensures grows { self.new
             ≡ record self.old { fetched = self.old.fetched ++ (place, result) ∷ [] } }
-        ensures may { MayHold self.old.plan.actions self.old.met (reach self.old) place result }
+        ensures may { MayHold self.old.plan.actions self.old.met
+            (service_reach self.old) place result }
     {
         let shared = &words.table.shared;
         let found = shared.load::<Fetches>(&mut self.seat, 3 + place as usize);

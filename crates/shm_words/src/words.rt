@@ -8,10 +8,10 @@ use std::marker::Model;
 pub struct WordsRule;
 
 impl TableRule<(), View, Plan> for WordsRule {
-    ghost use Rattle.shm_words.specs.Rule.{Keeps};
+    ghost use Rattle.shm_words.specs.Rule.{KeepsWords};
     ghost use Rattle.shm_words.specs.declared.view.View.TheVariants.{Whole};
 
-    ghost holds = { Keeps };
+    ghost holds = { KeepsWords };
 
     ghost first = { Whole };
 }

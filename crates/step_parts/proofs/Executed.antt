@@ -7,7 +7,7 @@ use Rattle.stream_state.specs.declared.effect.Effect.{Effect}
 use Rattle.stream_state.specs.declared.effect.Effect.TheVariants.{Nothing, Token, Release, Wait, WaitName, Pixels, Results}
 use Rattle.stream_state.specs.State.{State, noted}
 use Rattle.sync_core.specs.Events.{Deed, SyncEvent, Waited}
-use Rattle.sync_core.specs.Events.{noted as happened}
+use Rattle.sync_core.specs.Events.{happened}
 use Rattle.sync_core.specs.Core.{StandsFor}
 use Rattle.gpu_plan.specs.Plans.{PlansData}
 use Rattle.gpu_journal.specs.World.{drawn_by}

@@ -12,11 +12,11 @@ use Rattle.stream_state.specs.Accepted.{BringsItsTexels}
 use Rattle.stream_state.specs.Told.{writes_told}
 use Rattle.stream_state.specs.Laws.{IsTaken}
 use Rattle.sync_core.specs.Standing.{IsKnown}
-use Rattle.sync_core.specs.Events.{SyncEvent, noted as happened}
-use Rattle.sync_core.specs.Core.{Core, StandsFor, left_of}
+use Rattle.sync_core.specs.Events.{SyncEvent, happened}
+use Rattle.sync_core.specs.Core.{Core, StandsFor, unprocessed_of}
 use Rattle.gpu_journal.specs.World.{drawn_by}
 use Rattle.gpu_journal.specs.Waits.{deed_asked}
-use Rattle.gpu_journal.specs.Replaying.{total, IsWithin}
+use Rattle.gpu_journal.specs.Replaying.{total_errors, IsWithinQuota}
 use Rattle.step_parts.specs.declared.acted.Acted.{Acted}
 use Rattle.step_parts.specs.declared.scene.Scene.{Scene}
 use Rattle.step_parts.specs.declared.taken.Taken.{Taken}
@@ -35,13 +35,13 @@ pub record HasPassed (taken : Taken) (state : State) : Type 0 where
   pub known : IsKnown (length taken.plans.now.plans) taken.stream
   pub accepted : IsTaken (areas_of taken) taken.words.now state
   pub command : taken.command.now ≡ command_in taken.words.now
-  pub within : IsWithin state
+  pub within : IsWithinQuota state
 
 -- and the stream has an unprocessed number
 pub record IsReady (taken : Taken) (sync : Core) (state : State) : Type 0 where
   pub passed : HasPassed taken state
   pub streams : length sync.streams ≡ length taken.plans.now.plans
-  pub front : 0 < length (left_of sync taken.stream)
+  pub front : 0 < length (unprocessed_of sync taken.stream)
 
 -- what the step of a stream's own state answers, and the state that it leaves
 pub record Asks (taken : Taken) (before after : State) (asked : Effect) : Type 0 where
@@ -50,7 +50,7 @@ pub record Asks (taken : Taken) (before after : State) (asked : Effect) : Type 0
   pub places : All (λ write. write.0 < words_in (areas_of taken).results) (writes_told asked)
   pub texels : BringsItsTexels asked
   pub state : after ≡ stepped (areas_of taken) taken.words.now before
-  pub few : total after.errors ≤ 1048576
+  pub few : total_errors after.errors ≤ 1048576
 
 -- the report of a step on these words, in this state of its stream and on these images, where `keeps` says which waits
 -- are kept:

@@ -2,7 +2,7 @@
 ghost use Rattle.std.specs.Prelude.{◌≡◌, length, IfOk, OnErr, IsErr, IsTrue, List};
 ghost use Rattle.stream_state.specs.Accepted.{BringsItsTexels};
 ghost use Rattle.sync_core.specs.Standing.{IsKnown};
-ghost use Rattle.sync_core.specs.Events.{SyncEvent, noted as happened};
+ghost use Rattle.sync_core.specs.Events.{SyncEvent, happened};
 ghost use Rattle.sync_core.specs.Core.{StandsFor};
 ghost use Rattle.gpu_plan.specs.Plans.{PlansData};
 ghost use Rattle.gpu_journal.specs.World.{drawn_by};

@@ -20,7 +20,7 @@ use Rattle.gpu_cmd.specs.declared.shape.Shape.{Shape}
 use Rattle.gpu_cmd.specs.declared.decoded.Decoded.{Decoded}
 use Rattle.gpu_cmd.specs.Lawful.{IsLawfulFacts, room}
 use Rattle.gpu_word.specs.Outcome.{◌>>=◌, unless, or_error}
-use Rattle.gpu_cmd.specs.Table.{Row, row_of, fits, ring_words_of, argument, said_by, command_said}
+use Rattle.gpu_cmd.specs.Table.{Row, row_of, fits, ring_words_of, argument, command_by_row, command_said}
 use Rattle.gpu_cmd.specs.Ranges.{transfer_places}
 use Rattle.gpu_cmd.specs.Checks.{headed, checked, decoded, has_format, has_slot, has_data, has_aligned_results, has_arguments, has_memories, is_within_quota}
 use Rattle.gpu_cmd.specs.Copied.{copied, fetched_places, judged, places_headed, places_decoded, ring_places, value_in, places_listed, IsCopy}
@@ -209,7 +209,7 @@ front_first [] ys h = absurd (omega arith)
 front_first (x ∷ xs) ys h = refl
 
 -- what ring words say by a row is the command by it
-said_fitting : (row : Option Row) (ring : List ℕ) → IsSomeAnd row (λ row. IsTrue (fits row (length ring))) → said_by row ring ≡ Some (command_by row ring)
+said_fitting : (row : Option Row) (ring : List ℕ) → IsSomeAnd row (λ row. IsTrue (fits row (length ring))) → command_by_row row ring ≡ Some (command_by row ring)
 said_fitting None ring h = absurd h
 said_fitting (Some row) ring h = by_test (fits row (length ring)) h
   where
@@ -237,7 +237,7 @@ says words facts command t =
     let same : command_by (row_of (id_of (slice_index t.ring 0))) t.ring ≡ command = sym t.passed.same ∙ t.same in
     let passed : Passed (ring_words_in words) command facts t.found = subst (λ n. Passed n command facts t.found) (sym ring) (subst (λ c. Passed (length t.ring) c facts t.found) same t.passed) in
     let said : command_said (values_of words) ≡ Some command =
-    ap (said_by (row_of (id_of (header_in words)))) front ∙ ap (λ i. said_by (row_of i) t.ring) id
+    ap (command_by_row (row_of (id_of (header_in words)))) front ∙ ap (λ i. command_by_row (row_of i) t.ring) id
     ∙ said_fitting (row_of (id_of (slice_index t.ring 0))) t.ring (subst (λ (i : ℕ). IsSomeAnd (row_of i) (λ row. IsTrue (fits row (length t.ring)))) (ap id_of (sym t.header)) t.fitting)
     ∙ ap Some same in
     let all : length words ≡ length (t.ring ++ t.transfer) = sym (length-map words (λ word. word.1)) ∙ ap length t.values in

@@ -23,7 +23,7 @@ use Rattle.gpu_cmd.specs.Table.{command_said}
 use Rattle.stream_state.specs.Steps.{values_of, header_in, ring_words_in, command_in, effect_of, acted, moved_on, effect, stepped}
 use Rattle.stream_state.specs.State.{State, IsBounded, facts_of}
 use Rattle.stream_state.specs.Verdict.{has_block, has_bytes, checked_state}
-use Rattle.stream_state.specs.Accepted.{IsAccepted, HasTransfer, HasWords}
+use Rattle.stream_state.specs.Accepted.{IsAccepted, HasTransfer, HoldItsBytes}
 use Rattle.stream_state.proofs.Accepting.{told, says}
 
 -- the words of a range hold its bytes
@@ -46,7 +46,7 @@ transfer_held areas words range others some ring h = record {
 }
 
 -- the words hold the bytes that the command reads of them
-words_held : (areas : Areas) (words : List (ℕ × ℕ)) (command : Command) → 0 < ring_words_in words → ring_words_in words + (transfer_places areas command).count ≡ length words → IsTrue (has_memories areas command) → IsTrue (has_data (ring_words_in words) command && has_aligned_results command) → HasWords words command
+words_held : (areas : Areas) (words : List (ℕ × ℕ)) (command : Command) → 0 < ring_words_in words → ring_words_in words + (transfer_places areas command).count ≡ length words → IsTrue (has_memories areas command) → IsTrue (has_data (ring_words_in words) command && has_aligned_results command) → HoldItsBytes words command
 words_held areas words (SetBucketData bucket offset size memory memory_offset) some ring memories bytes = transfer_held areas words (record { memory = memory; offset = memory_offset; bytes = size }) true some ring memories
 words_held areas words (SetBucketDataImmediate bucket offset size) some ring memories bytes =
     let fits : IsTrue (nat_le size (4 * (ring_words_in words - 4))) = (and_parts (has_data (ring_words_in words) (SetBucketDataImmediate bucket offset size)) (has_aligned_results (SetBucketDataImmediate bucket offset size)) bytes).0 in
@@ -61,7 +61,7 @@ pub record Finds (areas : Areas) (words : List (ℕ × ℕ)) (state : State) (co
   pub same : command_in words ≡ command
   pub said : command_said (values_of words) ≡ Some command
   pub sized : size ≡ size_of (header_in words)
-  pub held : HasWords words command
+  pub held : HoldItsBytes words command
   pub format : IsTrue (has_format command)
   pub slot : IsTrue (has_slot command)
   pub memories : IsTrue (has_memories areas command)

@@ -14,10 +14,10 @@ use Rattle.gpu_cmd.specs.declared.command.Command.TheVariants.{GetBucketStart, G
 use Rattle.stream_state.specs.Blocks.{bytes_in, part}
 use Rattle.gpu_store.specs.declared.op.Answer.{Answer}
 use Rattle.gpu_word.specs.Header.{size_of}
-use Rattle.stream_state.specs.Writes.{Writes, word_from, first_words, with_write, last_written, end_of, after_writes}
+use Rattle.stream_state.specs.Writes.{Writes, word_from, first_words, with_write, left_by_writes, end_of_writes, after_writes}
 use Rattle.stream_state.specs.State.{State, IsBounded, first_state, noted}
 use Rattle.stream_state.specs.Steps.{header_in, command_in, place_at, writes_of, acted, stepped, writes, token_after, release_after, buckets_after, buffers_after, results_after, Step, stream_of}
-use Rattle.stream_state.specs.Laws.{StepIsBounded, StepsMoveOn, StatesAreBounded, written, ResultsAreLastWritten, WritesRise}
+use Rattle.stream_state.specs.Laws.{StepIsBounded, StepsMoveOn, StatesAreBounded, all_written, ResultsAreLastWritten, WritesRise}
 use Rattle.stream_state.proofs.Writings.{last_past}
 use Rattle.stream_state.proofs.Finding.{finds}
 
@@ -94,36 +94,36 @@ states_are_bounded areas (step ∷ steps) lawful taken = noted_bounded step.answ
 
 -- a value after writes
 abbrev left_at : Writes → List ℕ → ℕ → ℕ
-left_at ws values k = last_written ws k (get_or values k 0)
+left_at ws values k = left_by_writes ws k (get_or values k 0)
 
-pub value_after : (ws : Writes) (values : List ℕ) (place : ℕ) → get_or (after_writes ws values) place 0 ≡ last_written ws place (get_or values place 0)
+pub value_after : (ws : Writes) (values : List ℕ) (place : ℕ) → get_or (after_writes ws values) place 0 ≡ left_by_writes ws place (get_or values place 0)
 unfolding after_writes
-value_after ws values place = ⊎_elim within behind (cases_lt place (max (length values) (end_of ws)))
+value_after ws values place = ⊎_elim within behind (cases_lt place (max (length values) (end_of_writes ws)))
   where
-    within : place < max (length values) (end_of ws) → get_or (map (left_at ws values) (range_with_len 0 (max (length values) (end_of ws)))) place 0 ≡ left_at ws values place
-    within h = get_or-map-range_with_len (left_at ws values) 0 (max (length values) (end_of ws)) place place 0 h (omega arith)
+    within : place < max (length values) (end_of_writes ws) → get_or (map (left_at ws values) (range_with_len 0 (max (length values) (end_of_writes ws)))) place 0 ≡ left_at ws values place
+    within h = get_or-map-range_with_len (left_at ws values) 0 (max (length values) (end_of_writes ws)) place place 0 h (omega arith)
 
-    behind : max (length values) (end_of ws) ≤ place → get_or (map (left_at ws values) (range_with_len 0 (max (length values) (end_of ws)))) place 0 ≡ left_at ws values place
+    behind : max (length values) (end_of_writes ws) ≤ place → get_or (map (left_at ws values) (range_with_len 0 (max (length values) (end_of_writes ws)))) place 0 ≡ left_at ws values place
     behind h =
-        get_or_past (map (left_at ws values) (range_with_len 0 (max (length values) (end_of ws)))) place 0 (omega (arith, length-map-range_with_len (left_at ws values) 0 (max (length values) (end_of ws))))
+        get_or_past (map (left_at ws values) (range_with_len 0 (max (length values) (end_of_writes ws)))) place 0 (omega (arith, length-map-range_with_len (left_at ws values) 0 (max (length values) (end_of_writes ws))))
         ∙ sym (get_or_past values place 0 (omega arith)) ∙ sym (last_past ws place (get_or values place 0) (omega arith))
 
-last_of_both : (first second : Writes) (place before : ℕ) → last_written (first ++ second) place before ≡ last_written second place (last_written first place before)
+last_of_both : (first second : Writes) (place before : ℕ) → left_by_writes (first ++ second) place before ≡ left_by_writes second place (left_by_writes first place before)
 last_of_both [] second place before = refl
 last_of_both (write ∷ first) second place before = last_of_both first second place (if write.0 == place then write.1 else before)
 
-result_after : (ws : Option Writes) (values : List ℕ) (place : ℕ) → get_or (option_map_or (λ (w : Writes). after_writes w values) ws values) place 0 ≡ last_written (unwrap_or ws []) place (get_or values place 0)
+result_after : (ws : Option Writes) (values : List ℕ) (place : ℕ) → get_or (option_map_or (λ (w : Writes). after_writes w values) ws values) place 0 ≡ left_by_writes (unwrap_or ws []) place (get_or values place 0)
 result_after None values place = refl
 result_after (Some ws) values place = value_after ws values place
 
 pub results_are_last_written : ResultsAreLastWritten
-unfolding stream_of written writes stepped acted
+unfolding stream_of all_written writes stepped acted
 results_are_last_written areas [] place = refl
 results_are_last_written areas (step ∷ steps) place =
     let before : State = stream_of areas steps in
     result_after (writes_of areas (command_in step.words) before) before.results place
-    ∙ ap (last_written (unwrap_or (writes_of areas (command_in step.words) before) []) place) (results_are_last_written areas steps place)
-    ∙ sym (last_of_both (written areas steps) (unwrap_or (writes_of areas (command_in step.words) before) []) place 0)
+    ∙ ap (left_by_writes (unwrap_or (writes_of areas (command_in step.words) before) []) place) (results_are_last_written areas steps place)
+    ∙ sym (last_of_both (all_written areas steps) (unwrap_or (writes_of areas (command_in step.words) before) []) place 0)
 
 -- ---- the writes of a step rise
 

@@ -7,22 +7,22 @@ use Rattle.std.proofs.lemmas.Bool.Decides.{nat_tests}
 use Rattle.std.proofs.lemmas.Grind.{common_steps}
 use Rattle.std.proofs.lemmas.List.{length-replicate}
 use Rattle.std.proofs.lemmas.List.FromFn.{fill_by_all}
-use Rattle.stream_state.specs.Writes.{Writes, with_write, last_written, end_of, after_writes}
+use Rattle.stream_state.specs.Writes.{Writes, with_write, left_by_writes, end_of_writes, after_writes}
 
 -- ---- values after writes
 
 -- a place after all that is written keeps its value
-pub last_past : (writes : Writes) (place before : ℕ) → end_of writes ≤ place → last_written writes place before ≡ before
+pub last_past : (writes : Writes) (place before : ℕ) → end_of_writes writes ≤ place → left_by_writes writes place before ≡ before
 last_past [] place before h = refl
 last_past (write ∷ writes) place before h =
     let other : (write.0 == place) ≡ false = grind (arith, nat_tests) in
     rw other (last_past writes place before (omega arith))
 
 -- values that are right at each place are those after the writes
-pub values_after : (writes : Writes) (old new : List ℕ) → length new ≡ length old → end_of writes ≤ length old → ((k : ℕ) → get_or new k 0 ≡ last_written writes k (get_or old k 0)) → new ≡ after_writes writes old
+pub values_after : (writes : Writes) (old new : List ℕ) → length new ≡ length old → end_of_writes writes ≤ length old → ((k : ℕ) → get_or new k 0 ≡ left_by_writes writes k (get_or old k 0)) → new ≡ after_writes writes old
 unfolding after_writes
 values_after writes old new sized room shown =
-    fill_by_all (λ place. last_written writes place (get_or old place 0)) new (max (length old) (end_of writes)) 0 (omega arith) (λ k lt. shown k)
+    fill_by_all (λ place. left_by_writes writes place (get_or old place 0)) new (max (length old) (end_of_writes writes)) 0 (omega arith) (λ k lt. shown k)
 
 map_agrees : (f g : ℕ → ℕ) (from count : ℕ) → ((k : ℕ) → f k ≡ g k) → map f (range_with_len from count) ≡ map g (range_with_len from count)
 map_agrees f g from zero same = refl
@@ -37,14 +37,14 @@ zeros_behind (value ∷ values) count zero = refl
 zeros_behind (value ∷ values) count (suc k) = zeros_behind values count k
 
 -- so the writes leave the same where the values were first made as many as they need
-pub after_growth : (writes : Writes) (values : List ℕ) → after_writes writes (values ++ replicate (end_of writes - length values) 0) ≡ after_writes writes values
+pub after_growth : (writes : Writes) (values : List ℕ) → after_writes writes (values ++ replicate (end_of_writes writes - length values) 0) ≡ after_writes writes values
 unfolding after_writes
 after_growth writes values =
-    let grown : List ℕ = values ++ replicate (end_of writes - length values) 0 in
-    let counted : max (length grown) (end_of writes) ≡ max (length values) (end_of writes) = omega (arith, length-append values (replicate (end_of writes - length values) 0), length-replicate {A = ℕ} (end_of writes - length values) 0) in
-    ap (λ n. map (λ place. last_written writes place (get_or grown place 0)) (range_with_len 0 n)) counted
-    ∙ map_agrees (λ place. last_written writes place (get_or grown place 0)) (λ place. last_written writes place (get_or values place 0)) 0 (max (length values) (end_of writes))
-    (λ k. ap (last_written writes k) (zeros_behind values (end_of writes - length values) k))
+    let grown : List ℕ = values ++ replicate (end_of_writes writes - length values) 0 in
+    let counted : max (length grown) (end_of_writes writes) ≡ max (length values) (end_of_writes writes) = omega (arith, length-append values (replicate (end_of_writes writes - length values) 0), length-replicate {A = ℕ} (end_of_writes writes - length values) 0) in
+    ap (λ n. map (λ place. left_by_writes writes place (get_or grown place 0)) (range_with_len 0 n)) counted
+    ∙ map_agrees (λ place. left_by_writes writes place (get_or grown place 0)) (λ place. left_by_writes writes place (get_or values place 0)) 0 (max (length values) (end_of_writes writes))
+    (λ k. ap (left_by_writes writes k) (zeros_behind values (end_of_writes writes - length values) k))
 
 -- the length after growth
 pub grown_enough : (end : ℕ) (values : List ℕ) → end ≤ length (values ++ replicate (end - length values) 0)
@@ -52,13 +52,13 @@ grown_enough end values = omega (arith, length-append values (replicate (end - l
 
 -- one write of those that are left is done
 pub one_done : (writes : Writes) (values : List ℕ) (i k : ℕ) (place value : ℕ) → i < length writes → get_or writes i (place, value) ≡ (place, value) → place < length values
-    → last_written (drop (suc i) writes) k (get_or (set values place value) k 0) ≡ last_written (drop i writes) k (get_or values k 0)
+    → left_by_writes (drop (suc i) writes) k (get_or (set values place value) k 0) ≡ left_by_writes (drop i writes) k (get_or values k 0)
 one_done [] values i k place value h e p = absurd (omega arith)
 one_done (write ∷ writes) values zero k place value h e p =
     let same : write ≡ (place, value) = e in
     let first : write.0 ≡ place = ap (λ w. w.0) same in
     let second : write.1 ≡ value = ap (λ w. w.1) same in
-    ap (last_written writes k) (rw first (rw second (at_place (place == k) refl)))
+    ap (left_by_writes writes k) (rw first (rw second (at_place (place == k) refl)))
   where
     at_place : (b : Bool) → (place == k) ≡ b → get_or (set values place value) k 0 ≡ (if b then value else get_or values k 0)
     at_place true here = let same : k ≡ place = grind (arith, nat_tests) in grind (arith, common_steps)
@@ -66,14 +66,14 @@ one_done (write ∷ writes) values zero k place value h e p =
 one_done (write ∷ writes) values (suc i) k place value h e p = one_done writes values i k place value (omega arith) e p
 
 -- the rest of the writes ends no later
-pub left_ends : (writes : Writes) (i : ℕ) → end_of (drop (suc i) writes) ≤ end_of (drop i writes)
+pub left_ends : (writes : Writes) (i : ℕ) → end_of_writes (drop (suc i) writes) ≤ end_of_writes (drop i writes)
 left_ends [] zero = omega arith
 left_ends [] (suc i) = omega arith
 left_ends (write ∷ writes) zero = omega arith
 left_ends (write ∷ writes) (suc i) = left_ends writes i
 
 -- the first of those that are left lies below their end
-pub next_ends : (writes : Writes) (i place value : ℕ) → i < length writes → get_or writes i (place, value) ≡ (place, value) → place < end_of (drop i writes)
+pub next_ends : (writes : Writes) (i place value : ℕ) → i < length writes → get_or writes i (place, value) ≡ (place, value) → place < end_of_writes (drop i writes)
 next_ends [] i place value h e = absurd (omega arith)
 next_ends (write ∷ writes) zero place value h e = let first : write.0 ≡ place = ap (λ w. w.0) e in omega arith
 next_ends (write ∷ writes) (suc i) place value h e = next_ends writes i place value (omega arith) e

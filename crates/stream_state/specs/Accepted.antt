@@ -27,12 +27,12 @@ pub record HasTransfer (words : List (ℕ × ℕ)) (offset count : ℕ) : Type 0
   pub enough : 0 < count → offset % 4 + count ≤ 4 * (length words - ring_words_in words)
 
 -- the words hold the bytes that the command reads of them
-abbrev pub HasWords : List (ℕ × ℕ) → Command → Type 0
-HasWords words (SetBucketData bucket offset size memory memory_offset) = HasTransfer words memory_offset size
-HasWords words (SetBucketDataImmediate bucket offset size) = size ≤ 4 * (length words - 4)
-HasWords words (UploadRect image x y w h format memory memory_offset) = HasTransfer words memory_offset (w * h * texel_bytes format)
-HasWords words (BufferData buffer offset size memory memory_offset) = HasTransfer words memory_offset size
-HasWords words _ = Unit {0}
+abbrev pub HoldItsBytes : List (ℕ × ℕ) → Command → Type 0
+HoldItsBytes words (SetBucketData bucket offset size memory memory_offset) = HasTransfer words memory_offset size
+HoldItsBytes words (SetBucketDataImmediate bucket offset size) = size ≤ 4 * (length words - 4)
+HoldItsBytes words (UploadRect image x y w h format memory memory_offset) = HasTransfer words memory_offset (w * h * texel_bytes format)
+HoldItsBytes words (BufferData buffer offset size memory memory_offset) = HasTransfer words memory_offset size
+HoldItsBytes words _ = Unit {0}
 
 -- an upload that is asked for brings as many texels as its rectangle has
 abbrev pub BringsItsTexels : Effect → Type 0

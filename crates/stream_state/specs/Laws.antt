@@ -6,7 +6,7 @@ use Rattle.gpu_word.specs.Header.{size_of}
 use Rattle.gpu_cmd.specs.declared.areas.Areas.{Areas}
 use Rattle.gpu_cmd.specs.Lawful.{IsLawfulAreas}
 use Rattle.gpu_cmd.specs.Spans.{words_in}
-use Rattle.stream_state.specs.Writes.{Writes, last_written}
+use Rattle.stream_state.specs.Writes.{Writes, left_by_writes}
 use Rattle.stream_state.specs.State.{State, IsBounded, result_of}
 use Rattle.stream_state.specs.Verdict.{checked_state}
 use Rattle.stream_state.specs.Steps.{header_in, command_in, writes, stepped, Step, stream_of}
@@ -40,13 +40,13 @@ abbrev pub StatesAreBounded : Type 0
 StatesAreBounded = (areas : Areas) (steps : List Step) → IsLawfulAreas areas → AreTaken areas steps → IsBounded (stream_of areas steps)
 
 -- all that steps wrote to result places, the oldest first; of the steps the newest stands first
-unfoldable pub written : Areas → List Step → Writes
-written areas [] = []
-written areas (step ∷ steps) = written areas steps ++ writes areas step.words (stream_of areas steps)
+unfoldable pub all_written : Areas → List Step → Writes
+all_written areas [] = []
+all_written areas (step ∷ steps) = all_written areas steps ++ writes areas step.words (stream_of areas steps)
 
 -- a result place has the last value that a step wrote there, and 0 where none did
 abbrev pub ResultsAreLastWritten : Type 0
-ResultsAreLastWritten = (areas : Areas) (steps : List Step) (place : ℕ) → result_of (stream_of areas steps) place ≡ last_written (written areas steps) place 0
+ResultsAreLastWritten = (areas : Areas) (steps : List Step) (place : ℕ) → result_of (stream_of areas steps) place ≡ left_by_writes (all_written areas steps) place 0
 
 -- a step writes its places in rising order, so each once
 abbrev pub WritesRise : Type 0

@@ -28,15 +28,15 @@ with_write write (first ∷ rest) =
     else first ∷ with_write write rest
 
 -- the last value that writes in order leave at a place, from the value that was there before
-abbrev pub last_written : Writes → ℕ → ℕ → ℕ
-last_written [] place before = before
-last_written (write ∷ writes) place before = last_written writes place (if write.0 == place then write.1 else before)
+abbrev pub left_by_writes : Writes → ℕ → ℕ → ℕ
+left_by_writes [] place before = before
+left_by_writes (write ∷ writes) place before = left_by_writes writes place (if write.0 == place then write.1 else before)
 
 -- the place after the greatest that is written
-abbrev pub end_of : Writes → ℕ
-end_of [] = 0
-end_of (write ∷ writes) = max (write.0 + 1) (end_of writes)
+abbrev pub end_of_writes : Writes → ℕ
+end_of_writes [] = 0
+end_of_writes (write ∷ writes) = max (write.0 + 1) (end_of_writes writes)
 
 -- the values of the result places up to the greatest that was ever written, after further writes in order
 unfoldable pub after_writes : Writes → List ℕ → List ℕ
-after_writes writes values = map (λ place. last_written writes place (slice_index values place)) (range_with_len 0 (max (length values) (end_of writes)))
+after_writes writes values = map (λ place. left_by_writes writes place (slice_index values place)) (range_with_len 0 (max (length values) (end_of_writes writes)))

@@ -4,7 +4,7 @@ ghost use Rattle.gpu_cmd.specs.Checks.{has_format};
 ghost use Rattle.gpu_store.specs.Images.{HasItsTexels};
 ghost use Rattle.stream_state.specs.Verdict.{has_bytes};
 ghost use Rattle.stream_state.specs.Steps.{joined, told, block_upload, upload_op, asked};
-ghost use Rattle.stream_state.specs.Accepted.{HasWords, BringsItsTexels, takes_memory};
+ghost use Rattle.stream_state.specs.Accepted.{HoldItsBytes, BringsItsTexels, takes_memory};
 
 use crate::effect::Effect;
 use crate::ops::{plain_op, upload};
@@ -100,7 +100,7 @@ impl StreamState {
 
     // The operation of a command that uploads texels.
     fn upload_op(&self, command: &Command, words: &[(u32, u32)]) -> Result<Option<Op>, Memory>
-        requires words { HasWords words.now command.now }
+        requires words { HoldItsBytes words.now command.now }
         requires bytes { IsTrue (has_bytes command.now self.now) }
         requires format { IsTrue (has_format command.now) }
         ensures op { IfOk result (λ op. op ≡ upload_op command.now words.now self.now) }
@@ -130,7 +130,7 @@ impl StreamState {
     // What a command that writes no results asks of the rest of the service.
     #[tactic(auto, unfolding(crate::specs::Steps::asked))]
     pub(crate) fn asked(&self, command: &Command, words: &[(u32, u32)]) -> Result<Effect, Memory>
-        requires words { HasWords words.now command.now }
+        requires words { HoldItsBytes words.now command.now }
         requires bytes { IsTrue (has_bytes command.now self.now) }
         requires format { IsTrue (has_format command.now) }
         ensures effect { IfOk result (λ given. given ≡ asked command.now words.now self.now) }

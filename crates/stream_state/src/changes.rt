@@ -3,7 +3,7 @@ ghost use Rattle.std.specs.Prelude.{◌≡◌, IsTrue, IsErr, OnOk, OnErr};
 ghost use Rattle.gpu_cmd.specs.Checks.{has_slot};
 ghost use Rattle.stream_state.specs.Verdict.{has_bytes};
 ghost use Rattle.stream_state.specs.Steps.{token_after, release_after, buckets_after, buffers_after};
-ghost use Rattle.stream_state.specs.Accepted.{HasWords, takes_memory};
+ghost use Rattle.stream_state.specs.Accepted.{HoldItsBytes, takes_memory};
 
 use crate::asks::joined;
 use crate::state::StreamState;
@@ -14,7 +14,7 @@ use gpu_word::Memory;
 impl StreamState {
     // Changes the buffers.
     fn change_buffers(&mut self, command: &Command, words: &[(u32, u32)]) -> Result<(), Memory>
-        requires words { HasWords words.now command.now }
+        requires words { HoldItsBytes words.now command.now }
         requires bytes { IsTrue (has_bytes command.now self.old) }
         requires slot { IsTrue (has_slot command.now) }
         ensures changed { OnOk result
@@ -46,7 +46,7 @@ impl StreamState {
 
     // Changes the buckets, or else the buffers.
     pub(crate) fn change(&mut self, command: &Command, words: &[(u32, u32)]) -> Result<(), Memory>
-        requires words { HasWords words.now command.now }
+        requires words { HoldItsBytes words.now command.now }
         requires bytes { IsTrue (has_bytes command.now self.old) }
         requires slot { IsTrue (has_slot command.now) }
         ensures changed { OnOk result (self.new ≡ record self.old {

@@ -1,5 +1,5 @@
 ghost use Rattle.std.specs.Prelude.{◌≡◌, ◌≤◌, ◌++◌, ◌-◌, [], length, replicate, slice_index, OnOk, OnErr};
-ghost use Rattle.stream_state.specs.Writes.{end_of, after_writes};
+ghost use Rattle.stream_state.specs.Writes.{end_of_writes, after_writes};
 
 use gpu_word::Memory;
 use std::alloc::Global;
@@ -21,7 +21,7 @@ impl Model for Results {
 
 // The place after the greatest that is written.
 fn end_of(writes: &[(u32, u32)]) -> usize
-    ensures { result ≡ end_of writes.now }
+    ensures { result ≡ end_of_writes writes.now }
 {
     let mut end = 0;
     for (place, _) in writes {
@@ -60,7 +60,7 @@ impl Results {
 
     // Writes values to places in order.
     fn set(&mut self, writes: &[(u32, u32)])
-        requires { end_of writes.now ≤ length self.old }
+        requires { end_of_writes writes.now ≤ length self.old }
         ensures { self.new ≡ after_writes writes.now self.old }
     {
         for (place, value) in writes {

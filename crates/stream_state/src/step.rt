@@ -4,7 +4,7 @@ ghost use Rattle.gpu_cmd.specs.Lawful.{IsLawfulAreas};
 ghost use Rattle.gpu_cmd.specs.Checks.{has_format, has_slot};
 ghost use Rattle.stream_state.specs.Verdict.{has_bytes, checked_state};
 ghost use Rattle.stream_state.specs.Steps.{effect_of, acted, effect, stepped};
-ghost use Rattle.stream_state.specs.Accepted.{IsAccepted, HasWords, BringsItsTexels, takes_memory};
+ghost use Rattle.stream_state.specs.Accepted.{IsAccepted, HoldItsBytes, BringsItsTexels, takes_memory};
 
 use crate::effect::Effect;
 use crate::state::StreamState;
@@ -21,7 +21,7 @@ impl StreamState {
         areas: &Areas,
     ) -> Result<Effect, Memory>
         requires lawful { IsLawfulAreas areas.now }
-        requires words { HasWords words.now command.now }
+        requires words { HoldItsBytes words.now command.now }
         requires bytes { IsTrue (has_bytes command.now self.old) }
         requires format { IsTrue (has_format command.now) }
         requires slot { IsTrue (has_slot command.now) }

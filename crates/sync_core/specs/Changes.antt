@@ -10,7 +10,7 @@ use Rattle.sync_core.specs.Standing.{Standing, first_order}
 use Rattle.sync_core.specs.Events as events
 use Rattle.sync_core.specs.Events.{Deed}
 use Rattle.sync_core.specs.Queues.{is_other, passed}
-use Rattle.sync_core.specs.Core.{Core, left_of, blocked}
+use Rattle.sync_core.specs.Core.{Core, unprocessed_of, blocked}
 
 -- the deed of its sync event
 abbrev pub deed_of : Change → Deed
@@ -22,7 +22,7 @@ deed_of Closed = events.WasClosed
 -- stream s may do so: it finishes a number that it has, and of which no wait is pending
 abbrev pub MayChange : Core → ℕ → Change → Type 0
 MayChange core s (Released r) = Unit {0}
-MayChange core s Finished = (0 < length (left_of core s)) × (blocked core s ≡ false)
+MayChange core s Finished = (0 < length (unprocessed_of core s)) × (blocked core s ≡ false)
 MayChange core s Lost = Unit {0}
 MayChange core s Closed = Unit {0}
 

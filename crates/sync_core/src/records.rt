@@ -8,7 +8,7 @@ ghost use Rattle.slab.specs.Slab.{get, HasRoomFor, Updates};
 ghost use Rattle.sync_core.specs.declared.wait.Wait.{Wait};
 ghost use Rattle.sync_core.specs.Keys.{wait_cmp};
 ghost use Rattle.sync_core.specs.Records.{waits_of};
-ghost use Rattle.sync_core.specs.Queues.{GoesLast, is_of, is_other};
+ghost use Rattle.sync_core.specs.Queues.{GoesLast, is_of_whose, is_other};
 
 use crate::wait::Wait;
 use crate::which::{Whose, is_of};
@@ -26,9 +26,9 @@ pub struct Records {
 
 impl Model for Records {
     ghost use Rattle.std.specs.Prelude.{length};
-    ghost use Rattle.sync_core.specs.Records.{Held, HoldRecords};
+    ghost use Rattle.sync_core.specs.Records.{RecordsData, HoldRecords};
 
-    ghost Value = { Held };
+    ghost Value = { RecordsData };
 
     ghost view = { λ r. record { slab = r.slots; numbers = length r.counts.items } };
 
@@ -117,7 +117,7 @@ impl Records {
     /// Takes the wait in a slot away, if there is one that goes.
     fn drop_in(&mut self, slot: usize, whose: Whose)
         ensures fewer { (i : ℕ) (w : Wait) → get self.new.slab i ≡ Some w → get self.old.slab i ≡ Some w }
-        ensures gone { (w : Wait) → get self.new.slab slot ≡ Some w → is_of whose w ≡ false }
+        ensures gone { (w : Wait) → get self.new.slab slot ≡ Some w → is_of_whose whose w ≡ false }
         ensures others { filter (is_other whose) (waits_of self.new.slab)
             ≡ filter (is_other whose) (waits_of self.old.slab) }
         ensures capacity { self.new.slab.capacity ≡ self.old.slab.capacity }

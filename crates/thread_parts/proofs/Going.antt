@@ -20,7 +20,7 @@ use Rattle.flush_queue.specs.Clients.{HasPostedAll}
 use Rattle.flush_queue.proofs.Posting as posting
 use Rattle.result_words.specs.Seen.{ReaderData}
 use Rattle.gpu_plan.specs.Passes.{flushes}
-use Rattle.thread_parts.specs.Clients.{IsHeld, ArePosted, dump_of, dumps_to, due_in, read_for, ClientData, HasRead, IsCounted, IsClient}
+use Rattle.thread_parts.specs.Clients.{IsHeldNote, ArePosted, dump_of, dumps_to, due_in, read_for, ThreadClientData, HasReadDumps, HasAtHand, IsThreadClient}
 use Rattle.thread_parts.proofs.Planned.{none_before, next_dumps, due_is}
 use Rattle.thread_parts.proofs.Planned as dues
 
@@ -77,7 +77,7 @@ few_of k (dump ∷ dumps) = by (nat_lt dump.0 k) (few_of k dumps)
     by false few = omega (arith, few)
 
 -- there is room for a dump that is due
-pub has_room : (c : ClientData) (planned : List (ℕ × ℕ)) (position flushed room : ℕ) (dump : ℕ × ℕ) → c.due ≡ Some dump → IsClient c planned position flushed room → length c.dumps < room
+pub has_room : (c : ThreadClientData) (planned : List (ℕ × ℕ)) (position flushed room : ℕ) (dump : ℕ × ℕ) → c.due ≡ Some dump → IsThreadClient c planned position flushed room → length c.dumps < room
 has_room c planned position flushed room dump due is =
     let all : map dump_of c.dumps ++ dump ∷ [] ≡ dumps_to c.pass.done c.pass.plan.dumps = sym (ap (λ (d : Option (ℕ × ℕ)). map dump_of c.dumps ++ option_to_list d) due) ∙ is.read.in_order in
     let more = length-append (map dump_of c.dumps) (dump ∷ []) in
@@ -89,7 +89,7 @@ has_room c planned position flushed room dump due is =
     omega (arith, more, same, count, few, listed, room_is)
 
 -- where as many are read as are planned, each is
-pub is_whole : (c : ClientData) (planned : List (ℕ × ℕ)) (position flushed room : ℕ) → length c.dumps ≡ length planned → IsClient c planned position flushed room → map dump_of c.dumps ≡ c.pass.plan.dumps
+pub is_whole : (c : ThreadClientData) (planned : List (ℕ × ℕ)) (position flushed room : ℕ) → length c.dumps ≡ length planned → IsThreadClient c planned position flushed room → map dump_of c.dumps ≡ c.pass.plan.dumps
 is_whole c planned position flushed room many is = whole (map dump_of c.dumps) (option_to_list c.due) c.pass.done c.pass.plan.dumps is.read.in_order (length-map c.dumps dump_of ∙ many ∙ ap length is.counted.planned_is)
   where
     -- a list that keeps all is the whole
@@ -119,12 +119,12 @@ if_map (Some x) f h = f x h
 
 -- ---- the whole client
 
-module _ (c : ClientData) (planned : List (ℕ × ℕ)) (position flushed room : ℕ) (none_held : c.held ≡ None) (none_due : c.due ≡ None) (is : IsClient c planned position flushed room) where
+module _ (c : ThreadClientData) (planned : List (ℕ × ℕ)) (position flushed room : ℕ) (none_held : c.held ≡ None) (none_due : c.due ≡ None) (is : IsThreadClient c planned position flushed room) where
   all_posted : HasPostedAll c.pass c.poster
   all_posted = subst (ArePosted c.pass c.poster) none_held is.posted
 
-  its_read : HasRead c.pass c.reader None c.dumps
-  its_read = subst (λ (due : Option (ℕ × ℕ)). HasRead c.pass c.reader due c.dumps) none_due is.read
+  its_read : HasReadDumps c.pass c.reader None c.dumps
+  its_read = subst (λ (due : Option (ℕ × ℕ)). HasReadDumps c.pass c.reader due c.dumps) none_due is.read
 
   -- with none due, those that were read are those that the pass came to
   all_read : map dump_of c.dumps ≡ dumps_to c.pass.done c.pass.plan.dumps
@@ -143,7 +143,7 @@ module _ (c : ClientData) (planned : List (ℕ × ℕ)) (position flushed room :
 
   -- an action was done, after which a dump may be due
   pub went : (new : seen.ClientData) (due : Option (ℕ × ℕ)) (answer : Acted) → Acts c.pass new answer → counts answer ≡ 1 → due ≡ due_in (slice_get planned (length c.dumps)) position
-      → IsClient (record c { pass = new; due = due }) planned (position + 1) flushed room
+      → IsThreadClient (record c { pass = new; due = due }) planned (position + 1) flushed room
   went new due answer acts one due_is' =
       let posted = posting.acted c.pass c.poster all_posted new answer acts in
       let place = is.counted.place in
@@ -157,7 +157,7 @@ module _ (c : ClientData) (planned : List (ℕ × ℕ)) (position flushed room :
           reads = its_read.reads ∙ sym (ap (λ (n : seen.ClientData). map (read_for n.plan) c.dumps) acts.becomes);
           places = subst (λ (n : seen.ClientData). words_in n.plan.areas.results ≤ c.reader.places) (sym acts.becomes) its_read.places;
         };
-        counted = subst (λ (n : seen.ClientData). IsCounted n due planned (position + 1) flushed room) (sym acts.becomes) record {
+        counted = subst (λ (n : seen.ClientData). HasAtHand n due planned (position + 1) flushed room) (sym acts.becomes) record {
           planned_is = is.counted.planned_is;
           lawful = is.counted.lawful;
           rising = is.counted.rising;
@@ -171,13 +171,13 @@ module _ (c : ClientData) (planned : List (ℕ × ℕ)) (position flushed room :
       }
 
   -- a put was done
-  pub put : (new : seen.ClientData) (answer : Acted) → Acts c.pass new answer → answer ≡ Stored → IsClient (record c { pass = new }) planned (position + 1) flushed room
+  pub put : (new : seen.ClientData) (answer : Acted) → Acts c.pass new answer → answer ≡ Stored → IsThreadClient (record c { pass = new }) planned (position + 1) flushed room
   put new answer acts stored =
       let none : due_in (slice_get planned (length c.dumps)) position ≡ None = dues.none_due c.pass.plan.areas.results c.pass.plan.actions planned is.counted.lawful (length c.dumps) position (λ fin. no_await c.pass new answer acts stored (ap (slice_get c.pass.plan.actions) (sym is.counted.place) ∙ fin)) in
-      subst (λ (due : Option (ℕ × ℕ)). IsClient (record c { pass = new; due = due }) planned (position + 1) flushed room) (none ∙ sym none_due) (went new (due_in (slice_get planned (length c.dumps)) position) answer acts (ap counts stored) refl)
+      subst (λ (due : Option (ℕ × ℕ)). IsThreadClient (record c { pass = new; due = due }) planned (position + 1) flushed room) (none ∙ sym none_due) (went new (due_in (slice_get planned (length c.dumps)) position) answer acts (ap counts stored) refl)
 
   -- no action was done
-  pub tried : (new : seen.ClientData) (answer : Acted) → Acts c.pass new answer → counts answer ≡ 0 → IsClient (record c { pass = new }) planned position flushed room
+  pub tried : (new : seen.ClientData) (answer : Acted) → Acts c.pass new answer → counts answer ≡ 0 → IsThreadClient (record c { pass = new }) planned position flushed room
   tried new answer acts zero' =
       let posted = posting.acted c.pass c.poster all_posted new answer acts in
       let place = is.counted.place in
@@ -189,7 +189,7 @@ module _ (c : ClientData) (planned : List (ℕ × ℕ)) (position flushed room :
           reads = is.read.reads ∙ sym (ap (λ (n : seen.ClientData). map (read_for n.plan) c.dumps) acts.becomes);
           places = subst (λ (n : seen.ClientData). words_in n.plan.areas.results ≤ c.reader.places) (sym acts.becomes) is.read.places;
         };
-        counted = subst (λ (n : seen.ClientData). IsCounted n c.due planned position flushed room) (sym acts.becomes) record {
+        counted = subst (λ (n : seen.ClientData). HasAtHand n c.due planned position flushed room) (sym acts.becomes) record {
           planned_is = is.counted.planned_is;
           lawful = is.counted.lawful;
           rising = is.counted.rising;
@@ -203,12 +203,12 @@ module _ (c : ClientData) (planned : List (ℕ × ℕ)) (position flushed room :
       }
 
   -- at a flush, its note is the next to be posted
-  pub held : IsAtFlush c.pass → (new : seen.ClientData) (note : NoteData) → new ≡ record c.pass { done = c.pass.done + 1 } → note ≡ record { table = c.pass.table; mark = c.pass.done + 1 } → IsHeld new c.poster note
+  pub held : IsAtFlush c.pass → (new : seen.ClientData) (note : NoteData) → new ≡ record c.pass { done = c.pass.done + 1 } → note ≡ record { table = c.pass.table; mark = c.pass.done + 1 } → IsHeldNote new c.poster note
   held at new note becomes its = record { next = posting.next_note c.pass c.poster all_posted at note its; there = posting.next_flush c.pass c.poster all_posted at; others = posting.posted c.pass c.poster all_posted at new becomes }
 
   -- a flush was made, and its note was posted or is kept
   pub flushed_one : (at : IsAtFlush c.pass) (new : seen.ClientData) (note : NoteData) (poster : EndData) (kept : Option NoteData) → new ≡ record c.pass { done = c.pass.done + 1 } → note ≡ record { table = c.pass.table; mark = c.pass.done + 1 }
-      → IfNone kept (poster ≡ one_more c.poster) → OnSome kept (poster ≡ c.poster) → IfSome kept (λ back. back ≡ note) → IsClient (record c { pass = new; poster = poster; held = kept }) planned (position + 1) (flushed + 1) room
+      → IfNone kept (poster ≡ one_more c.poster) → OnSome kept (poster ≡ c.poster) → IfSome kept (λ back. back ≡ note) → IsThreadClient (record c { pass = new; poster = poster; held = kept }) planned (position + 1) (flushed + 1) room
   flushed_one at new note poster kept becomes its gone stays back =
       let next = held at new note becomes its in
       let others = next.others in
@@ -224,7 +224,7 @@ module _ (c : ClientData) (planned : List (ℕ × ℕ)) (position flushed room :
           reads = is.read.reads ∙ sym (ap (λ (n : seen.ClientData). map (read_for n.plan) c.dumps) becomes);
           places = subst (λ (n : seen.ClientData). words_in n.plan.areas.results ≤ c.reader.places) (sym becomes) is.read.places;
         };
-        counted = subst (λ (n : seen.ClientData). IsCounted n c.due planned (position + 1) (flushed + 1) room) (sym becomes) record {
+        counted = subst (λ (n : seen.ClientData). HasAtHand n c.due planned (position + 1) (flushed + 1) room) (sym becomes) record {
           planned_is = is.counted.planned_is;
           lawful = is.counted.lawful;
           rising = is.counted.rising;
@@ -237,15 +237,15 @@ module _ (c : ClientData) (planned : List (ℕ × ℕ)) (position flushed room :
         };
       }
     where
-      by : (kept : Option NoteData) → IfNone kept (poster ≡ one_more c.poster) → OnSome kept (poster ≡ c.poster) → IfSome kept (λ back. back ≡ note) → IsHeld new c.poster note → ArePosted new poster kept
+      by : (kept : Option NoteData) → IfNone kept (poster ≡ one_more c.poster) → OnSome kept (poster ≡ c.poster) → IfSome kept (λ back. back ≡ note) → IsHeldNote new c.poster note → ArePosted new poster kept
       by None gone stays back next = subst (HasPostedAll new) (sym gone) next.others
-      by (Some kept) gone stays back next = subst (λ (end : EndData). IsHeld new end kept) (sym stays) (subst (IsHeld new c.poster) (sym back) next)
+      by (Some kept) gone stays back next = subst (λ (end : EndData). IsHeldNote new end kept) (sym stays) (subst (IsHeldNote new c.poster) (sym back) next)
 
 -- ---- a client that has done nothing
 
 pub made : (stream : ℕ) (plan : PlanData) (pass : seen.ClientData) (poster : EndData) (reader : ReaderData) (dumps : List (ℕ × ℕ × ℕ)) (planned : List (ℕ × ℕ)) (room : ℕ) → pass ≡ client_at pass.table plan → poster ≡ fresh_end poster.queue pass.table plan
     → reader.reads ≡ [] → words_in plan.areas.results ≤ reader.places → dumps ≡ [] → planned ≡ plan.dumps → All (IsDump plan.areas.results plan.actions) plan.dumps → RiseFrom 0 plan.dumps → length plan.actions ≤ 1000000 → length planned ≤ room
-    → IsClient record { stream = stream; pass = pass; poster = poster; held = None; reader = reader; due = None; dumps = dumps } planned 0 0 room
+    → IsThreadClient record { stream = stream; pass = pass; poster = poster; held = None; reader = reader; due = None; dumps = dumps } planned 0 0 room
 made stream plan pass poster reader dumps planned room its_pass its_poster none places empty listed lawful rising few room_is =
     let none_yet = none_before 0 0 plan.dumps rising (omega arith) in
     record {
@@ -259,7 +259,7 @@ made stream plan pass poster reader dumps planned room its_pass its_poster none 
         reads = none ∙ sym (ap (map (read_for pass.plan)) empty);
         places = subst (λ (c : seen.ClientData). words_in c.plan.areas.results ≤ reader.places) (sym its_pass) places;
       };
-      counted = subst (λ (c : seen.ClientData). IsCounted c None planned 0 0 room) (sym its_pass) record {
+      counted = subst (λ (c : seen.ClientData). HasAtHand c None planned 0 0 room) (sym its_pass) record {
         planned_is = listed;
         lawful = subst (All (IsDump plan.areas.results plan.actions)) (sym listed) lawful;
         rising = subst (RiseFrom 0) (sym listed) rising;
@@ -274,10 +274,10 @@ made stream plan pass poster reader dumps planned room its_pass its_poster none 
 
 -- ---- numbers that fit
 
-pub position_fits : (c : ClientData) (planned : List (ℕ × ℕ)) (position flushed room : ℕ) → IsClient c planned position flushed room → c.pass.done < length c.pass.plan.actions → position < 1000000
+pub position_fits : (c : ThreadClientData) (planned : List (ℕ × ℕ)) (position flushed room : ℕ) → IsThreadClient c planned position flushed room → c.pass.done < length c.pass.plan.actions → position < 1000000
 position_fits c planned position flushed room is lt = let few = is.counted.few in let place = is.counted.place in omega (arith, few, place, lt)
 
-pub flushed_fits : (c : ClientData) (planned : List (ℕ × ℕ)) (position flushed room : ℕ) → IsClient c planned position flushed room → c.pass.done < length c.pass.plan.actions → flushed < 1000000
+pub flushed_fits : (c : ThreadClientData) (planned : List (ℕ × ℕ)) (position flushed room : ℕ) → IsThreadClient c planned position flushed room → c.pass.done < length c.pass.plan.actions → flushed < 1000000
 flushed_fits c planned position flushed room is lt = let few = is.counted.few in let count = is.counted.count in let most = flushes_within c.pass.plan.actions c.pass.done in omega (arith, few, count, most, lt)
 
 -- ---- a Close

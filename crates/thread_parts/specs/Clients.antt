@@ -12,7 +12,7 @@ use Rattle.result_words.specs.Seen.{ReaderData}
 
 -- its stream, its pass, its end of the queue, a note that is still to be posted, its reader, the dump that it must read next, and
 -- what it has read: the action place, the result place and the value of each dump
-pub record ClientData : Type 0 where
+pub record ThreadClientData : Type 0 where
   pub stream : ℕ
   pub pass : seen.ClientData
   pub poster : EndData
@@ -24,14 +24,14 @@ pub record ClientData : Type 0 where
 -- ---- flushes
 
 -- the note is of the flush that must be posted next, and with it all flushes that the pass has done are posted
-pub record IsHeld (pass : seen.ClientData) (poster : EndData) (note : NoteData) : Type 0 where
+pub record IsHeldNote (pass : seen.ClientData) (poster : EndData) (note : NoteData) : Type 0 where
   pub next : note ≡ note_of poster
   pub there : poster.count < flushes poster.plan.actions
   pub others : HasPostedAll pass (one_more poster)
 
 -- the pass and the poster are of the same words and plan, and each flush that the pass has done is posted, but for one that is held
 abbrev pub ArePosted : seen.ClientData → EndData → Option NoteData → Type 0
-ArePosted pass poster held = MatchOption held (HasPostedAll pass poster) (IsHeld pass poster)
+ArePosted pass poster held = MatchOption held (HasPostedAll pass poster) (IsHeldNote pass poster)
 
 -- ---- dumps
 
@@ -54,7 +54,7 @@ read_for plan read = (read.1, flushes (take read.0 plan.actions), read.2)
 
 -- the dumps that were read and then the one that is due are, in order, those of the plan whose actions the pass has done; the reader
 -- was asked for them and for nothing else; and it has every result place of the plan
-pub record HasRead (pass : seen.ClientData) (reader : ReaderData) (due : Option (ℕ × ℕ)) (dumps : List (ℕ × ℕ × ℕ)) : Type 0 where
+pub record HasReadDumps (pass : seen.ClientData) (reader : ReaderData) (due : Option (ℕ × ℕ)) (dumps : List (ℕ × ℕ × ℕ)) : Type 0 where
   pub in_order : map dump_of dumps ++ option_to_list due ≡ dumps_to pass.done pass.plan.dumps
   pub reads : reader.reads ≡ map (read_for pass.plan) dumps
   pub places : words_in pass.plan.areas.results ≤ reader.places
@@ -63,7 +63,7 @@ pub record HasRead (pass : seen.ClientData) (reader : ReaderData) (due : Option 
 
 -- what a client has at hand of its plan and of its pass: the dumps, how many actions and how many flushes were done, and room for
 -- each dump
-pub record IsCounted (pass : seen.ClientData) (due : Option (ℕ × ℕ)) (planned : List (ℕ × ℕ)) (position flushed room : ℕ) : Type 0 where
+pub record HasAtHand (pass : seen.ClientData) (due : Option (ℕ × ℕ)) (planned : List (ℕ × ℕ)) (position flushed room : ℕ) : Type 0 where
   pub planned_is : planned ≡ pass.plan.dumps
   pub lawful : All (IsDump pass.plan.areas.results pass.plan.actions) planned
   pub rising : RiseFrom 0 planned
@@ -74,13 +74,13 @@ pub record IsCounted (pass : seen.ClientData) (due : Option (ℕ × ℕ)) (plann
   pub due_there : IfSome due (λ dump. dump.1 < words_in pass.plan.areas.results)
   pub room_is : length planned ≤ room
 
-pub record IsClient (client : ClientData) (planned : List (ℕ × ℕ)) (position flushed room : ℕ) : Type 0 where
+pub record IsThreadClient (client : ThreadClientData) (planned : List (ℕ × ℕ)) (position flushed room : ℕ) : Type 0 where
   pub posted : ArePosted client.pass client.poster client.held
-  pub read : HasRead client.pass client.reader client.due client.dumps
-  pub counted : IsCounted client.pass client.due planned position flushed room
+  pub read : HasReadDumps client.pass client.reader client.due client.dumps
+  pub counted : HasAtHand client.pass client.due planned position flushed room
 
 -- the client is of the same stream, words, plan, queue and result words
-pub record IsSameClient (old new : ClientData) : Type 0 where
+pub record IsSameClient (old new : ThreadClientData) : Type 0 where
   pub stream : new.stream ≡ old.stream
   pub shared : new.pass.table ≡ old.pass.table
   pub plan : new.pass.plan ≡ old.pass.plan
@@ -88,5 +88,5 @@ pub record IsSameClient (old new : ClientData) : Type 0 where
   pub results : new.reader.table ≡ old.reader.table
 
 -- it has read each dump of its plan
-abbrev pub IsWhole : ClientData → Type 0
-IsWhole client = map dump_of client.dumps ≡ client.pass.plan.dumps
+abbrev pub HasReadAll : ThreadClientData → Type 0
+HasReadAll client = map dump_of client.dumps ≡ client.pass.plan.dumps

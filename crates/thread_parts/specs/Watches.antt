@@ -7,7 +7,7 @@ use Rattle.live_view.specs.Looks.{sight}
 use Rattle.live_view.specs.Seen.{ViewerData}
 
 -- it keeps a list of what it saw, which has room for 17 looks
-pub record IsWatch (viewer : ViewerData) (seen : List Look) (capacity : ℕ) : Type 0 where
+pub record KeepsLooks (viewer : ViewerData) (seen : List Look) (capacity : ℕ) : Type 0 where
   pub seen_is : seen ≡ map (λ sight. sight.look) viewer.looks
   pub room : 17 ≤ capacity
 

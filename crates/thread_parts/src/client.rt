@@ -5,8 +5,8 @@ ghost use Rattle.gpu_plan.specs.Plans.{is_closed};
 ghost use Rattle.gpu_plan.specs.Passes.{flushes};
 ghost use Rattle.flush_queue.specs.Seen.{fresh_end, one_more, note_of, AreLatest};
 ghost use Rattle.shm_words.specs.Seen.{client_at};
-ghost use Rattle.thread_parts.specs.Clients.{IsSameClient, IsWhole, due_in, read_for};
-ghost use Rattle.thread_parts.specs.Acts.{ActsAs};
+ghost use Rattle.thread_parts.specs.Clients.{IsSameClient, HasReadAll, due_in, read_for};
+ghost use Rattle.thread_parts.specs.Acts.{DoesAct};
 
 use flush_queue::{FlushQueue, Poster};
 use gpu_io::{Gate, Place};
@@ -38,9 +38,9 @@ pub struct Client {
 }
 
 impl Model for Client {
-    ghost use Rattle.thread_parts.specs.Clients.{ClientData, IsClient};
+    ghost use Rattle.thread_parts.specs.Clients.{ThreadClientData, IsThreadClient};
 
-    ghost Value = { ClientData };
+    ghost Value = { ThreadClientData };
 
     ghost view = { λ c. record {
       stream = c.stream;
@@ -52,7 +52,7 @@ impl Model for Client {
       dumps = c.dumps.items;
     } };
 
-    ghost invariant = { λ c. IsClient
+    ghost invariant = { λ c. IsThreadClient
         record {
           stream = c.stream;
           pass = c.pass;
@@ -201,7 +201,7 @@ impl Client {
 
     /// Whether it has read all dumps of its plan.
     pub fn is_whole(&self) -> bool
-        ensures { IsTrue result ↔ IsWhole self.now }
+        ensures { IsTrue result ↔ HasReadAll self.now }
     {
         self.dumps.len() == self.planned.len()
     }
@@ -220,7 +220,7 @@ impl Client {
     fn post_held<R: Wait>(&mut self, rt: &R, queue: &FlushQueue) -> Act
         requires held { IsSome self.old.held }
         requires queue { queue.now ≡ self.old.poster.queue }
-        ensures acts { ActsAs self.old self.new result }
+        ensures acts { DoesAct self.old self.new result }
         ensures same { IsSameClient self.old self.new }
         ensures close { result ≡ Act.AtClose → ⊥ }
     {
@@ -235,7 +235,7 @@ impl Client {
     fn read_due(&mut self, words: &ResultWords) -> Act
         requires due { IsSome self.old.due }
         requires words { words.now ≡ self.old.reader.table }
-        ensures acts { ActsAs self.old self.new result }
+        ensures acts { DoesAct self.old self.new result }
         ensures same { IsSameClient self.old self.new }
         ensures close { result ≡ Act.AtClose → ⊥ }
     {
@@ -262,7 +262,7 @@ impl Client {
         requires none_due { self.old.due ≡ None }
         requires words { words.now ≡ self.old.pass.table }
         requires queue { queue.now ≡ self.old.poster.queue }
-        ensures acts { ActsAs self.old self.new result }
+        ensures acts { DoesAct self.old self.new result }
         ensures same { IsSameClient self.old self.new }
         ensures close { result ≡ Act.AtClose → is_closed self.new.pass.plan.actions ≡ true }
     {
@@ -305,7 +305,7 @@ impl Client {
         requires words { words.now.0 ≡ self.old.pass.table }
         requires results { words.now.1 ≡ self.old.reader.table }
         requires queue { queue.now ≡ self.old.poster.queue }
-        ensures acts { ActsAs self.old self.new result }
+        ensures acts { DoesAct self.old self.new result }
         ensures same { IsSameClient self.old self.new }
         ensures close { result ≡ Act.AtClose → is_closed self.new.pass.plan.actions ≡ true }
     {

@@ -30,13 +30,14 @@ pub struct Watch {
 impl Model for Watch {
     ghost use Rattle.std.specs.Prelude.{vec_capacity};
     ghost use Rattle.live_view.specs.Seen.{ViewerData};
-    ghost use Rattle.thread_parts.specs.Watches.{IsWatch};
+    ghost use Rattle.thread_parts.specs.Watches.{KeepsLooks};
 
     ghost Value = { ViewerData };
 
     ghost view = { λ watch. watch.viewer };
 
-    ghost invariant = { λ watch. IsWatch watch.viewer watch.seen.items (vec_capacity watch.seen) };
+    ghost invariant = { λ watch. KeepsLooks watch.viewer watch.seen.items
+        (vec_capacity watch.seen) };
 }
 
 impl Watch {

@@ -8,7 +8,7 @@ use Rattle.gpu_plan.specs.Plans.{PlansData}
 use Rattle.sync_core.specs.declared.ending.Ending.{Ending}
 use Rattle.gpu_journal.specs.declared.event.Event.{Event}
 use Rattle.verify_input.specs.Reading.{whole_lines}
-use Rattle.verify_input.specs.Due.{Due, Dump, Look, LastLook, what_of, same_lines, image_lines, picture_lines, end_lines, ending_lines, dumps_due, looks_due, images_due, streams_due, marks_due, all_dumps_due, viewers_due, dues, AreTakenOff, IsOff, AreDue, IsMore, IsFirstOff}
+use Rattle.verify_input.specs.Due.{Due, Dump, Look, LastLook, what_of, same_lines, lines_of_image, picture_lines, end_lines, ending_lines, dumps_due, looks_due, images_due, streams_due, marks_due, all_dumps_due, viewers_due, dues, AreTakenOff, IsOff, AreDue, IsMore, IsFirstOff}
 use Rattle.gpu_journal.specs.World.{replay}
 use Rattle.gpu_journal.specs.Waits.{endings_in}
 use Rattle.gpu_journal.specs.Ended.{streams_of}
@@ -117,10 +117,10 @@ dues_parts p base h viewers = dues_are p base h viewers ∙ by (images_due p h) 
     by a b c d e = simp append_assoc
 
 pub images_first : (p : PlansData) (base : ℕ) (h : List Event) (viewers : ℕ) {images : Pictures} → images ≡ replay p h
-    → Begins (dues p base h viewers) (same_lines what.Image (flat_map image_lines images)) (streams_due p h ++ (marks_due p base h ++ (all_dumps_due p h ++ viewers_due viewers)))
+    → Begins (dues p base h viewers) (same_lines what.Image (flat_map lines_of_image images)) (streams_due p h ++ (marks_due p base h ++ (all_dumps_due p h ++ viewers_due viewers)))
 images_first p base h viewers is = record {
   is = dues_parts p base h viewers
-      ∙ ap (λ (images : Pictures). same_lines what.Image (flat_map image_lines images) ++ (streams_due p h ++ (marks_due p base h ++ (all_dumps_due p h ++ viewers_due viewers)))) (sym is);
+      ∙ ap (λ (images : Pictures). same_lines what.Image (flat_map lines_of_image images) ++ (streams_due p h ++ (marks_due p base h ++ (all_dumps_due p h ++ viewers_due viewers)))) (sym is);
 }
 
 pub marks_next : (p : PlansData) (base : ℕ) (h : List Event) (left : List Due) {endings : List Ending} → endings ≡ endings_in p h → Begins (marks_due p base h ++ left) (same_lines what.Mark (map (mark_at base) endings)) left

@@ -11,7 +11,7 @@ use Rattle.gpu_journal.specs.declared.event.Why.{Why}
 use Rattle.gpu_journal.specs.declared.event.Why.TheVariants.{Error, Memory}
 use Rattle.journal_text.specs.Digits.{numeral}
 use Rattle.verify_input.specs.Said.{◌>>=◌, own_number, words_said, why_said, order_said, step_said, finish_said, lost_with, lost_said, close_said, said_by, pieces_said}
-use Rattle.verify_input.specs.Reading.{IsWord, IsWritten}
+use Rattle.verify_input.specs.Reading.{IsWord, HasNumbersOfWords}
 use Rattle.verify_input.proofs.Numbers.{number_told_own, own_number_there}
 use Rattle.verify_input.proofs.Words.{word_piece, words_told, words_there}
 
@@ -30,7 +30,7 @@ event_pieces (Close stream) = codes "close" ∷ numeral stream ∷ []
 
 -- the pieces are those of this event, which is of numbers of 32 bits
 abbrev Told : List (List ℕ) → Event → Type 0
-Told pieces event = (pieces ≡ event_pieces event) × IsWritten event
+Told pieces event = (pieces ≡ event_pieces event) × HasNumbersOfWords event
 
 same_event : (pieces : List (List ℕ)) (a b : Event) → Some a ≡ Some b → Told pieces a → Told pieces b
 same_event pieces a b e told = let is : a ≡ b = cc in subst (Told pieces) is told
@@ -130,7 +130,7 @@ lost_told (s ∷ w ∷ pieces) event e = by (own_number s) (why_said w) (words_s
 lost_told _ event e = absurd (cc)
 
 -- the event that pieces say is the one whose pieces they are
-pub pieces_told : (pieces : List (List ℕ)) (event : Event) → pieces_said pieces ≡ Some event → (pieces ≡ event_pieces event) × IsWritten event
+pub pieces_told : (pieces : List (List ℕ)) (event : Event) → pieces_said pieces ≡ Some event → (pieces ≡ event_pieces event) × HasNumbersOfWords event
 unfolding said_by
 pieces_told [] event e = absurd (cc)
 pieces_told (keyword ∷ pieces) event e = by (bytes_eq keyword (codes "step")) (bytes_eq keyword (codes "order")) (bytes_eq keyword (codes "finish")) (bytes_eq keyword (codes "lost")) (bytes_eq keyword (codes "close")) refl refl refl refl refl e
@@ -158,7 +158,7 @@ why_there (Error UnknownCommand) = refl
 why_there (Error InvalidArguments) = refl
 why_there (Error Quota) = refl
 
-pub pieces_there : (event : Event) → IsWritten event → pieces_said (event_pieces event) ≡ Some event
+pub pieces_there : (event : Event) → HasNumbersOfWords event → pieces_said (event_pieces event) ≡ Some event
 unfolding said_by order_said step_said finish_said lost_said close_said words_said
 pieces_there (Order stream order place) is = rw (own_number_there stream is.0, own_number_there order is.1, own_number_there place is.2) refl
 pieces_there (Step stream words) is = rw (own_number_there stream is.0, words_there words is.1) refl

@@ -7,7 +7,7 @@ use Rattle.std.proofs.lemmas.Bool.Decides.{nat_tests}
 use Rattle.std.proofs.lemmas.Slice.Eq.{bytes_eq-Decides}
 use Rattle.std.proofs.lemmas.List.Elements.{All-nil, All-cons, All-head, All-tail, All-append, All-weaker}
 use Rattle.std.proofs.lemmas.List.Splits.{slice_split_none, slice_split_at}
-use Rattle.gpu_store.specs.Picture.{row_of}
+use Rattle.gpu_store.specs.Picture.{texel_row}
 use Rattle.gpu_store.specs.Images.{Pictures}
 use Rattle.script_lines.specs.Text.{is_blank, is_empty, ends_line, words_of}
 use Rattle.sync_core.specs.declared.ending.Ending.{Ending}
@@ -22,7 +22,7 @@ use Rattle.journal_text.specs.Lines.{how_text, mark_text, dump_text, view_text}
 use Rattle.journal_text.proofs.Lengths.{length-hex8}
 use Rattle.verify_input.specs.Reading.{HasNoFeed}
 use Rattle.verify_input.specs.Parts.{words_on, begins_part}
-use Rattle.verify_input.specs.Due.{image_lines, begins_view}
+use Rattle.verify_input.specs.Due.{lines_of_image, begins_view}
 use Rattle.verify_input.proofs.Lines.{IsInk, ink_value}
 use Rattle.verify_input.proofs.Wholes.{kept_front}
 use Rattle.verify_input.proofs.Feeds.{texels_no_feed}
@@ -182,9 +182,9 @@ pub all_lines : {A : Type 0} (P : List ℕ → Type 0) (f : A → List ℕ) → 
 all_lines P f each [] = All-nil P
 all_lines P f each (x ∷ xs) = All-cons P (f x) (map f xs) (each x) (all_lines P f each xs)
 
-pub images_other : (images : Pictures) → All (IsView false) (flat_map image_lines images)
+pub images_other : (images : Pictures) → All (IsView false) (flat_map lines_of_image images)
 images_other [] = All-nil (IsView false)
 images_other (entry ∷ images) =
-    All-append (IsView false) (image_lines entry) (flat_map image_lines images)
-    (All-cons (IsView false) (head_text entry.0 entry.1.width entry.1.height) _ (ap begins_view (image_begins entry.0 entry.1.width entry.1.height).are) (all_lines (IsView false) (λ y. row_text (row_of entry.1 y)) (λ y. row_other (row_of entry.1 y)) _))
+    All-append (IsView false) (lines_of_image entry) (flat_map lines_of_image images)
+    (All-cons (IsView false) (head_text entry.0 entry.1.width entry.1.height) _ (ap begins_view (image_begins entry.0 entry.1.width entry.1.height).are) (all_lines (IsView false) (λ y. row_text (texel_row entry.1 y)) (λ y. row_other (texel_row entry.1 y)) _))
     (images_other images)

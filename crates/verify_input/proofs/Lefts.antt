@@ -3,7 +3,7 @@ use Rattle.std.proofs.Common.{◌≡◌, ℕ, ◌+◌, ◌-◌, ◌<◌, ◌≤�
 use Rattle.std.specs.Prelude.{option_map, slice_get, IfSome}
 use Rattle.std.specs.List.{flat_map, range_with_len}
 use Rattle.gpu_cmd.specs.declared.name.Name.{Name}
-use Rattle.gpu_store.specs.Picture.{Picture, row_of}
+use Rattle.gpu_store.specs.Picture.{Picture, texel_row}
 use Rattle.gpu_store.specs.Images.{Pictures}
 use Rattle.gpu_store.proofs.Lookups.{Stands}
 use Rattle.gpu_plan.specs.Plans.{PlanData, PlansData}
@@ -15,7 +15,7 @@ use Rattle.journal_text.specs.Picture.{head_text, row_text}
 use Rattle.journal_text.specs.Lines.{journal_head, name_text, mark_text}
 use Rattle.gpu_journal.specs.World.{state_of}
 use Rattle.gpu_journal.specs.Ended.{streams_of, end_of}
-use Rattle.verify_input.specs.Due.{Due, Same, Dump, Look, LastLook, same_lines, image_lines, heads_due, dumps_due, looks_due}
+use Rattle.verify_input.specs.Due.{Due, Same, Dump, Look, LastLook, same_lines, lines_of_image, heads_due, dumps_due, looks_due}
 use Rattle.verify_input.specs.declared.what.What.TheVariants as what
 use Rattle.verify_input.proofs.Heads.{line_of, second, name_here}
 use Rattle.verify_input.proofs.Rows.{said_of}
@@ -42,32 +42,32 @@ names_end p index all = ap (λ (ss : List ℕ). same_lines what.Name (map (line_
 -- ---- images
 
 abbrev pub row_at : Picture → ℕ → List ℕ
-row_at picture y = row_text (row_of picture y)
+row_at picture y = row_text (texel_row picture y)
 
 abbrev pub rows_left : Picture → ℕ → List Due
 rows_left picture y = same_lines what.Image (map (row_at picture) (drop y (range_with_len 0 picture.height)))
 
 -- by what is said of the image that is found
 pub rows_first : (found : Option Picture) (image : ℕ) (picture : Picture) {line due : List ℕ} → found ≡ Some picture → due ≡ line → IfSome found (λ picture. line ≡ head_text image picture.width picture.height)
-    → Begins (same_lines what.Image (image_lines (image, picture))) (same_lines what.Image (due ∷ [])) (rows_left picture 0)
+    → Begins (same_lines what.Image (lines_of_image (image, picture))) (same_lines what.Image (due ∷ [])) (rows_left picture 0)
 rows_first found image picture {line} there same said = line_next (same ∙ said_of found (λ (picture : Picture). line ≡ head_text image picture.width picture.height) picture there said)
 
-pub rows_next : (found : Option Picture) (y : ℕ) (picture : Picture) {line due : List ℕ} → found ≡ Some picture → y < picture.height → due ≡ line → IfSome found (λ picture. line ≡ row_text (row_of picture y))
+pub rows_next : (found : Option Picture) (y : ℕ) (picture : Picture) {line due : List ℕ} → found ≡ Some picture → y < picture.height → due ≡ line → IfSome found (λ picture. line ≡ row_text (texel_row picture y))
     → Begins (rows_left picture y) (same_lines what.Image (due ∷ [])) (rows_left picture (y + 1))
 rows_next found y picture {line} there more same said =
-    lines_next what.Image (row_at picture) (at_range 0 picture.height y y more (omega arith)) (same ∙ said_of found (λ (picture : Picture). line ≡ row_text (row_of picture y)) picture there said)
+    lines_next what.Image (row_at picture) (at_range 0 picture.height y y more (omega arith)) (same ∙ said_of found (λ (picture : Picture). line ≡ row_text (texel_row picture y)) picture there said)
 
 pub rows_end : (picture : Picture) (y : ℕ) → picture.height ≤ y → rows_left picture y ≡ []
 rows_end picture y all = ap (λ (ys : List ℕ). same_lines what.Image (map (row_at picture) ys)) (range_end 0 picture.height y all)
 
 abbrev pub images_left : Pictures → ℕ → List Due
-images_left images index = same_lines what.Image (flat_map image_lines (drop index images))
+images_left images index = same_lines what.Image (flat_map lines_of_image (drop index images))
 
-pub images_next : (images : Pictures) (index image : ℕ) (here : Stands images index image) → Begins (images_left images index) (same_lines what.Image (image_lines (image, here.entry.1))) (images_left images (index + 1))
+pub images_next : (images : Pictures) (index image : ℕ) (here : Stands images index image) → Begins (images_left images index) (same_lines what.Image (lines_of_image (image, here.entry.1))) (images_left images (index + 1))
 images_next images index image here = record {
-  is = ap (λ (entries : Pictures). same_lines what.Image (flat_map image_lines entries)) (at_read images index here.entry here.within (sym here.there)).is
-      ∙ same_both what.Image (image_lines here.entry) (flat_map image_lines (drop (index + 1) images))
-      ∙ ap (λ (n : ℕ). same_lines what.Image (image_lines (n, here.entry.1)) ++ images_left images (index + 1)) (sym here.same);
+  is = ap (λ (entries : Pictures). same_lines what.Image (flat_map lines_of_image entries)) (at_read images index here.entry here.within (sym here.there)).is
+      ∙ same_both what.Image (lines_of_image here.entry) (flat_map lines_of_image (drop (index + 1) images))
+      ∙ ap (λ (n : ℕ). same_lines what.Image (lines_of_image (n, here.entry.1)) ++ images_left images (index + 1)) (sym here.same);
 }
 
 -- ---- streams and marks

@@ -26,7 +26,7 @@ use Rattle.journal_text.proofs.Telling.{different_texts}
 use Rattle.script_lines.specs.Text.{ends_line}
 use Rattle.script_lines.proofs.Cuts.{not_found}
 use Rattle.verify_input.specs.Said.{is_space, pieces_said, line_said}
-use Rattle.verify_input.specs.Reading.{IsWord, IsWritten, HasNoFeed, IsJournal, whole_lines, IsLineOf, IsFirstBad, RefusedIsNoJournal, JournalIsOne}
+use Rattle.verify_input.specs.Reading.{IsWord, HasNumbersOfWords, HasNoFeed, IsJournal, whole_lines, IsLineOf, IsFirstBad, RefusedIsNoJournal, JournalIsOne}
 use Rattle.verify_input.proofs.Numbers.{value_digits}
 use Rattle.verify_input.proofs.Words.{word_piece}
 use Rattle.verify_input.proofs.Events.{why_piece, event_pieces, pieces_told, pieces_there}
@@ -82,7 +82,7 @@ ink_why (Error UnknownCommand) = ink_letters (codes "3") refl
 ink_why (Error InvalidArguments) = ink_letters (codes "4") refl
 ink_why (Error Quota) = ink_letters (codes "6") refl
 
-ink_event : (event : Event) → IsWritten event → AreInk (event_pieces event)
+ink_event : (event : Event) → HasNumbersOfWords event → AreInk (event_pieces event)
 ink_event (Order stream order place) is = (ink_letters (codes "order") refl, (ink_number stream is.0, (ink_number order is.1, (ink_number place is.2, tt))))
 ink_event (Step stream words) is = (ink_letters (codes "step") refl, (ink_number stream is.0, ink_words words is.1))
 ink_event (Finish stream order) is = (ink_letters (codes "finish") refl, (ink_number stream is.0, (ink_number order is.1, tt)))
@@ -99,7 +99,7 @@ split_joined x (y ∷ ys) ink =
     slice_split_at is_space x 32 (join_with_byte 32 (y ∷ ys)) (no_space x ink.0) refl
     ∙ ap (λ (rest : List (List ℕ)). x ∷ rest) (split_joined y ys ink.1)
 
-event_split : (event : Event) → IsWritten event → slice_split is_space (join_with_byte 32 (event_pieces event)) ≡ event_pieces event
+event_split : (event : Event) → HasNumbersOfWords event → slice_split is_space (join_with_byte 32 (event_pieces event)) ≡ event_pieces event
 event_split (Order stream order place) is = split_joined _ _ (ink_event (Order stream order place) is)
 event_split (Step stream words) is = split_joined _ _ (ink_event (Step stream words) is)
 event_split (Finish stream order) is = split_joined _ _ (ink_event (Finish stream order) is)
@@ -152,7 +152,7 @@ joined_no_feed (x ∷ y ∷ ys) ink =
     All-append (λ byte. ends_line byte ≡ false) x (32 ∷ join_with_byte 32 (y ∷ ys)) (All-weaker IsInk (λ byte. ends_line byte ≡ false) feed_none x ink.0)
     (All-cons (λ byte. ends_line byte ≡ false) 32 (join_with_byte 32 (y ∷ ys)) refl (joined_no_feed (y ∷ ys) ink.1))
 
-pub event_no_feed : (event : Event) → IsWritten event → HasNoFeed (join_with_byte 32 (event_pieces event))
+pub event_no_feed : (event : Event) → HasNumbersOfWords event → HasNoFeed (join_with_byte 32 (event_pieces event))
 event_no_feed event is = joined_no_feed (event_pieces event) (ink_event event is)
 
 -- the first line of a text
@@ -165,27 +165,27 @@ lines_last b [] none = rw (All-head (λ byte. ends_line byte ≡ false) b [] non
 lines_last b (c ∷ text) none = rw (All-head (λ byte. ends_line byte ≡ false) b (c ∷ text) none, lines_last c text (All-tail (λ byte. ends_line byte ≡ false) b (c ∷ text) none)) refl
 
 -- the lines of a text that begins with a journal
-journal_lines : (events : List Event) (rest : List ℕ) → All IsWritten events → whole_lines (flat_map event_text events ++ rest) ≡ map event_text events ++ whole_lines rest
+journal_lines : (events : List Event) (rest : List ℕ) → All HasNumbersOfWords events → whole_lines (flat_map event_text events ++ rest) ≡ map event_text events ++ whole_lines rest
 journal_lines [] rest are = refl
 journal_lines (event ∷ events) rest are =
-    let written = All-head IsWritten event events are in
+    let written = All-head HasNumbersOfWords event events are in
     let front = join_with_byte 32 (event_pieces event) in
     let more = flat_map event_text events ++ rest in
     let flat : flat_map event_text (event ∷ events) ++ rest ≡ front ++ 10 ∷ more =
     append_assoc (event_text event) (flat_map event_text events) rest ∙ ap (λ (text : List ℕ). text ++ more) (event_joined event) ∙ append_assoc front (10 ∷ []) more in
     ap whole_lines flat ∙ lines_first front more (event_no_feed event written)
-    ∙ (λ i. sym (event_joined event) i ∷ journal_lines events rest (All-tail IsWritten event events are) i)
+    ∙ (λ i. sym (event_joined event) i ∷ journal_lines events rest (All-tail HasNumbersOfWords event events are) i)
 
 -- ---- the first line that is no event's
 
-bad_behind : (events : List Event) (line : List ℕ) (more : List (List ℕ)) → All IsWritten events → ((event : Event) → IsLineOf line event → ⊥) → IsFirstBad (map event_text events ++ line ∷ more) (length events)
+bad_behind : (events : List Event) (line : List ℕ) (more : List (List ℕ)) → All HasNumbersOfWords events → ((event : Event) → IsLineOf line event → ⊥) → IsFirstBad (map event_text events ++ line ∷ more) (length events)
 bad_behind [] line more are bad = bad
-bad_behind (event ∷ events) line more are bad = ((event, (All-head IsWritten event events are, refl)), bad_behind events line more (All-tail IsWritten event events are) bad)
+bad_behind (event ∷ events) line more are bad = ((event, (All-head HasNumbersOfWords event events are, refl)), bad_behind events line more (All-tail HasNumbersOfWords event events are) bad)
 
-none_bad : (events : List Event) (k : ℕ) → All IsWritten events → IsFirstBad (map event_text events) k → ⊥
+none_bad : (events : List Event) (k : ℕ) → All HasNumbersOfWords events → IsFirstBad (map event_text events) k → ⊥
 none_bad [] k are bad = bad
-none_bad (event ∷ events) zero are bad = bad event (All-head IsWritten event events are, refl)
-none_bad (event ∷ events) (suc k) are bad = none_bad events k (All-tail IsWritten event events are) bad.1
+none_bad (event ∷ events) zero are bad = bad event (All-head HasNumbersOfWords event events are, refl)
+none_bad (event ∷ events) (suc k) are bad = none_bad events k (All-tail HasNumbersOfWords event events are) bad.1
 
 pub refused_is_no_journal : RefusedIsNoJournal
 unfolding journal_text
@@ -193,7 +193,7 @@ refused_is_no_journal text k events bad is =
     let lines : whole_lines text ≡ map event_text events = ap whole_lines (is.is ∙ sym (append-nil (flat_map event_text events))) ∙ journal_lines events [] is.written ∙ append-nil (map event_text events) in
     none_bad events k is.written (subst (λ (lines : List (List ℕ)). IsFirstBad lines k) lines bad)
 
-has_words : (event : Event) → IsWritten event → HasWords event
+has_words : (event : Event) → HasNumbersOfWords event → HasWords event
 has_words (Order stream order place) is = All-nil (λ word. word.1 < 2 ^ 32)
 has_words (Step stream words) is = All-weaker IsWord (λ word. word.1 < 2 ^ 32) (λ word both. both.1) words is.1
 has_words (Finish stream order) is = All-nil (λ word. word.1 < 2 ^ 32)
@@ -202,18 +202,18 @@ has_words (Lost stream Memory words) is = rw (is.1) (All-nil (λ word. word.1 < 
 has_words (Close stream) is = All-nil (λ word. word.1 < 2 ^ 32)
 
 pub journal_is_one : JournalIsOne
-journal_is_one text g h first second = different_texts g h (All-weaker IsWritten HasWords has_words g first.written) (All-weaker IsWritten HasWords has_words h second.written) (sym first.is ∙ second.is)
+journal_is_one text g h first second = different_texts g h (All-weaker HasNumbersOfWords HasWords has_words g first.written) (All-weaker HasNumbersOfWords HasWords has_words h second.written) (sym first.is ∙ second.is)
 
 -- ---- a text that is read up to some place
 
 -- the events of what was read, and the text after it
 pub record IsRead (text : List ℕ) (events : List Event) (rest : List ℕ) : Type 0 where
   pub is : text ≡ flat_map event_text events ++ rest
-  pub written : All IsWritten events
+  pub written : All HasNumbersOfWords events
   pub few : length events + length rest ≤ length text
 
 pub read_none : (text : List ℕ) → IsRead text [] text
-read_none text = record { is = refl; written = All-nil IsWritten; few = omega arith }
+read_none text = record { is = refl; written = All-nil HasNumbersOfWords; few = omega arith }
 
 pub read_more : (text : List ℕ) (events : List Event) (rest front behind : List ℕ) (event : Event) → IsRead text events rest → rest ≡ front ++ 10 ∷ behind → line_said front ≡ Some event → IsRead text (events ++ event ∷ []) behind
 read_more text events rest front behind event read cut said =
@@ -224,7 +224,7 @@ read_more text events rest front behind event read cut said =
     let before = read.few in
     record {
       is = read.is ∙ ap (λ (text : List ℕ). flat_map event_text events ++ text) (cut ∙ line) ∙ sym (append_assoc (flat_map event_text events) (event_text event) behind) ∙ ap (λ (text : List ℕ). text ++ behind) (sym one);
-      written = All-push IsWritten events event read.written is.0;
+      written = All-push HasNumbersOfWords events event read.written is.0;
       few = omega (arith, length-append events (event ∷ []));
     }
 

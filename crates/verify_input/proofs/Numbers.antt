@@ -15,7 +15,7 @@ use Rattle.std.proofs.lemmas.Fmt.{decimal_is_IsNumeral, length-decimal-le, first
 use Rattle.std.proofs.lemmas.Int.Digits.{digits_value-lt, digits_value_more}
 use Rattle.std.proofs.lemmas.List.Folds.{list_all-append, list_all_at, list_all_more}
 use Rattle.std.proofs.Math.Nat.{pow-le-pow_right}
-use Rattle.script_lines.specs.Numbers.{number_of, decimal_of, hex_of}
+use Rattle.script_lines.specs.Numbers.{number_said, decimal_of, hex_of}
 use Rattle.script_lines.proofs.Digits.{all_digits}
 use Rattle.journal_text.specs.Digits.{numeral, hex_digits, hex8}
 use Rattle.journal_text.proofs.Lengths.{length-hex8}
@@ -39,8 +39,8 @@ record IsNumber (radix most limit : ℕ) (word : List ℕ) (n : ℕ) : Type 0 wh
   small : digits_value radix word < limit
   is : digits_value radix word ≡ n
 
-number_told : (radix most limit : ℕ) (word : List ℕ) (n : ℕ) → number_of radix most limit word ≡ Some n → IsNumber radix most limit word n
-unfolding number_of
+number_told : (radix most limit : ℕ) (word : List ℕ) (n : ℕ) → number_said radix most limit word ≡ Some n → IsNumber radix most limit word n
+unfolding number_said
 number_told radix most limit word n e = by (ltb 0 (length word)) (leb (length word) most) (list_all (λ c. is_digit c radix) word) (ltb (digits_value radix word) limit) refl refl refl refl e
   where
     by : (a b c d : Bool) → ltb 0 (length word) ≡ a → leb (length word) most ≡ b → list_all (λ c. is_digit c radix) word ≡ c → ltb (digits_value radix word) limit ≡ d → cond (((a && b) && c) && d) (Some (digits_value radix word)) None ≡ Some n → IsNumber radix most limit word n
@@ -50,8 +50,8 @@ number_told radix most limit word n e = by (ltb 0 (length word)) (leb (length wo
     by true true false d ea eb ec ed e = absurd (cc)
     by true true true false ea eb ec ed e = absurd (cc)
 
-number_there : (radix most limit : ℕ) (word : List ℕ) (n : ℕ) → IsNumber radix most limit word n → number_of radix most limit word ≡ Some n
-unfolding number_of
+number_there : (radix most limit : ℕ) (word : List ℕ) (n : ℕ) → IsNumber radix most limit word n → number_said radix most limit word ≡ Some n
+unfolding number_said
 number_there radix most limit word n is =
     let a : ltb 0 (length word) ≡ true = lt-ltb _ _ is.some in
     let b : leb (length word) most ≡ true = let s = is.short in grind (arith, nat_tests) in

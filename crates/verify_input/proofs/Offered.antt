@@ -5,7 +5,7 @@ use Rattle.std.specs.List.{All, concat, flat_map, join_with_byte, range_with_len
 use Rattle.std.proofs.lemmas.List.{append-nil, drop_at}
 use Rattle.std.proofs.lemmas.List.Elements.{All-nil, All-cons, All-head, All-tail, All-append}
 use Rattle.std.proofs.lemmas.List.Folds.{concat-append}
-use Rattle.gpu_store.specs.Picture.{row_of}
+use Rattle.gpu_store.specs.Picture.{texel_row}
 use Rattle.gpu_store.specs.Images.{Pictures}
 use Rattle.gpu_plan.specs.Plans.{PlansData, plan_of}
 use Rattle.wait_hooks.specs.Marks.{mark}
@@ -18,11 +18,11 @@ use Rattle.journal_text.specs.Text.{event_text, journal_text, tally_of, stream_t
 use Rattle.journal_text.specs.Picture.{head_text, row_text}
 use Rattle.journal_text.specs.Lines.{journal_head, name_text, mark_text, dump_text}
 use Rattle.journal_text.specs.Output.{AreDumps, AreDumpsOf}
-use Rattle.verify_input.specs.Reading.{IsWritten, whole_lines}
+use Rattle.verify_input.specs.Reading.{HasNumbersOfWords, whole_lines}
 use Rattle.verify_input.specs.Cuts.{IsLine}
 use Rattle.verify_input.specs.Parts.{before}
 use Rattle.verify_input.specs.Found.{head_of}
-use Rattle.verify_input.specs.Due.{Due, Dump, same_lines, image_lines, picture_lines, end_lines, ending_lines, dumps_due, looks_due, dues, AreTakenOff, AreDue, viewers_in}
+use Rattle.verify_input.specs.Due.{Due, Dump, same_lines, lines_of_image, picture_lines, end_lines, ending_lines, dumps_due, looks_due, dues, AreTakenOff, AreDue, viewers_in}
 use Rattle.verify_input.specs.Whole.{TellsAll}
 use Rattle.verify_input.specs.declared.what.What.{What}
 use Rattle.verify_input.specs.declared.what.What.TheVariants as what
@@ -49,11 +49,11 @@ heads_are p = by (p.version == 2)
     by true = All-cons IsLine journal_head _ head_line (all_lines IsLine (λ s. name_text s (plan_of p s).name) (λ s. name_line s (plan_of p s).name) (streams_of p))
     by false = All-nil IsLine
 
-images_are : (images : Pictures) → All IsLine (flat_map image_lines images)
+images_are : (images : Pictures) → All IsLine (flat_map lines_of_image images)
 images_are [] = All-nil IsLine
 images_are (entry ∷ images) =
-    All-append IsLine (image_lines entry) (flat_map image_lines images)
-    (All-cons IsLine (head_text entry.0 entry.1.width entry.1.height) _ (image_line entry.0 entry.1.width entry.1.height) (all_lines IsLine (λ y. row_text (row_of entry.1 y)) (λ y. row_line (row_of entry.1 y)) _))
+    All-append IsLine (lines_of_image entry) (flat_map lines_of_image images)
+    (All-cons IsLine (head_text entry.0 entry.1.width entry.1.height) _ (image_line entry.0 entry.1.width entry.1.height) (all_lines IsLine (λ y. row_text (texel_row entry.1 y)) (λ y. row_line (texel_row entry.1 y)) _))
     (images_are images)
 
 -- ---- the journal ends before the lines of the other parts
@@ -69,12 +69,12 @@ before_front (line ∷ front) others goes stops = rw (All-head Goes line front g
 
 -- ---- the lines of a journal
 
-pub event_lines : (events : List Event) → All IsWritten events → All IsLine (map event_text events)
+pub event_lines : (events : List Event) → All HasNumbersOfWords events → All IsLine (map event_text events)
 event_lines [] are = All-nil IsLine
 event_lines (event ∷ events) are =
     All-cons IsLine (event_text event) (map event_text events)
-    (record { line = join_with_byte 32 (event_pieces event); none = event_no_feed event (All-head IsWritten event events are); is = event_joined event })
-    (event_lines events (All-tail IsWritten event events are))
+    (record { line = join_with_byte 32 (event_pieces event); none = event_no_feed event (All-head HasNumbersOfWords event events are); is = event_joined event })
+    (event_lines events (All-tail HasNumbersOfWords event events are))
 
 pub events_text : (events : List Event) → concat (map event_text events) ≡ journal_text events
 unfolding journal_text
@@ -85,7 +85,7 @@ events_text events = by events
     by (event ∷ events) = ap (λ (text : List ℕ). event_text event ++ text) (by events)
 
 -- the lines of the head, of a journal, and others that end it tell its events
-pub tells_of : (p : PlansData) (events : List Event) (others : List (List ℕ)) → All IsWritten events → Stops others → TellsAll p (head_of p ++ (map event_text events ++ others)) events others
+pub tells_of : (p : PlansData) (events : List Event) (others : List (List ℕ)) → All HasNumbersOfWords events → Stops others → TellsAll p (head_of p ++ (map event_text events ++ others)) events others
 tells_of p events others are stops =
     let front = map event_text events in
     let front_is : before Journal (front ++ others) ≡ front = before_front front others (all_lines Goes event_text event_goes events) stops in
@@ -104,7 +104,7 @@ stops_all : (lines behind : List (List ℕ)) → All Ends lines → Stops behind
 stops_all [] behind ends stops = stops
 stops_all (line ∷ lines) behind ends stops = All-head Ends line lines ends
 
-images_stop : (images : Pictures) (behind : List (List ℕ)) → Stops behind → Stops (flat_map image_lines images ++ behind)
+images_stop : (images : Pictures) (behind : List (List ℕ)) → Stops behind → Stops (flat_map lines_of_image images ++ behind)
 images_stop [] behind stops = stops
 images_stop (entry ∷ images) behind stops = image_ends entry.0 entry.1.width entry.1.height
 

@@ -7,7 +7,7 @@ use Rattle.gpu_plan.specs.Plans.{PlansData}
 use Rattle.gpu_journal.specs.declared.event.Event.{Event}
 use Rattle.journal_text.specs.Text.{journal_text}
 use Rattle.journal_verify.proofs.Firsts.{wrong_is_illegal}
-use Rattle.verify_input.specs.Reading.{IsWritten, IsFirstBad, whole_lines}
+use Rattle.verify_input.specs.Reading.{HasNumbersOfWords, IsFirstBad, whole_lines}
 use Rattle.verify_input.specs.Parts.{before, script_part}
 use Rattle.verify_input.specs.Found.{script_in, head_of}
 use Rattle.verify_input.specs.Due.{dues, heads_due, IsOff, viewers_in}
@@ -77,7 +77,7 @@ record IsOfEvents (p : PlansData) (base total : ℕ) (rest : List (List ℕ)) (f
   events : List Event
   others : List (List ℕ)
   told : before Journal rest ≡ whole_lines (journal_text events)
-  written : All IsWritten events
+  written : All HasNumbersOfWords events
   left : others ≡ drop (length (before Journal rest)) rest
   found : FindsAll p base events others (total - length others + 1) finding
 
@@ -99,7 +99,7 @@ IsOf base count total (Ok p) (Some lines) finding = IsOfLines p base count total
 -- ---- one finding alone is that of what is read
 
 -- lines of events alone have none that is no event's
-line_not_told : (rest : List (List ℕ)) (k : ℕ) (events : List Event) → IsFirstBad (before Journal rest) k → before Journal rest ≡ whole_lines (journal_text events) → All IsWritten events → ⊥
+line_not_told : (rest : List (List ℕ)) (k : ℕ) (events : List Event) → IsFirstBad (before Journal rest) k → before Journal rest ≡ whole_lines (journal_text events) → All HasNumbersOfWords events → ⊥
 line_not_told rest k events bad told written =
     refused_is_no_journal (journal_text events) k events (subst (λ (lines : List (List ℕ)). IsFirstBad lines k) told bad) (record { is = refl; written = written })
 

@@ -14,7 +14,7 @@ use Rattle.journal_text.specs.Text.{journal_text}
 use Rattle.verify_input.specs.Reading.{IsFirstBad, whole_lines}
 use Rattle.verify_input.proofs.Lines.{refused_is_no_journal, journal_is_one}
 use Rattle.journal_verify.specs.Rules.{BreaksFirst}
-use Rattle.journal_verify.specs.Answers.{IsFirstWrong, IsWhole, IsUnfinished}
+use Rattle.journal_verify.specs.Answers.{IsFirstWrong, IsWholeHistory, IsUnfinished}
 use Rattle.journal_verify.proofs.Firsts.{wrong_is_illegal, rule_is_one}
 use Rattle.verify_input.specs.declared.finding.Finding.{Finding}
 use Rattle.verify_input.specs.declared.finding.Finding.TheVariants.{Refused, NoJournal, No, Differs, NotComplete, Yes}
@@ -160,7 +160,7 @@ wrong_legal : (input : List ℕ) (event rule : ℕ) (p : PlansData) (events : Li
 wrong_legal input event rule p events breaks records legal =
     wrong_is_illegal p events event rule (said_again input (λ p events. IsFirstWrong p events event rule) breaks.0 p breaks.1 events breaks.2 records breaks.3) legal
 
-short_whole : (input : List ℕ) (p : PlansData) (events : List Event) → IsCutShort input → Records input p events → IsWhole p (reverse events) → ⊥
+short_whole : (input : List ℕ) (p : PlansData) (events : List Event) → IsCutShort input → Records input p events → IsWholeHistory p (reverse events) → ⊥
 short_whole input p events short records whole =
     (said_again input (λ p events. IsUnfinished p (reverse events)) short.0 p short.1 events short.2 records short.3).unfinished whole.complete
 

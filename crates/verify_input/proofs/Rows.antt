@@ -1,7 +1,7 @@
 -- An image that is found: its height, and its lines.
 use Rattle.std.proofs.Common.{◌≡◌, ℕ, ◌<◌, Option, Some, None, List, refl, sym, ap, subst, ◌∙◌}
 use Rattle.std.specs.Prelude.{option_map, unwrap_or, IsSome, IfSome, IsSomeAnd}
-use Rattle.gpu_store.specs.Picture.{Picture, row_of}
+use Rattle.gpu_store.specs.Picture.{Picture, texel_row}
 use Rattle.journal_text.specs.Picture.{head_text, row_text}
 use Rattle.verify_input.specs.Cuts.{IsLine}
 use Rattle.verify_input.proofs.Feeds.{image_line, row_line}
@@ -20,9 +20,9 @@ pub head_is_line : (found : Option Picture) (image : ℕ) (line : List ℕ) → 
 head_is_line None image line some said = absurd (cc some)
 head_is_line (Some picture) image line some said = subst IsLine (sym said) (image_line image picture.width picture.height)
 
-pub row_is_line : (found : Option Picture) (y : ℕ) (line : List ℕ) → IsSome found → IfSome found (λ picture. line ≡ row_text (row_of picture y)) → IsLine line
+pub row_is_line : (found : Option Picture) (y : ℕ) (line : List ℕ) → IsSome found → IfSome found (λ picture. line ≡ row_text (texel_row picture y)) → IsLine line
 row_is_line None y line some said = absurd (cc some)
-row_is_line (Some picture) y line some said = subst IsLine (sym said) (row_line (row_of picture y))
+row_is_line (Some picture) y line some said = subst IsLine (sym said) (row_line (texel_row picture y))
 
 -- a row is within the image whose height this is
 pub row_within : (found : Option Picture) (height y : ℕ) → IsSome found → ((picture : Picture) → found ≡ Some picture → height ≡ picture.height) → y < height → IsSomeAnd found (λ picture. y < picture.height)

@@ -5,26 +5,26 @@ use Rattle.std.specs.List.{concat}
 use Rattle.std.proofs.lemmas.List.{append-nil}
 use Rattle.std.proofs.lemmas.List.Elements.{All-head, All-tail}
 use Rattle.script_lines.specs.Text.{ends_line, words_of}
-use Rattle.verify_input.specs.Reading.{HasNoFeed, joined, whole_lines}
+use Rattle.verify_input.specs.Reading.{HasNoFeed, byte_before, whole_lines}
 use Rattle.verify_input.proofs.Lines.{lines_first}
 use Rattle.verify_input.specs.Parts.{words_on}
 use Rattle.verify_input.specs.Cuts.{IsFirstLine, IsLine}
 
 -- ---- lines and their text
 
-concat_joined : (byte : ℕ) (lines : List (List ℕ)) → concat (joined byte lines) ≡ byte ∷ concat lines
+concat_joined : (byte : ℕ) (lines : List (List ℕ)) → concat (byte_before byte lines) ≡ byte ∷ concat lines
 concat_joined byte [] = refl
 concat_joined byte (line ∷ lines) = refl
 
 pub concat_whole : (text : List ℕ) → concat (whole_lines text) ≡ text
 concat_whole [] = refl
 concat_whole (byte ∷ text) =
-    elim (ends_line byte) as (λ b. concat (cond b ((byte ∷ []) ∷ whole_lines text) (joined byte (whole_lines text))) ≡ byte ∷ text) [
+    elim (ends_line byte) as (λ b. concat (cond b ((byte ∷ []) ∷ whole_lines text) (byte_before byte (whole_lines text))) ≡ byte ∷ text) [
       | true ↦ ap (λ (rest : List ℕ). byte ∷ rest) (concat_whole text)
       | false ↦ concat_joined byte (whole_lines text) ∙ ap (λ (rest : List ℕ). byte ∷ rest) (concat_whole text)
     ]
 
-length_joined : (byte : ℕ) (lines : List (List ℕ)) → length (joined byte lines) ≤ suc (length lines)
+length_joined : (byte : ℕ) (lines : List (List ℕ)) → length (byte_before byte lines) ≤ suc (length lines)
 length_joined byte [] = omega arith
 length_joined byte (line ∷ lines) = omega arith
 
@@ -32,7 +32,7 @@ pub few_whole : (text : List ℕ) → length (whole_lines text) ≤ length text
 few_whole [] = omega arith
 few_whole (byte ∷ text) =
     let rest = few_whole text in
-    elim (ends_line byte) as (λ b. length (cond b ((byte ∷ []) ∷ whole_lines text) (joined byte (whole_lines text))) ≤ suc (length text)) [
+    elim (ends_line byte) as (λ b. length (cond b ((byte ∷ []) ∷ whole_lines text) (byte_before byte (whole_lines text))) ≤ suc (length text)) [
       | true ↦ omega arith
       | false ↦ omega (arith, length_joined byte (whole_lines text))
     ]

@@ -8,7 +8,7 @@ use Rattle.gpu_plan.specs.Plans.{PlansData}
 use Rattle.gpu_journal.specs.declared.event.Event.{Event}
 use Rattle.journal_text.specs.Text.{journal_text}
 use Rattle.script_lines.specs.Text.{ends_line}
-use Rattle.verify_input.specs.Reading.{joined, whole_lines, IsJournal}
+use Rattle.verify_input.specs.Reading.{byte_before, whole_lines, IsJournal}
 use Rattle.verify_input.specs.Parts.{words_on, is_end, before, behind, script_part}
 use Rattle.verify_input.specs.Found.{script_in, head_of, IsFirstOther}
 use Rattle.verify_input.specs.Due.{same_lines, heads_due, IsOff}
@@ -130,7 +130,7 @@ before_few border [] = omega arith
 before_few border (line ∷ lines) = few_by (is_end border (words_on line)) line lines (before border lines) (before_few border lines)
 
 -- the lines behind a line of a text are those of a text, and so are those behind a part
-joined_tail : (byte : ℕ) (lines : List (List ℕ)) → drop 1 (joined byte lines) ≡ drop 1 lines
+joined_tail : (byte : ℕ) (lines : List (List ℕ)) → drop 1 (byte_before byte lines) ≡ drop 1 lines
 joined_tail byte [] = refl
 joined_tail byte (line ∷ lines) = refl
 
@@ -139,7 +139,7 @@ tail_whole [] = refl
 tail_whole (byte ∷ text) =
     let rest = tail_whole text in
     let same = joined_tail byte (whole_lines text) in
-    elim (ends_line byte) as (λ b. whole_lines (concat (drop 1 (cond b ((byte ∷ []) ∷ whole_lines text) (joined byte (whole_lines text))))) ≡ drop 1 (cond b ((byte ∷ []) ∷ whole_lines text) (joined byte (whole_lines text)))) [
+    elim (ends_line byte) as (λ b. whole_lines (concat (drop 1 (cond b ((byte ∷ []) ∷ whole_lines text) (byte_before byte (whole_lines text))))) ≡ drop 1 (cond b ((byte ∷ []) ∷ whole_lines text) (byte_before byte (whole_lines text)))) [
       | true ↦ ap whole_lines (concat_whole text)
       | false ↦ ap (λ (ls : List (List ℕ)). whole_lines (concat ls)) same ∙ rest ∙ sym same
     ]

@@ -1,7 +1,7 @@
 -- The lines that are due in a whole output, and the first that is off.
 use Rattle.std.specs.Prelude.{◌≡◌, ℕ, zero, suc, ◌+◌, ◌/◌, ◌≤◌, min, List, [], ◌∷◌, ◌++◌, length, map, replicate, codes, bytes_eq, Bool, false, count_by}
 use Rattle.std.specs.List.{flat_map, range_with_len}
-use Rattle.gpu_store.specs.Picture.{Picture, row_of}
+use Rattle.gpu_store.specs.Picture.{Picture, texel_row}
 use Rattle.gpu_plan.specs.Plans.{PlansData}
 use Rattle.wait_hooks.specs.Marks.{mark}
 use Rattle.gpu_journal.specs.declared.event.Event.{Event}
@@ -55,13 +55,13 @@ abbrev pub same_lines : What → List (List ℕ) → List Due
 same_lines part lines = map (λ line. Same part line) lines
 
 -- an image: its own line, and the line of each of its rows
-abbrev pub image_lines : ℕ × Picture → List (List ℕ)
-image_lines entry =
-    head_text entry.0 entry.1.width entry.1.height ∷ map (λ y. row_text (row_of entry.1 y)) (range_with_len 0 entry.1.height)
+abbrev pub lines_of_image : ℕ × Picture → List (List ℕ)
+lines_of_image entry =
+    head_text entry.0 entry.1.width entry.1.height ∷ map (λ y. row_text (texel_row entry.1 y)) (range_with_len 0 entry.1.height)
 
 -- the lines of all images
 abbrev pub picture_lines : PlansData → List Event → List (List ℕ)
-picture_lines p h = flat_map image_lines (replay p h)
+picture_lines p h = flat_map lines_of_image (replay p h)
 
 -- the line of each stream
 abbrev pub end_lines : PlansData → List Event → List (List ℕ)

@@ -10,10 +10,10 @@ use Rattle.gpu_journal.specs.Ended.{streams_of}
 use Rattle.gpu_journal.specs.World.{replay}
 use Rattle.journal_text.specs.Text.{journal_text}
 use Rattle.journal_text.specs.Lines.{journal_head, name_text}
-use Rattle.verify_input.specs.Reading.{IsWritten, IsFirstBad, whole_lines}
+use Rattle.verify_input.specs.Reading.{HasNumbersOfWords, IsFirstBad, whole_lines}
 use Rattle.verify_input.specs.declared.fault.JournalFault.{JournalFault}
 use Rattle.verify_input.specs.declared.fault.JournalFault.TheVariants as faults
-use Rattle.journal_verify.specs.Answers.{IsFirstWrong, IsWhole, IsUnfinished}
+use Rattle.journal_verify.specs.Answers.{IsFirstWrong, IsWholeHistory, IsUnfinished}
 use Rattle.verify_input.specs.Parts.{script_part, journal_part}
 use Rattle.verify_input.specs.declared.finding.Finding.{Finding}
 use Rattle.verify_input.specs.declared.finding.Finding.TheVariants.{Refused, NoJournal, No, Differs, NotComplete, Yes}
@@ -29,7 +29,7 @@ head_of p = if p.version == 2 then journal_head ∷ map (λ s. name_text s (plan
 -- the lines are those of the head, and of the journal text of these events, each of numbers of 32 bits
 pub record TellsBehind (heads text : List (List ℕ)) (events : List Event) : Type 0 where
   pub lines : text ≡ heads ++ whole_lines (journal_text events)
-  pub written : All IsWritten events
+  pub written : All HasNumbersOfWords events
 
 -- the input has a lawful script, which says these plans, and its journal text tells these events
 pub record Records (input : List ℕ) (p : PlansData) (events : List Event) : Type 0 where
@@ -76,7 +76,7 @@ IsCutShort input = (p : PlansData) × (events : List Event) × Records input p e
 
 -- the journal is a legal and complete history of the script, of a given number of events, and leaves these images
 abbrev pub IsRight : List ℕ → Pictures → ℕ → Type 0
-IsRight input images count = (p : PlansData) × (events : List Event) × Records input p events × IsWhole p (reverse events) × (images ≡ replay p (reverse events)) × (count ≡ length events)
+IsRight input images count = (p : PlansData) × (events : List Event) × Records input p events × IsWholeHistory p (reverse events) × (images ≡ replay p (reverse events)) × (count ≡ length events)
 
 -- the verdict on an input
 abbrev pub Finds : List ℕ → Finding → Type 0

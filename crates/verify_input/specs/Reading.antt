@@ -14,36 +14,36 @@ abbrev pub IsWord : ℕ × ℕ → Type 0
 IsWord word = (word.0 < 2 ^ 32) × (word.1 < 2 ^ 32)
 
 -- an event of numbers of 32 bits; a loss as out of memory has no words
-abbrev pub IsWritten : Event → Type 0
-IsWritten (Order stream order place) = (stream < 2 ^ 32) × (order < 2 ^ 32) × (place < 2 ^ 32)
-IsWritten (Step stream words) = (stream < 2 ^ 32) × All IsWord words
-IsWritten (Finish stream order) = (stream < 2 ^ 32) × (order < 2 ^ 32)
-IsWritten (Lost stream (Error error) words) = (stream < 2 ^ 32) × All IsWord words
-IsWritten (Lost stream Memory words) = (stream < 2 ^ 32) × (words ≡ [])
-IsWritten (Close stream) = stream < 2 ^ 32
+abbrev pub HasNumbersOfWords : Event → Type 0
+HasNumbersOfWords (Order stream order place) = (stream < 2 ^ 32) × (order < 2 ^ 32) × (place < 2 ^ 32)
+HasNumbersOfWords (Step stream words) = (stream < 2 ^ 32) × All IsWord words
+HasNumbersOfWords (Finish stream order) = (stream < 2 ^ 32) × (order < 2 ^ 32)
+HasNumbersOfWords (Lost stream (Error error) words) = (stream < 2 ^ 32) × All IsWord words
+HasNumbersOfWords (Lost stream Memory words) = (stream < 2 ^ 32) × (words ≡ [])
+HasNumbersOfWords (Close stream) = stream < 2 ^ 32
 
 -- the text is the journal text of these events
 pub record IsJournal (text : List ℕ) (events : List Event) : Type 0 where
   pub is : text ≡ journal_text events
-  pub written : All IsWritten events
+  pub written : All HasNumbersOfWords events
 
 -- no byte is a line feed
 abbrev pub HasNoFeed : List ℕ → Type 0
 HasNoFeed text = All (λ byte. ends_line byte ≡ false) text
 
 -- a byte before the lines that follow it, in the first of them
-abbrev pub joined : ℕ → List (List ℕ) → List (List ℕ)
-joined byte [] = (byte ∷ []) ∷ []
-joined byte (line ∷ lines) = (byte ∷ line) ∷ lines
+abbrev pub byte_before : ℕ → List (List ℕ) → List (List ℕ)
+byte_before byte [] = (byte ∷ []) ∷ []
+byte_before byte (line ∷ lines) = (byte ∷ line) ∷ lines
 
 -- the lines of a text, each with the line feed that ends it; what stands after the last one is a line without any
 abbrev pub whole_lines : List ℕ → List (List ℕ)
 whole_lines [] = []
-whole_lines (byte ∷ text) = if ends_line byte then (byte ∷ []) ∷ whole_lines text else joined byte (whole_lines text)
+whole_lines (byte ∷ text) = if ends_line byte then (byte ∷ []) ∷ whole_lines text else byte_before byte (whole_lines text)
 
 -- the line, with its line feed, is the text of this event
 abbrev pub IsLineOf : List ℕ → Event → Type 0
-IsLineOf line event = IsWritten event × (line ≡ event_text event)
+IsLineOf line event = HasNumbersOfWords event × (line ≡ event_text event)
 
 -- the line after a given number of others is the first that is no event's
 abbrev pub IsFirstBad : List (List ℕ) → ℕ → Type 0

@@ -5,7 +5,7 @@ use Rattle.gpu_journal.specs.declared.event.Event.{Event}
 use Rattle.gpu_journal.specs.declared.end.End.{End}
 use Rattle.gpu_journal.specs.declared.end.End.TheVariants as end
 use Rattle.gpu_journal.specs.Ended.{streams_of, end_of}
-use Rattle.journal_verify.specs.Answers.{IsWhole}
+use Rattle.journal_verify.specs.Answers.{IsWholeHistory}
 use Rattle.journal_verify.specs.Followed.{IsFollowed, sum_after}
 use Rattle.verify_input.specs.Reading.{whole_lines}
 use Rattle.verify_input.specs.Due.{Due, AreTakenOff, IsOff, AreDue, IsFirstOff}
@@ -40,7 +40,7 @@ past_of history = reverse history.events.now
 
 -- what is kept is what the events leave, which are a legal and complete history of the plans
 pub record IsHistory (history : History) : Type 0 where
-  pub whole : IsWhole history.plans.now (past_of history)
+  pub whole : IsWholeHistory history.plans.now (past_of history)
   pub followed : IsFollowed history.plans.now (past_of history) history.followed.now
   pub ends : history.ends.now ≡ map (end_of (past_of history)) (streams_of history.plans.now)
   pub few : length history.events.now < 2 ^ 32

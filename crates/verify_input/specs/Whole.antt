@@ -6,8 +6,8 @@ use Rattle.gpu_plan.specs.Plans.{PlansData}
 use Rattle.gpu_journal.specs.declared.event.Event.{Event}
 use Rattle.gpu_journal.specs.World.{replay}
 use Rattle.journal_text.specs.Text.{journal_text}
-use Rattle.journal_verify.specs.Answers.{IsFirstWrong, IsWhole, IsUnfinished}
-use Rattle.verify_input.specs.Reading.{IsWritten, IsFirstBad, whole_lines}
+use Rattle.journal_verify.specs.Answers.{IsFirstWrong, IsWholeHistory, IsUnfinished}
+use Rattle.verify_input.specs.Reading.{HasNumbersOfWords, IsFirstBad, whole_lines}
 use Rattle.verify_input.specs.Parts.{before, behind, script_part}
 use Rattle.verify_input.specs.Found.{script_in, head_of, IsNoScript}
 use Rattle.verify_input.specs.Due.{dues, heads_due, IsOff, AreDue, IsFirstOff, viewers_in}
@@ -35,7 +35,7 @@ pub record TellsAll (p : PlansData) (lines : List (List ℕ)) (events : List Eve
   pub rest : List (List ℕ)
   pub headed : AreHeaded p lines rest
   pub told : before Journal rest ≡ whole_lines (journal_text events)
-  pub written : All IsWritten events
+  pub written : All HasNumbersOfWords events
   pub left : others ≡ drop (length (before Journal rest)) rest
 
 -- the lines of the output tell these events, which are a legal and complete history, and then these others
@@ -43,7 +43,7 @@ pub record ToldWhole (input : List ℕ) (p : PlansData) (events : List Event) (o
   pub lines : List (List ℕ)
   pub there : HasOutput input p lines
   pub told : TellsAll p lines events others
-  pub whole : IsWhole p (reverse events)
+  pub whole : IsWholeHistory p (reverse events)
 
 -- after a script of a given number of lines there is no output, and this line would be the next; or this is the first line
 -- of its journal that is no event's
@@ -95,12 +95,12 @@ abbrev pub FindsAll : PlansData → ℕ → List Event → List (List ℕ) → �
 FindsAll p base events others start (Refused line kind) = ⊥
 FindsAll p base events others start (NoJournal line) = ⊥
 FindsAll p base events others start (Differs line what) =
-    IsWhole p (reverse events) × (k : ℕ) × (line ≡ start + k)
+    IsWholeHistory p (reverse events) × (k : ℕ) × (line ≡ start + k)
     × IsFirstOff p (reverse events) (dues p base (reverse events) (viewers_in others)) others k what
 FindsAll p base events others start (No event rule) = IsFirstWrong p events event rule
 FindsAll p base events others start NotComplete = IsUnfinished p (reverse events)
 FindsAll p base events others start (Yes images count) =
-    IsWhole p (reverse events) × AreDue p (reverse events) (dues p base (reverse events) (viewers_in others)) others
+    IsWholeHistory p (reverse events) × AreDue p (reverse events) (dues p base (reverse events) (viewers_in others)) others
     × (images ≡ replay p (reverse events)) × (count ≡ length events)
 
 -- the verdict on the lines of an output, which stand after a script of a given number of lines with these plans

@@ -12,7 +12,7 @@ ghost use Rattle.gpu_journal.specs.Ended.{streams_of};
 ghost use Rattle.journal_text.specs.Lines.{mark_text};
 ghost use Rattle.journal_verify.specs.Followed.{sum_after};
 ghost use Rattle.verify_input.specs.Due as Due;
-ghost use Rattle.verify_input.specs.Due.{same_lines, image_lines, end_lines, heads_due, dumps_due, looks_due};
+ghost use Rattle.verify_input.specs.Due.{same_lines, lines_of_image, end_lines, heads_due, dumps_due, looks_due};
 ghost use Rattle.verify_input.specs.Taking.{HasTaken, IsBad, Judges, IsHistory, IsLook, is_lost, past_of};
 ghost use Rattle.wait_hooks.specs.Marks.{mark};
 
@@ -47,10 +47,10 @@ pub(crate) fn take_names(rest: &mut Rest<'_>, line: &mut Line, plans: &Plans) ->
     if plans.version() != 2 {
         return Ok(());
     }
-    line.head();
+    line.put_head();
     rest.take(line.bytes(), What::Name)?;
     for index in 0..plans.count() {
-        line.name(index + 1, plans.name(index + 1));
+        line.put_name(index + 1, plans.name(index + 1));
         rest.take(line.bytes(), What::Name)?;
     }
     Ok(())
@@ -71,13 +71,13 @@ fn take_image(rest: &mut Rest<'_>, line: &mut Line, images: &Images, image: u32)
     requires { IsSome (picture_of images.now image) }
     ensures { (picture : Picture) (p : PlansData) (h : List Event)
         → picture_of images.now image ≡ Some picture
-        → Judges p h (same_lines What.Image (image_lines (image, picture))) rest.old rest.new result }
+        → Judges p h (same_lines What.Image (lines_of_image (image, picture))) rest.old rest.new result }
 {
-    line.image(images, image);
+    line.put_image(images, image);
     rest.take(line.bytes(), What::Image)?;
     let height = height_of(images, image);
     for y in 0..height {
-        line.row(images, image, y);
+        line.put_row(images, image, y);
         rest.take(line.bytes(), What::Image)?;
     }
     Ok(())
@@ -86,7 +86,7 @@ fn take_image(rest: &mut Rest<'_>, line: &mut Line, images: &Images, image: u32)
 /// The lines of all images.
 pub(crate) fn take_images(rest: &mut Rest<'_>, line: &mut Line, images: &Images) -> Result<(), Bad>
     ensures { (p : PlansData) (h : List Event)
-        → Judges p h (same_lines What.Image (flat_map image_lines images.now)) rest.old rest.new result }
+        → Judges p h (same_lines What.Image (flat_map lines_of_image images.now)) rest.old rest.new result }
 {
     for image in images.numbers() {
         take_image(rest, line, images, image)?;
@@ -107,7 +107,7 @@ pub(crate) fn take_streams(
 {
     for index in 0..history.plans.count() {
         let stream = index + 1;
-        line.stream(
+        line.put_stream(
             stream,
             history.followed.state(stream),
             history.ends[index as usize],
@@ -129,7 +129,7 @@ pub(crate) fn take_marks(
         rest.old rest.new result }
 {
     for ending in endings {
-        line.mark(ending, mark(base, *ending));
+        line.put_mark(ending, mark(base, *ending));
         rest.take(line.bytes(), What::Mark)?;
     }
     Ok(())
@@ -175,12 +175,12 @@ fn take_dump(
         rest.old rest.new result }
 {
     let (action, place) = dump;
-    line.dump(stream, action, place, 0);
+    line.put_dump(stream, action, place, 0);
     let value = value_before_end(rest.text, line.bytes().len());
     if !history.followed.may_be_told(stream, place, least, value) {
         return Err(rest.off(What::Dump));
     }
-    line.dump(stream, action, place, value);
+    line.put_dump(stream, action, place, value);
     rest.take(line.bytes(), What::Dump)
 }
 
@@ -313,7 +313,7 @@ fn take_look(
         return Err(rest.off(What::View));
     }
     let (events, sum) = look;
-    line.view(viewer, events, sum);
+    line.put_view(viewer, events, sum);
     rest.take(line.bytes(), What::View)?;
     Ok(events)
 }

@@ -2,7 +2,7 @@ ghost use Rattle.std.specs.Prelude.{◌≡◌, ℕ, ◌<◌, [], ◌∷◌, IfOk
 ghost use Rattle.gpu_cmd.specs.Lawful.{places_of};
 ghost use Rattle.gpu_plan.specs.Values.{value_at};
 ghost use Rattle.gpu_fetch.specs.Side.{MayFetch, fresh_side, with_words};
-ghost use Rattle.gpu_fetch.specs.Plain.{IsBeside, IsNoteBeside, IsHeld};
+ghost use Rattle.gpu_fetch.specs.Plain.{IsBeside, IsNoteBeside, IsValueOfPlace};
 
 use crate::plain::list::FetchList;
 use crate::plain::seen::SeenPlan;
@@ -73,7 +73,7 @@ impl ServiceSide for PlainPass {
 
     ghost note_belongs = { IsNoteBeside };
 
-    ghost shows = { IsHeld };
+    ghost shows = { IsValueOfPlace };
 
     ghost wants = { ⊥ };
 
@@ -97,7 +97,7 @@ impl ServiceSide for PlainPass {
             (λ value. self.new ≡ with_words self.old ((place, value) ∷ []))
             (λ _. self.new ≡ self.old) }
         ensures may { IfOk result (λ value. MayFetch self.old (place, value)) }
-        ensures shows { IfOk result (λ value. IsHeld words.now (place, value)) }
+        ensures shows { IfOk result (λ value. IsValueOfPlace words.now (place, value)) }
         ensures memory { IfErr result (λ _. ⊥) }
         ensures belongs { IsBeside self.new words.now }
         ensures notes { (n : ℕ) → IsNoteBeside self.old words.now n

@@ -24,13 +24,13 @@ pub struct PlainWords {
 }
 
 impl Model for PlainWords {
-    ghost use Rattle.gpu_fetch.specs.Plain.{PlainData, IsStored};
+    ghost use Rattle.gpu_fetch.specs.Plain.{PlainData, HoldItsValues};
 
     ghost Value = { PlainData };
 
     ghost view = { λ w. record { plan = w.plan.plan; done = w.done } };
 
-    ghost invariant = { λ w. IsStored (w.plan.plan) w.done w.values.items };
+    ghost invariant = { λ w. HoldItsValues (w.plan.plan) w.done w.values.items };
 }
 
 /// What the client of plain words hands over with a flush.

@@ -4,7 +4,7 @@ ghost use Rattle.gpu_plan.specs.Passes.{flushes};
 ghost use Rattle.gpu_plan.specs.Places.{mark_of};
 ghost use Rattle.gpu_house.specs.Names.{table_at};
 ghost use Rattle.gpu_house.specs.Slots.{slot_at};
-ghost use Rattle.house_tests.specs.Alone.{ordered, IsHome, IsOut};
+ghost use Rattle.house_tests.specs.Alone.{ordered, IsHome, IsOutAlone};
 
 use gpu_fetch::ServiceSide;
 use gpu_house::{House, Naming, Next, Run};
@@ -66,9 +66,9 @@ fn turn<N: Naming, P: ServiceSide, H: Hook>(
     words: &P::Words,
     mut run: Run<N, P>,
 ) -> Result<Option<Run<N, P>>, Memory>
-    requires { IsOut P.belongs P.note_belongs P.results_belong P.side words.now house.old run }
+    requires { IsOutAlone P.belongs P.note_belongs P.results_belong P.side words.now house.old run }
     ensures { IfOk result (λ left. IfSome left
-        (IsOut P.belongs P.note_belongs P.results_belong P.side words.now house.new)) }
+        (IsOutAlone P.belongs P.note_belongs P.results_belong P.side words.now house.new)) }
 {
     if run.at_end() {
         house.finish(run, words);
@@ -100,9 +100,9 @@ fn turn_batch<N: Naming, P: ServiceSide, H: Hook>(
     sizes: &mut Vec<usize>,
     drawn: &mut Vec<Op>,
 ) -> Result<Option<Run<N, P>>, Memory>
-    requires { IsOut P.belongs P.note_belongs P.results_belong P.side words.now house.old run }
+    requires { IsOutAlone P.belongs P.note_belongs P.results_belong P.side words.now house.old run }
     ensures { IfOk result (λ left. IfSome left
-        (IsOut P.belongs P.note_belongs P.results_belong P.side words.now house.new)) }
+        (IsOutAlone P.belongs P.note_belongs P.results_belong P.side words.now house.new)) }
 {
     if run.at_end() {
         house.finish(run, words);
@@ -137,9 +137,9 @@ fn turn_by<N: Naming, P: ServiceSide, H: Hook>(
     run: Run<N, P>,
     pace: &mut Pace,
 ) -> Result<Option<Run<N, P>>, Memory>
-    requires { IsOut P.belongs P.note_belongs P.results_belong P.side words.now house.old run }
+    requires { IsOutAlone P.belongs P.note_belongs P.results_belong P.side words.now house.old run }
     ensures { IfOk result (λ left. IfSome left
-        (IsOut P.belongs P.note_belongs P.results_belong P.side words.now house.new)) }
+        (IsOutAlone P.belongs P.note_belongs P.results_belong P.side words.now house.new)) }
 {
     match pace {
         Pace::Single => turn(house, words, run),
@@ -154,7 +154,7 @@ fn run_out<N: Naming, P: ServiceSide, H: Hook>(
     run: Run<N, P>,
     pace: &mut Pace,
 ) -> Result<(), Fail>
-    requires { IsOut P.belongs P.note_belongs P.results_belong P.side words.now house.old run }
+    requires { IsOutAlone P.belongs P.note_belongs P.results_belong P.side words.now house.old run }
 {
     let mut out = run;
     for _turn in 0..MOST_TURNS {

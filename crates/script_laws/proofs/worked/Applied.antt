@@ -19,16 +19,16 @@ use Rattle.gpu_plan.specs.Named.{names_in, AreNumbered, AreLawfulNames}
 use Rattle.gpu_plan.specs.Script.{script_of}
 use Rattle.stream_state.specs.State.{State, IsBounded, result_of}
 use Rattle.stream_state.specs.Steps.{Step, writes, stepped, stream_of}
-use Rattle.stream_state.specs.Writes.{Writes, last_written}
+use Rattle.stream_state.specs.Writes.{Writes, left_by_writes}
 use Rattle.stream_state.specs.Told.{ReleasesRise}
-use Rattle.stream_state.specs.Laws.{IsTaken, AreTaken, StepsMoveOn, StatesAreBounded, ResultsAreLastWritten, WritesRise, written}
+use Rattle.stream_state.specs.Laws.{IsTaken, AreTaken, StepsMoveOn, StatesAreBounded, ResultsAreLastWritten, WritesRise, all_written}
 use Rattle.sync_core.specs.declared.wait.Wait.{Wait}
 use Rattle.sync_core.specs.declared.ending.Ending.{Ending}
 use Rattle.sync_core.specs.declared.ending.How.TheVariants as how
 use Rattle.sync_core.specs.Standing.{first_order, has_below}
 use Rattle.sync_core.specs.Events.{SyncEvent, standing, left}
 use Rattle.sync_core.specs.Pending.{is_kept, is_blocked, still, kept_waits, pending}
-use Rattle.sync_core.specs.Laws.{KeptIsDecided, EndedStaysEnded, WaitsRise, OrdersArePositive, OrdersRise, Precedes, Follows, NoCycle}
+use Rattle.sync_core.specs.Laws.{KeptIsDecided, EndedStaysEnded, WaitsRise, OrdersArePositive, OrdersRise, Precedes, IsPendingOfNamed, NoCycle}
 use Rattle.gpu_journal.specs.declared.event.Event.{Event}
 use Rattle.gpu_journal.specs.declared.event.Event.TheVariants as events
 use Rattle.gpu_journal.specs.declared.event.Why.TheVariants.{Memory}
@@ -44,12 +44,12 @@ use Rattle.gpu_journal.specs.Dumps.{MayDump}
 use Rattle.journal_text.specs.Digits.{number_text}
 use Rattle.journal_text.specs.Text.{event_text}
 use Rattle.journal_text.specs.Lines.{journal_head, dump_text, view_text}
-use Rattle.journal_text.specs.Laws.{DifferentNumbers, EventsAreApart, OthersBegin, is_other}
+use Rattle.journal_text.specs.Laws.{DifferentNumbers, EventsAreApart, OthersBegin, begins_other_part}
 use Rattle.journal_text.specs.Output.{output, AreDumpLines, dump_lines}
 use Rattle.serial_laws.specs.Scripts.{AreLawfulPlans}
-use Rattle.serial_laws.specs.Going.{wants_memory}
+use Rattle.serial_laws.specs.Going.{is_memory_loss}
 use Rattle.serial_laws.specs.Laws.{UnfinishedHasEvent, SerialWantsNoMemory}
-use Rattle.script_laws.specs.Kept.{kept_in, is_wait, is_end, EndsSo, HasCause}
+use Rattle.script_laws.specs.Kept.{kept_in, is_wait, is_ending_of, EndsSo, HasCause}
 use Rattle.script_laws.specs.Laws.{ScriptsAreLawful, ScriptsRunLegally, ScriptsRunToTheEnd, DumpsMayBeTold, LaterMayBeTold, SameOutputIsSameHistory, SameRunIsSameHistory, SameThreadedRunIsSameHistory, NoneRunsWaiting, RunsAfterEndings, FinishedHaveEnded, EndingsHaveCauses, CompleteWaitsForNone, SerialIsShort, MostEventsAreFew, SixAlwaysHolds}
 
 -- ---- headers
@@ -91,8 +91,8 @@ never_more : StatesAreBounded → (areas : Areas) (steps : List Step) → IsLawf
 never_more law areas steps lawful taken = (law areas steps lawful taken).fetched
 
 -- steps that write the same leave the same results
-same_results : ResultsAreLastWritten → (areas : Areas) (steps others : List Step) (place : ℕ) → written areas steps ≡ written areas others → result_of (stream_of areas steps) place ≡ result_of (stream_of areas others) place
-same_results law areas steps others place same = law areas steps place ∙ ap (λ (all : Writes). last_written all place 0) same ∙ sym (law areas others place)
+same_results : ResultsAreLastWritten → (areas : Areas) (steps others : List Step) (place : ℕ) → all_written areas steps ≡ all_written areas others → result_of (stream_of areas steps) place ≡ result_of (stream_of areas others) place
+same_results law areas steps others place same = law areas steps place ∙ ap (λ (all : Writes). left_by_writes all place 0) same ∙ sym (law areas others place)
 
 -- no step writes a place twice
 never_twice : WritesRise → (areas : Areas) (words : List (ℕ × ℕ)) (state : State) (place v w : ℕ) → writes areas words state ≡ (place, v) ∷ (place, w) ∷ [] → ⊥
@@ -136,12 +136,12 @@ first_positive : OrdersArePositive → (h : List SyncEvent) (t a : ℕ) → left
 first_positive law h t a are = All-head (λ (m : ℕ). 0 < m) a [] (subst (All (λ (m : ℕ). 0 < m)) are (law h t))
 
 -- no wait follows itself, and no two follow each other
-no_loop : NoCycle → (streams : ℕ) (h : List SyncEvent) (w : Wait) → Contains (pending streams h) w → Follows streams h w w → ⊥
+no_loop : NoCycle → (streams : ℕ) (h : List SyncEvent) (w : Wait) → Contains (pending streams h) w → IsPendingOfNamed streams h w w → ⊥
 no_loop law streams h w among follows =
     let less = All-head (λ (v : Wait). v.order < w.order) w [] (law streams h w (w ∷ []) among (follows, tt)) in
     omega (arith, less)
 
-no_two : NoCycle → (streams : ℕ) (h : List SyncEvent) (w v : Wait) → Contains (pending streams h) w → Contains (pending streams h) v → Follows streams h w v → Follows streams h v w → ⊥
+no_two : NoCycle → (streams : ℕ) (h : List SyncEvent) (w v : Wait) → Contains (pending streams h) w → Contains (pending streams h) v → IsPendingOfNamed streams h w v → IsPendingOfNamed streams h v w → ⊥
 no_two law streams h w v among also follows back =
     let one = All-head (λ (x : Wait). x.order < w.order) v [] (law streams h w (v ∷ []) among (follows, tt)) in
     let two = All-head (λ (x : Wait). x.order < v.order) w [] (law streams h v (w ∷ []) also (back, tt)) in
@@ -155,16 +155,16 @@ next_differs law n same = let equal = law n (n + 1) same in omega (arith, equal)
 
 -- no event's line is the head or the line of a dump
 no_head : EventsAreApart → OthersBegin → (event : Event) (behind other : List ℕ) → event_text event ++ behind ≡ journal_head ++ other → ⊥
-no_head apart others event behind other same = both_ways (is_other (event_text event ++ behind)) (apart event behind) (ap is_other same ∙ others.head other)
+no_head apart others event behind other same = both_ways (begins_other_part (event_text event ++ behind)) (apart event behind) (ap begins_other_part same ∙ others.head other)
 
 no_dump : EventsAreApart → OthersBegin → (event : Event) (behind other : List ℕ) (stream place index value : ℕ) → event_text event ++ behind ≡ dump_text stream place index value ++ other → ⊥
-no_dump apart others event behind other stream place index value same = both_ways (is_other (event_text event ++ behind)) (apart event behind) (ap is_other same ∙ others.dump stream place index value other)
+no_dump apart others event behind other stream place index value same = both_ways (begins_other_part (event_text event ++ behind)) (apart event behind) (ap begins_other_part same ∙ others.dump stream place index value other)
 
 -- ---- histories
 
 -- a legal history after which every legal event is a loss as out of memory is complete, or at least not incomplete
-stuck_complete : UnfinishedHasEvent → (p : PlansData) (h : List Event) → AreLawfulPlans p → IsLegal p h → ((e : Event) → IsLegal p (e ∷ h) → wants_memory e ≡ true) → (IsComplete p h → ⊥) → ⊥
-stuck_complete law p h lawful legal stuck unfinished = let more = law p h lawful legal unfinished in both_ways (wants_memory more.0) more.1 (stuck more.0 more.2)
+stuck_complete : UnfinishedHasEvent → (p : PlansData) (h : List Event) → AreLawfulPlans p → IsLegal p h → ((e : Event) → IsLegal p (e ∷ h) → is_memory_loss e ≡ true) → (IsComplete p h → ⊥) → ⊥
+stuck_complete law p h lawful legal stuck unfinished = let more = law p h lawful legal unfinished in both_ways (is_memory_loss more.0) more.1 (stuck more.0 more.2)
 
 -- some legal event alone would say less: wherever a stream is open, its loss as out of memory is legal
 loss_is_legal : (p : PlansData) (h : List Event) (s : ℕ) → IsLegal p h → IsOpen p h s → IsLegal p (events.Lost s Memory [] ∷ h)
@@ -173,7 +173,7 @@ loss_is_legal p h s legal open' = (record { rule_1 = tt; rule_2 = tt; rule_3 = t
 -- no serial history ends with a loss as out of memory
 no_memory : SerialWantsNoMemory → (p : PlansData) (s : ℕ) (h : List Event) → AreLawfulPlans p → serial p ≡ events.Lost s Memory [] ∷ h → ⊥
 no_memory law p s h lawful ends =
-    let none : wants_memory (events.Lost s Memory []) ≡ false = All-head (λ event. wants_memory event ≡ false) (events.Lost s Memory []) h (subst (All (λ event. wants_memory event ≡ false)) ends (law p lawful)) in
+    let none : is_memory_loss (events.Lost s Memory []) ≡ false = All-head (λ event. is_memory_loss event ≡ false) (events.Lost s Memory []) h (subst (All (λ event. is_memory_loss event ≡ false)) ends (law p lawful)) in
     cc
 
 -- what holds of each text that is a script
@@ -237,13 +237,13 @@ own_wait w =
 not_before : RunsAfterEndings → (p : PlansData) (g : List Event) (w : Wait) (words : List (ℕ × ℕ)) → kept_in p g ≡ w ∷ [] → endings_in p g ≡ [] → first_order (left_of p g w.stream) ≡ Some w.order → IsLegal p (events.Step w.stream words ∷ g) → ⊥
 not_before law p g w words kept none first legal =
     let same = law p g (events.Step w.stream words) legal w.order first w.target w.release in
-    let ended : length (filter (is_end w.stream w.order w.target w.release) (endings_in p g)) ≡ 0 = ap (λ (es : List Ending). length (filter (is_end w.stream w.order w.target w.release) es)) none in
+    let ended : length (filter (is_ending_of w.stream w.order w.target w.release) (endings_in p g)) ≡ 0 = ap (λ (es : List Ending). length (filter (is_ending_of w.stream w.order w.target w.release) es)) none in
     let one : length (filter (is_wait w.stream w.order w.target w.release) (kept_in p g)) ≡ 1 = ap (λ (ws : List Wait). length (filter (is_wait w.stream w.order w.target w.release) ws)) kept ∙ own_wait w in
     omega (arith, same, ended, one)
 
 -- once it is finished there is an ending, whatever comes later
 told_once : FinishedHaveEnded → (p : PlansData) (later g : List Event) (w : Wait) → IsLegal p (later ++ events.Finish w.stream w.order ∷ g) → kept_in p (later ++ events.Finish w.stream w.order ∷ g) ≡ w ∷ []
-    → length (filter (is_end w.stream w.order w.target w.release) (endings_in p (later ++ events.Finish w.stream w.order ∷ g))) ≡ 1
+    → length (filter (is_ending_of w.stream w.order w.target w.release) (endings_in p (later ++ events.Finish w.stream w.order ∷ g))) ≡ 1
 told_once law p later g w legal kept = law p later g w.stream w.order legal w.target w.release ∙ ap (λ (ws : List Wait). length (filter (is_wait w.stream w.order w.target w.release) ws)) kept ∙ own_wait w
 
 -- where a wait is said to have ended by close, its target was closed

@@ -5,10 +5,10 @@ use Rattle.gpu_cmd.specs.Checks.{headed, checked, decoded}
 use Rattle.gpu_cmd.specs.Copied.{judged, places_read, copied, fetched}
 use Rattle.gpu_cmd.specs.Table.{row_of}
 use Rattle.gpu_store.specs.Images.{outcome, apply}
-use Rattle.gpu_store.specs.Picture.{painted, drawn}
+use Rattle.gpu_store.specs.Picture.{painted, redrawn}
 use Rattle.gpu_store.specs.Conversion.{first_texels}
 use Rattle.gpu_plan.specs.Text.{lines_of, words_of}
-use Rattle.gpu_plan.specs.Numbers.{number_of}
+use Rattle.gpu_plan.specs.Numbers.{number_said}
 use Rattle.gpu_plan.specs.Naming.{named_on, named_in}
 use Rattle.gpu_plan.specs.Said.{none_said, one_said, two_said, numbered_said, named_said, put_said, fill_said, pairs_of, named_fence, triples_of, flush_said}
 use Rattle.gpu_plan.specs.Adding.{with_line, with_stream, may_follow, added, acting, fresh, with_memory, with_results, spans_with, with_puts, with_fill, with_flush, with_finish, with_token, with_close, with_dump}
@@ -29,5 +29,5 @@ use Rattle.script_laws.proofs.worked.Said.{told}
 
 -- from the bytes of the script to the bytes of the output of its serial history
 crossed_waits : told (script_of (codes "gpu-script 1\nstream 1 normal 16\nput 0 20200004 2 1 0 20000003 1 0\nflush 7\nstream 2 high 16\nput 0 20200004 1 1 0 20000003 1 0\nflush 7\n")) ≡ Ok (codes "order 1 1 7\norder 2 2 7\nstep 2 0:20200004 1:00000001 2:00000001 3:00000000\nstep 1 0:20200004 1:00000002 2:00000001 3:00000000\nstep 1 4:20000003 5:00000001 6:00000000\nfinish 1 1\nstep 2 4:20000003 5:00000001 6:00000000\nfinish 2 2\nstream 1 done entries 7 release 1 token 0 words 7 errors 0 0 0\nstream 2 done entries 7 release 1 token 0 words 7 errors 0 0 0\nmark 2 2 1 1 release 1008\n")
-unfolding headed checked decoded judged places_read copied fetched row_of outcome apply painted drawn first_texels lines_of words_of number_of named_on named_in none_said one_said two_said numbered_said named_said put_said fill_said pairs_of named_fence triples_of flush_said with_line with_stream may_follow added acting fresh with_memory with_results spans_with with_puts with_fill with_flush with_finish with_token with_close with_dump script_of from_head from_version from_body numbered first_words after_writes command_in transfer_bytes immediate_bytes asked effect_of acted stepped effect writes checked_state verdict world sync_of next events serial written numeral hex8 event_text journal_text stream_text head_text row_text image_text picture_text name_text mark_text dump_text output dump_lines
+unfolding headed checked decoded judged places_read copied fetched row_of outcome apply painted redrawn first_texels lines_of words_of number_said named_on named_in none_said one_said two_said numbered_said named_said put_said fill_said pairs_of named_fence triples_of flush_said with_line with_stream may_follow added acting fresh with_memory with_results spans_with with_puts with_fill with_flush with_finish with_token with_close with_dump script_of from_head from_version from_body numbered first_words after_writes command_in transfer_bytes immediate_bytes asked effect_of acted stepped effect writes checked_state verdict world sync_of next events serial written numeral hex8 event_text journal_text stream_text head_text row_text image_text picture_text name_text mark_text dump_text output dump_lines
 crossed_waits = refl

@@ -5,10 +5,10 @@ use Rattle.gpu_cmd.specs.Checks.{headed, checked, decoded}
 use Rattle.gpu_cmd.specs.Copied.{judged, places_read, copied, fetched}
 use Rattle.gpu_cmd.specs.Table.{row_of}
 use Rattle.gpu_store.specs.Images.{outcome, apply}
-use Rattle.gpu_store.specs.Picture.{painted, drawn}
+use Rattle.gpu_store.specs.Picture.{painted, redrawn}
 use Rattle.gpu_store.specs.Conversion.{first_texels}
 use Rattle.gpu_plan.specs.Text.{lines_of, words_of}
-use Rattle.gpu_plan.specs.Numbers.{number_of}
+use Rattle.gpu_plan.specs.Numbers.{number_said}
 use Rattle.gpu_plan.specs.Naming.{named_on, named_in}
 use Rattle.gpu_plan.specs.Said.{none_said, one_said, two_said, numbered_said, named_said, put_said, fill_said, pairs_of, named_fence, triples_of, flush_said}
 use Rattle.gpu_plan.specs.Adding.{with_line, with_stream, may_follow, added, acting, fresh, with_memory, with_results, spans_with, with_puts, with_fill, with_flush, with_finish, with_token, with_close, with_dump}
@@ -29,5 +29,5 @@ use Rattle.script_laws.proofs.worked.Said.{told}
 
 -- from the bytes of the script to the bytes of the output of its serial history
 results_during_the_run : told (script_of (codes "gpu-script 1\nstream 1 normal 64\nresults 0 1\nput 0 00400003 0 6 00a00007 0 0 0 0 0 0\nflush 10\ndump 0 0\nput 10 00400003 0 7 00a00007 0 0 0 0 0 0\nflush 20\ndump 0 0\n")) ≡ Ok (codes "order 1 1 10\nstep 1 0:00400003 1:00000000 2:00000006\nstep 1 3:00a00007 4:00000000 5:00000000 6:00000000 7:00000000 8:00000000 9:00000000\nfinish 1 1\norder 1 2 22\nstep 1 10:00400003 11:00000000 12:00000007\nstep 1 13:00a00007 14:00000000 15:00000000 16:00000000 17:00000000 18:00000000 19:00000000\nfinish 1 2\nstream 1 done entries 20 release 0 token 0 words 20 errors 0 0 0\ndump 1 11 0 00000006\ndump 1 23 0 00000007\n")
-unfolding headed checked decoded judged places_read copied fetched row_of outcome apply painted drawn first_texels lines_of words_of number_of named_on named_in none_said one_said two_said numbered_said named_said put_said fill_said pairs_of named_fence triples_of flush_said with_line with_stream may_follow added acting fresh with_memory with_results spans_with with_puts with_fill with_flush with_finish with_token with_close with_dump script_of from_head from_version from_body numbered first_words after_writes command_in transfer_bytes immediate_bytes asked effect_of acted stepped effect writes checked_state verdict world sync_of next events serial written numeral hex8 event_text journal_text stream_text head_text row_text image_text picture_text name_text mark_text dump_text output dump_lines
+unfolding headed checked decoded judged places_read copied fetched row_of outcome apply painted redrawn first_texels lines_of words_of number_said named_on named_in none_said one_said two_said numbered_said named_said put_said fill_said pairs_of named_fence triples_of flush_said with_line with_stream may_follow added acting fresh with_memory with_results spans_with with_puts with_fill with_flush with_finish with_token with_close with_dump script_of from_head from_version from_body numbered first_words after_writes command_in transfer_bytes immediate_bytes asked effect_of acted stepped effect writes checked_state verdict world sync_of next events serial written numeral hex8 event_text journal_text stream_text head_text row_text image_text picture_text name_text mark_text dump_text output dump_lines
 results_during_the_run = refl

@@ -13,10 +13,10 @@ use Rattle.gpu_cmd.specs.Checks.{headed, checked, decoded}
 use Rattle.gpu_cmd.specs.Copied.{judged, places_read, copied, fetched}
 use Rattle.gpu_cmd.specs.Table.{row_of}
 use Rattle.gpu_store.specs.Images.{outcome, apply}
-use Rattle.gpu_store.specs.Picture.{painted, drawn}
+use Rattle.gpu_store.specs.Picture.{painted, redrawn}
 use Rattle.gpu_store.specs.Conversion.{first_texels}
 use Rattle.gpu_plan.specs.Text.{lines_of, words_of}
-use Rattle.gpu_plan.specs.Numbers.{number_of}
+use Rattle.gpu_plan.specs.Numbers.{number_said}
 use Rattle.gpu_plan.specs.Naming.{named_on, named_in}
 use Rattle.gpu_plan.specs.Said.{none_said, one_said, two_said, numbered_said, named_said, put_said, fill_said, pairs_of, named_fence, triples_of, flush_said}
 use Rattle.gpu_plan.specs.Adding.{with_line, with_stream, may_follow, added, acting, fresh, with_memory, with_results, spans_with, with_puts, with_fill, with_flush, with_finish, with_token, with_close, with_dump}
@@ -107,12 +107,12 @@ two_dumps = plans_in (script_of (codes "gpu-script 1\nstream 1 normal 64\nresult
 
 -- of the first both values may be told, each as often as a first part ends with it
 both_values : values two_dumps (serial two_dumps) 1 (11, 0) ≡ 7 ∷ 7 ∷ 6 ∷ 6 ∷ 6 ∷ []
-unfolding headed checked decoded judged places_read copied fetched row_of outcome apply painted drawn first_texels lines_of words_of number_of named_on named_in none_said one_said two_said numbered_said named_said put_said fill_said pairs_of named_fence triples_of flush_said with_line with_stream may_follow added acting fresh with_memory with_results spans_with with_puts with_fill with_flush with_finish with_token with_close with_dump script_of from_head from_version from_body numbered first_words after_writes command_in transfer_bytes immediate_bytes asked effect_of acted stepped effect writes checked_state verdict world sync_of next events serial written
+unfolding headed checked decoded judged places_read copied fetched row_of outcome apply painted redrawn first_texels lines_of words_of number_said named_on named_in none_said one_said two_said numbered_said named_said put_said fill_said pairs_of named_fence triples_of flush_said with_line with_stream may_follow added acting fresh with_memory with_results spans_with with_puts with_fill with_flush with_finish with_token with_close with_dump script_of from_head from_version from_body numbered first_words after_writes command_in transfer_bytes immediate_bytes asked effect_of acted stepped effect writes checked_state verdict world sync_of next events serial written
 both_values = refl
 
 -- of the second the second alone
 second_value : values two_dumps (serial two_dumps) 1 (23, 0) ≡ 7 ∷ []
-unfolding headed checked decoded judged places_read copied fetched row_of outcome apply painted drawn first_texels lines_of words_of number_of named_on named_in none_said one_said two_said numbered_said named_said put_said fill_said pairs_of named_fence triples_of flush_said with_line with_stream may_follow added acting fresh with_memory with_results spans_with with_puts with_fill with_flush with_finish with_token with_close with_dump script_of from_head from_version from_body numbered first_words after_writes command_in transfer_bytes immediate_bytes asked effect_of acted stepped effect writes checked_state verdict world sync_of next events serial written
+unfolding headed checked decoded judged places_read copied fetched row_of outcome apply painted redrawn first_texels lines_of words_of number_said named_on named_in none_said one_said two_said numbered_said named_said put_said fill_said pairs_of named_fence triples_of flush_said with_line with_stream may_follow added acting fresh with_memory with_results spans_with with_puts with_fill with_flush with_finish with_token with_close with_dump script_of from_head from_version from_body numbered first_words after_writes command_in transfer_bytes immediate_bytes asked effect_of acted stepped effect writes checked_state verdict world sync_of next events serial written
 second_value = refl
 
 only_second : (value : ℕ) → MayDump two_dumps (serial two_dumps) 1 (23, 0) value → value ≡ 7
@@ -123,19 +123,19 @@ abbrev lost_dump : PlansData
 lost_dump = plans_in (script_of (codes "gpu-script 1\nstream 1 low 16\nresults 0 1\nput 0 00400003 0 6 00a00007 0 0 0 0 0 0\nflush 10\ndump 0 0\nput 10 ffe00001\nflush 11\nstream 2 normal 16\nresults 0 1\nput 0 00400003 0 7 00a00007 0 0 0 0 0 0\nflush 10 1 1\ndump 0 0\n"))
 
 both_streams : streams_of lost_dump ≡ 1 ∷ 2 ∷ []
-unfolding headed checked decoded judged places_read copied fetched row_of outcome apply painted drawn first_texels lines_of words_of number_of named_on named_in none_said one_said two_said numbered_said named_said put_said fill_said pairs_of named_fence triples_of flush_said with_line with_stream may_follow added acting fresh with_memory with_results spans_with with_puts with_fill with_flush with_finish with_token with_close with_dump script_of from_head from_version from_body numbered first_words after_writes command_in transfer_bytes immediate_bytes asked effect_of acted stepped effect writes checked_state verdict world sync_of next events serial written
+unfolding headed checked decoded judged places_read copied fetched row_of outcome apply painted redrawn first_texels lines_of words_of number_said named_on named_in none_said one_said two_said numbered_said named_said put_said fill_said pairs_of named_fence triples_of flush_said with_line with_stream may_follow added acting fresh with_memory with_results spans_with with_puts with_fill with_flush with_finish with_token with_close with_dump script_of from_head from_version from_body numbered first_words after_writes command_in transfer_bytes immediate_bytes asked effect_of acted stepped effect writes checked_state verdict world sync_of next events serial written
 both_streams = refl
 
 no_dumps : dumps_of lost_dump (serial lost_dump) 1 ≡ []
-unfolding headed checked decoded judged places_read copied fetched row_of outcome apply painted drawn first_texels lines_of words_of number_of named_on named_in none_said one_said two_said numbered_said named_said put_said fill_said pairs_of named_fence triples_of flush_said with_line with_stream may_follow added acting fresh with_memory with_results spans_with with_puts with_fill with_flush with_finish with_token with_close with_dump script_of from_head from_version from_body numbered first_words after_writes command_in transfer_bytes immediate_bytes asked effect_of acted stepped effect writes checked_state verdict world sync_of next events serial written
+unfolding headed checked decoded judged places_read copied fetched row_of outcome apply painted redrawn first_texels lines_of words_of number_said named_on named_in none_said one_said two_said numbered_said named_said put_said fill_said pairs_of named_fence triples_of flush_said with_line with_stream may_follow added acting fresh with_memory with_results spans_with with_puts with_fill with_flush with_finish with_token with_close with_dump script_of from_head from_version from_body numbered first_words after_writes command_in transfer_bytes immediate_bytes asked effect_of acted stepped effect writes checked_state verdict world sync_of next events serial written
 no_dumps = refl
 
 its_dumps : dumps_of lost_dump (serial lost_dump) 2 ≡ (11, 0) ∷ []
-unfolding headed checked decoded judged places_read copied fetched row_of outcome apply painted drawn first_texels lines_of words_of number_of named_on named_in none_said one_said two_said numbered_said named_said put_said fill_said pairs_of named_fence triples_of flush_said with_line with_stream may_follow added acting fresh with_memory with_results spans_with with_puts with_fill with_flush with_finish with_token with_close with_dump script_of from_head from_version from_body numbered first_words after_writes command_in transfer_bytes immediate_bytes asked effect_of acted stepped effect writes checked_state verdict world sync_of next events serial written
+unfolding headed checked decoded judged places_read copied fetched row_of outcome apply painted redrawn first_texels lines_of words_of number_said named_on named_in none_said one_said two_said numbered_said named_said put_said fill_said pairs_of named_fence triples_of flush_said with_line with_stream may_follow added acting fresh with_memory with_results spans_with with_puts with_fill with_flush with_finish with_token with_close with_dump script_of from_head from_version from_body numbered first_words after_writes command_in transfer_bytes immediate_bytes asked effect_of acted stepped effect writes checked_state verdict world sync_of next events serial written
 its_dumps = refl
 
 its_value : list_all (λ v. v == 7) (values lost_dump (serial lost_dump) 2 (11, 0)) ≡ true
-unfolding headed checked decoded judged places_read copied fetched row_of outcome apply painted drawn first_texels lines_of words_of number_of named_on named_in none_said one_said two_said numbered_said named_said put_said fill_said pairs_of named_fence triples_of flush_said with_line with_stream may_follow added acting fresh with_memory with_results spans_with with_puts with_fill with_flush with_finish with_token with_close with_dump script_of from_head from_version from_body numbered first_words after_writes command_in transfer_bytes immediate_bytes asked effect_of acted stepped effect writes checked_state verdict world sync_of next events serial written
+unfolding headed checked decoded judged places_read copied fetched row_of outcome apply painted redrawn first_texels lines_of words_of number_said named_on named_in none_said one_said two_said numbered_said named_said put_said fill_said pairs_of named_fence triples_of flush_said with_line with_stream may_follow added acting fresh with_memory with_results spans_with with_puts with_fill with_flush with_finish with_token with_close with_dump script_of from_head from_version from_body numbered first_words after_writes command_in transfer_bytes immediate_bytes asked effect_of acted stepped effect writes checked_state verdict world sync_of next events serial written
 its_value = refl
 
 its_line : dump_text 2 11 0 7 ≡ codes "dump 2 11 0 00000007\n"

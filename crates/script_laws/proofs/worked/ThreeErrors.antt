@@ -5,10 +5,10 @@ use Rattle.gpu_cmd.specs.Checks.{headed, checked, decoded}
 use Rattle.gpu_cmd.specs.Copied.{judged, places_read, copied, fetched}
 use Rattle.gpu_cmd.specs.Table.{row_of}
 use Rattle.gpu_store.specs.Images.{outcome, apply}
-use Rattle.gpu_store.specs.Picture.{painted, drawn}
+use Rattle.gpu_store.specs.Picture.{painted, redrawn}
 use Rattle.gpu_store.specs.Conversion.{first_texels}
 use Rattle.gpu_plan.specs.Text.{lines_of, words_of}
-use Rattle.gpu_plan.specs.Numbers.{number_of}
+use Rattle.gpu_plan.specs.Numbers.{number_said}
 use Rattle.gpu_plan.specs.Naming.{named_on, named_in}
 use Rattle.gpu_plan.specs.Said.{none_said, one_said, two_said, numbered_said, named_said, put_said, fill_said, pairs_of, named_fence, triples_of, flush_said}
 use Rattle.gpu_plan.specs.Adding.{with_line, with_stream, may_follow, added, acting, fresh, with_memory, with_results, spans_with, with_puts, with_fill, with_flush, with_finish, with_token, with_close, with_dump}
@@ -29,5 +29,5 @@ use Rattle.script_laws.proofs.worked.Said.{told}
 
 -- from the bytes of the script to the bytes of the output of its serial history
 three_errors : told (script_of (codes "gpu-script 1\nstream 1 normal 64\nput 0 20400004 1 1 1 20400004 1 0 1 20400004 2 0 1 20400004 3 1000 1000 20600002 5\nput 18 20800007 1 0 0 2 1 ffffffff 20800007 4 0 0 1 1 ffffffff 20a00009 4 0 0 1 0 0 1 1\nflush 41\n")) ≡ Ok (codes "order 1 1 41\nstep 1 0:20400004 1:00000001 2:00000001 3:00000001\nstep 1 4:20400004 5:00000001 6:00000000 7:00000001\nstep 1 8:20400004 9:00000002 10:00000000 11:00000001\nstep 1 12:20400004 13:00000003 14:00001000 15:00001000\nstep 1 16:20600002 17:00000005\nstep 1 18:20800007 19:00000001 20:00000000 21:00000000 22:00000002 23:00000001 24:ffffffff\nstep 1 25:20800007 26:00000004 27:00000000 28:00000000 29:00000001 30:00000001 31:ffffffff\nstep 1 32:20a00009 33:00000004 34:00000000 35:00000000 36:00000001 37:00000000 38:00000000 39:00000001 40:00000001\nfinish 1 1\nimage 1 1 1\n00000000\nstream 1 done entries 41 release 0 token 0 words 41 errors 2 4 1\n")
-unfolding headed checked decoded judged places_read copied fetched row_of outcome apply painted drawn first_texels lines_of words_of number_of named_on named_in none_said one_said two_said numbered_said named_said put_said fill_said pairs_of named_fence triples_of flush_said with_line with_stream may_follow added acting fresh with_memory with_results spans_with with_puts with_fill with_flush with_finish with_token with_close with_dump script_of from_head from_version from_body numbered first_words after_writes command_in transfer_bytes immediate_bytes asked effect_of acted stepped effect writes checked_state verdict world sync_of next events serial written numeral hex8 event_text journal_text stream_text head_text row_text image_text picture_text name_text mark_text dump_text output dump_lines
+unfolding headed checked decoded judged places_read copied fetched row_of outcome apply painted redrawn first_texels lines_of words_of number_said named_on named_in none_said one_said two_said numbered_said named_said put_said fill_said pairs_of named_fence triples_of flush_said with_line with_stream may_follow added acting fresh with_memory with_results spans_with with_puts with_fill with_flush with_finish with_token with_close with_dump script_of from_head from_version from_body numbered first_words after_writes command_in transfer_bytes immediate_bytes asked effect_of acted stepped effect writes checked_state verdict world sync_of next events serial written numeral hex8 event_text journal_text stream_text head_text row_text image_text picture_text name_text mark_text dump_text output dump_lines
 three_errors = refl

@@ -11,8 +11,8 @@ ghost use Rattle.gpu_house.specs.Waiting.{HaveTargets, FormNoCycle};
 ghost use Rattle.gpu_house.specs.Stuck.{IsNotStuck};
 ghost use Rattle.gpu_hall.specs.Outs.{NoneIsPaused};
 ghost use Rattle.gpu_hall.specs.Laws.{GrowsBy};
-ghost use Rattle.gpu_hall.specs.Ready.{IsReady};
-ghost use Rattle.thread_parts.specs.Clients.{ClientData, IsSameClient};
+ghost use Rattle.gpu_hall.specs.Ready.{IsReadyRun};
+ghost use Rattle.thread_parts.specs.Clients.{ThreadClientData, IsSameClient};
 ghost use Rattle.gpu_threads.specs.Clients.{IsClientOf};
 ghost use Rattle.thread_parts.specs.Acts.{HasGone, HasTried};
 ghost use Rattle.gpu_threads.specs.Turns.{HasStopped};
@@ -41,7 +41,7 @@ fn wants_the_headline<N: Naming, P: NamedSide, H: Hook>(hall: &Hall<N, P, H>) ->
 // Whoever gets the lock may make it.
 fn look<N: Naming, P: NamedSide, H: Hook, R: Wait>(rt: &R, hall: &Mutex<Hall<N, P, H>>) -> u32 {
     let hall = hall.lock(rt);
-    hall.holds();
+    hall.shows_laws();
     let count = wants_the_headline(&hall);
     MutexGuard::unlock(hall);
     count
@@ -49,7 +49,7 @@ fn look<N: Naming, P: NamedSide, H: Hook, R: Wait>(rt: &R, hall: &Mutex<Hall<N, 
 
 // The run that is taken is of the first number of its stream, by what the service keeps of waits.
 fn take_first<N: Naming, P: NamedSide, H: Hook>(hall: &mut Hall<N, P, H>) -> Option<Run<N, P>>
-    ensures { IfSome result (IsReady P.side P.table P.mark P.note_of N.plans N.words N.books) }
+    ensures { IfSome result (IsReadyRun P.side P.table P.mark P.note_of N.plans N.words N.books) }
 {
     let run = hall.take()?;
     let is_first = hall.waits(run.stream()).front == Some(run.order());
@@ -98,11 +98,11 @@ fn turn_once<N: Naming, P: NamedSide, H: Hook, R: Wait, G: Gate>(
     requires client { IsClientOf N.plans N.words N.result_words N.queues client }
     requires own { of_tables own.now (table_at N.words client.stream)
         (table_at N.result_words client.stream) }
-    ensures went { (new : ClientData) → result ≡ ClientTurn.Went new
+    ensures went { (new : ThreadClientData) → result ≡ ClientTurn.Went new
         → IsSameClient client new × HasGone client new }
-    ensures waits { (new : ClientData) → result ≡ ClientTurn.Waiting new
+    ensures waits { (new : ThreadClientData) → result ≡ ClientTurn.Waiting new
         → IsSameClient client new × HasStopped client new }
-    ensures ended { (new : ClientData) → result ≡ ClientTurn.Ended new
+    ensures ended { (new : ThreadClientData) → result ≡ ClientTurn.Ended new
         → IsSameClient client new × (HasTried client new End ⊎ HasStopped client new) }
 {
     client_turn(rt, ground, own, client)

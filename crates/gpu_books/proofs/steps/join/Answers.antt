@@ -1,5 +1,5 @@
 use Rattle.std.proofs.Common.{◌≡◌, Some, sym, ap, ◌∙◌, subst, arith}
-use Rattle.gpu_books.specs.Views.{Sat, numbers_of}
+use Rattle.gpu_books.specs.Views.{BookSeat, half_numbers}
 use Rattle.gpu_books.specs.Seen.{half_of, IsHalf}
 use Rattle.gpu_books.proofs.Keeping.{joins}
 use Rattle.gpu_books.proofs.steps.join.Goals as goal
@@ -15,7 +15,7 @@ join_seat-requires c =
     let one_word = c.book.invariant.0 in (
       ap (λ o. (half_of o).book) (sym there) ∙ c.requires.kept ∙ sym c.book.view_is,
       ap (λ o. (half_of o).book) (sym there') ∙ c.requires.out ∙ sym c.book.view_is,
-      ap (λ (m : Sat). m.1) theirs,
+      ap (λ (m : BookSeat). m.1) theirs,
       omega arith,
-      joins one.id one.me two.id two.me (numbers_of one.me.0) (numbers_of two.me.0) (ap (λ (m : Sat). m.0) mine) (ap (λ (m : Sat). m.0) theirs),
+      joins one.id one.me two.id two.me (half_numbers one.me.0) (half_numbers two.me.0) (ap (λ (m : BookSeat). m.0) mine) (ap (λ (m : BookSeat). m.0) theirs),
     )

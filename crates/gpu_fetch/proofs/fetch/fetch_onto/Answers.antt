@@ -7,7 +7,7 @@ use Rattle.std.specs.List.{All}
 use Rattle.gpu_cmd.specs.declared.facts.StreamFacts.{StreamFacts}
 use Rattle.gpu_cmd.specs.Checks.{headed}
 use Rattle.gpu_fetch.specs.Side.{SideData, Fetches}
-use Rattle.gpu_fetch.specs.Fetched.{added, FetchesSome, FetchesRow, FetchesRows}
+use Rattle.gpu_fetch.specs.Fetched.{items_since, FetchesSome, FetchesRow, FetchesRows}
 use Rattle.gpu_fetch.proofs.Fetching.{fetches_one, added_is, row_behind, row_appends, row_shown}
 use Rattle.gpu_fetch.proofs.Parts.{RingFetched, nothing_fetched, header_fetched, header_some, header_onto, rows_header, ring_onto, added_read, some_ring, ring_headed, ring_some, ring_part_some, ring_refused, command_fetched, command_accepted, transfer_some, rows_ring}
 use Rattle.gpu_fetch.proofs.fetch.fetch_onto.Given.{Over}
@@ -19,7 +19,7 @@ use Rattle.gpu_fetch.proofs.fetch.fetch_onto.Goals.{After-deref-2, In_ok-entry, 
 pub returns-then-facts-clause-copy : goal.returns-then-facts-clause-copy
 returns-then-facts-clause-copy g c =
     let were = c.args.list.now.items in
-    nothing_fetched c.args.facts.now (added were were) (added_is were [] were (sym (append-nil were))) c.if-facts.true
+    nothing_fetched c.args.facts.now (items_since were were) (added_is were [] were (sym (append-nil were))) c.if-facts.true
 
 -- the header that was fetched
 header : (g : Over) (c : goal.In_ok-entry g) → Fetches (g.P.ServiceSide.side c.args.side.now) (g.P.ServiceSide.side c.fetch.new.self) ((c.args.facts.now.get, c.in_ok-entry.entry) ∷ [])
@@ -37,7 +37,7 @@ returns-in-Err-clause-copy g c =
     let entry = c.in_ok-entry.entry in
     let were = c.args.list.now.items in
     let list = c.push.new.self.items in
-    header_fetched facts (added were list) entry c.in-Err.error (added_is were ((facts.get, entry) ∷ []) list c.in_ok-push-in-Err.ensures.items) c.if-facts.false (sym c.in-Err.ensures.verdict)
+    header_fetched facts (items_since were list) entry c.in-Err.error (added_is were ((facts.get, entry) ∷ []) list c.in_ok-push-in-Err.ensures.items) c.if-facts.false (sym c.in-Err.ensures.verdict)
 
 pub returns-in_err-reserve-clause-some : goal.returns-in_err-reserve-clause-some
 returns-in_err-reserve-clause-some g c =
@@ -73,7 +73,7 @@ module _ (g : Over) (c : goal.In_ok-fetch_row g) where
   were = c.args.list.now.items
 
   abbrev own : List (ℕ × ℕ)
-  own = added were c.fetch_row.new.list.items
+  own = items_since were c.fetch_row.new.list.items
 
   -- the side before, with the header fetched, and with all ring words fetched
   abbrev old : SideData
@@ -168,7 +168,7 @@ module _ (g : Over) (c : goal.In_ok-fetch_row-in-Ok-decode g) where
 
   -- all words that were added
   abbrev all : List (ℕ × ℕ)
-  all = added c.args.list.now.items c.fetch_row-in-Ok-decode.new.list.items
+  all = items_since c.args.list.now.items c.fetch_row-in-Ok-decode.new.list.items
 
   row : FetchesRow (ringed g rung) last c.in-Ok-decode.found.from c.in-Ok-decode.found.count (own g rung) all
   row = row_behind (ringed g rung) last c.in-Ok-decode.found.from c.in-Ok-decode.found.count (were g rung) (own g rung) c.fetch_row.new.list.items c.fetch_row-in-Ok-decode.new.list.items (behind g rung) c.in_ok-fetch_row-in-Ok-decode.ensures.row

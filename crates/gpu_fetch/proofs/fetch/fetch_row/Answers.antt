@@ -3,7 +3,7 @@ use Rattle.std.proofs.lemmas.List.{append-nil}
 use Rattle.std.proofs.lemmas.Result.{MatchResult-from_err}
 use Rattle.gpu_cmd.specs.Lawful.{places_of}
 use Rattle.gpu_fetch.specs.Side.{SideData}
-use Rattle.gpu_fetch.specs.Fetched.{added, FetchesRow}
+use Rattle.gpu_fetch.specs.Fetched.{items_since, FetchesRow}
 use Rattle.gpu_fetch.proofs.Fetching.{row_none, row_more, row_in_part, fetches_one, none_at_all, added_is, added_shown}
 use Rattle.gpu_fetch.proofs.fetch.fetch_row.Goals as goal
 
@@ -14,7 +14,7 @@ loop-place-init g c =
     record {
       belongs = c.requires.belongs;
       row = subst (λ (n : ℕ). FetchesRow s s c.args.from n c.args.list.now.items c.reserve.new.self.items) none (row_none s s c.args.from c.args.list.now.items c.reserve.new.self.items refl c.reserve.ensures.items);
-      shows = none_at_all (g.P.ServiceSide.shows c.args.words.now) (added c.args.list.now.items c.reserve.new.self.items) (added_is c.args.list.now.items [] c.reserve.new.self.items (c.reserve.ensures.items ∙ sym (append-nil c.args.list.now.items)));
+      shows = none_at_all (g.P.ServiceSide.shows c.args.words.now) (items_since c.args.list.now.items c.reserve.new.self.items) (added_is c.args.list.now.items [] c.reserve.new.self.items (c.reserve.ensures.items ∙ sym (append-nil c.args.list.now.items)));
       room = (let ok = c.in_ok-reserve.ensures.ok in omega arith);
       table = refl;
       notes = λ n h. h;

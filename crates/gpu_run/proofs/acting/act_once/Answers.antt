@@ -3,7 +3,7 @@ use Rattle.std.specs.Prelude.{slice_get}
 use Rattle.gpu_plan.specs.Plans.{PlansData}
 use Rattle.gpu_plan.specs.Passes.{passes}
 use Rattle.gpu_fetch.specs.Plain.{PlainData}
-use Rattle.gpu_run.specs.Clients.{ClientData, done_at}
+use Rattle.gpu_run.specs.Clients.{RunClientData, done_at}
 use Rattle.gpu_run.specs.Reading.{HaveRead}
 use Rattle.gpu_run.specs.Rounds.{GoesFurther}
 use Rattle.gpu_run.proofs.Reaching.{nothing_done}
@@ -14,7 +14,7 @@ use Rattle.gpu_run.proofs.acting.act_once.Goals.{After-act, After-passes}
 use Rattle.gpu_run.proofs.acting.act_once.Goals as goal
 
 -- the facts before the action, of the client as it was or as it has read
-ready : (g : Over) (c : After-passes g) (client : ClientData) → client.words ≡ (get_or c.args.clients.now (c.args.stream - 1) c.index-clients-stream.result).words
+ready : (g : Over) (c : After-passes g) (client : RunClientData) → client.words ≡ (get_or c.args.clients.now (c.args.stream - 1) c.index-clients-stream.result).words
     → Ready g.N.Naming.plans c.args.house.now c.args.clients.now c.args.stream c.finishes-finishes.result c.greatest-token.result c.plan-plan.result.now client
 ready g c client same =
     ready_in _ _ _ _ _ _ _ client c.index-clients-stream.result c.requires.known c.requires.stands.served c.requires.stands.rising c.requires.open

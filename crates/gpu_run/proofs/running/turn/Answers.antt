@@ -1,13 +1,13 @@
 use Rattle.std.proofs.Common.{◌≡◌, Bool, true, false, refl, sym, ap, ◌∙◌}
 use Rattle.gpu_house.proofs.Going.{goes_further, stops}
-use Rattle.gpu_run.specs.Turning.{HasStepped}
+use Rattle.gpu_run.specs.Turning.{HasTakenNext}
 use Rattle.gpu_run.proofs.RunTurns.{words_are, fetched_with, stepped_with}
 use Rattle.gpu_run.proofs.running.turn.Given.{Over}
 use Rattle.gpu_run.proofs.running.turn.Goals.{In_ok-step}
 use Rattle.gpu_run.proofs.running.turn.Goals as goal
 
 -- the step, however it was answered
-stepped : (g : Over) (c : In_ok-step g) → (more : Bool) → more ≡ goes_further c.in_ok-step.field-0.next → HasStepped g.N.Naming.plans c.args.house.now c.step.new.self c.args.clients.now c.args.run.now.run.stream c.step.new.run more
+stepped : (g : Over) (c : In_ok-step g) → (more : Bool) → more ≡ goes_further c.in_ok-step.field-0.next → HasTakenNext g.N.Naming.plans c.args.house.now c.step.new.self c.args.clients.now c.args.run.now.run.stream c.step.new.run more
 stepped g c more answer =
     let p = g.N.Naming.plans in
     let run = c.args.run.now in

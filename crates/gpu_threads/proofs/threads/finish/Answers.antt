@@ -41,7 +41,7 @@ returns g c =
     record {
       plans = ended.plans;
       based = ended.base;
-      legal = subst (IsLegal p) (sym past) c.holds.ensures.legal;
+      legal = subst (IsLegal p) (sym past) c.shows_laws.ensures.legal;
       complete = subst (IsComplete p) (sym past) left.ensures.complete;
       looks = subst (λ (h : List Event). AreAllLooks p h (length c.args.crew.watches.items) looks) (sym ended.past) ended.looks;
       dumps = subst (λ (h : List Event). AreAllRead p h (streams_of p) c.in-Ok.dumps.items) (sym past) c.in-Ok.ensures.read;

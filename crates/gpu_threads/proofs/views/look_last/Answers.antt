@@ -4,7 +4,7 @@ use Rattle.std.specs.List.Sorted.{IsNonDecreasingBy}
 use Rattle.live_view.specs.declared.look.Sight.{Sight}
 use Rattle.live_view.specs.Looks.{IsOf}
 use Rattle.gpu_hall.specs.Views.{ShownData}
-use Rattle.gpu_threads.specs.Views.{IsTold, SawTold}
+use Rattle.gpu_threads.specs.Views.{IsViewTold, SawTold}
 use Rattle.gpu_threads.proofs.Watched.{all_seen}
 use Rattle.gpu_threads.proofs.views.look_last.Goals as goal
 
@@ -17,7 +17,7 @@ returns-clause-looks g c =
     let told = c.confirm.ensures.told in
     let saw : SawTold shown now = record {
       told = told.told;
-      is_told = subst (λ (s : ShownData). IsTold s told.told) c.inform.ensures.same told.is_told;
+      is_told = subst (λ (s : ShownData). IsViewTold s told.told) c.inform.ensures.same told.is_told;
       each = subst (All (IsOf told.told.versions)) same told.each;
     } in
     all_seen shown c.inform.new.watch now (ap length c.inform.ensures.looks ∙ c.requires.watched) c.inform.ensures.told c.look.ensures saw c.into_seen.result.items

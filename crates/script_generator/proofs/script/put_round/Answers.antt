@@ -1,5 +1,5 @@
 use Rattle.std.proofs.Common.{◌∙◌, ap}
-use Rattle.script_generator.specs.Draws.{drawn}
+use Rattle.script_generator.specs.Draws.{next_draw}
 use Rattle.script_generator.proofs.Rounds.{round_joined}
 use Rattle.script_generator.proofs.script.put_round.Goals as goal
 
@@ -10,4 +10,4 @@ returns-clause-text c =
     c.put_text-4.new.out.items c.args.stream c.args.round c.args.state c.drawn-uploaded.result
     c.put_text.ensures.items c.put_half.ensures.text c.put_block.ensures.text c.put_text-2.ensures.items
     c.put_value.ensures.items c.put_text-3.ensures.items c.put_half-2.ensures.text c.put_text-4.ensures.items
-    (c.drawn-uploaded.ensures ∙ ap drawn c.put_block.ensures.state)
+    (c.drawn-uploaded.ensures ∙ ap next_draw c.put_block.ensures.state)

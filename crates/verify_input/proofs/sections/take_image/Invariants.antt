@@ -3,7 +3,7 @@ use Rattle.gpu_store.specs.Picture.{Picture}
 use Rattle.gpu_store.specs.Images.{picture_of}
 use Rattle.gpu_plan.specs.Plans.{PlansData}
 use Rattle.gpu_journal.specs.declared.event.Event.{Event}
-use Rattle.verify_input.specs.Due.{same_lines, image_lines}
+use Rattle.verify_input.specs.Due.{same_lines, lines_of_image}
 use Rattle.verify_input.specs.declared.what.What.TheVariants as what
 use Rattle.verify_input.proofs.Dues.{IsTaking}
 use Rattle.verify_input.proofs.Lefts.{rows_left}
@@ -11,4 +11,4 @@ use Rattle.verify_input.proofs.sections.take_image.Given as goal
 
 abbrev pub invariant-loop-y : goal.invariant-loop-y
 invariant-loop-y l =
-    (picture : Picture) (p : PlansData) (h : List Event) → picture_of l.images l.image ≡ Some picture → IsTaking p h (same_lines what.Image (image_lines (l.image, picture))) (rows_left picture l.y) l.fn.rest l.rest 0
+    (picture : Picture) (p : PlansData) (h : List Event) → picture_of l.images l.image ≡ Some picture → IsTaking p h (same_lines what.Image (lines_of_image (l.image, picture))) (rows_left picture l.y) l.fn.rest l.rest 0

@@ -4,7 +4,7 @@ use Rattle.std.proofs.lemmas.List.{length_push, drop_all}
 use Rattle.std.proofs.lemmas.Result.{err_from_is_err_and}
 use Rattle.gpu_store.specs.Images.{Pictures}
 use Rattle.gpu_store.proofs.Lookups.{Stands, number_stands, numbers_end}
-use Rattle.verify_input.specs.Due.{same_lines, image_lines}
+use Rattle.verify_input.specs.Due.{same_lines, lines_of_image}
 use Rattle.verify_input.specs.declared.what.What.TheVariants as what
 use Rattle.verify_input.proofs.Dues.{IsTaking, taking_none, taking_more, judged_exit, judged_all}
 use Rattle.verify_input.proofs.Lefts.{images_left, images_next}
@@ -31,7 +31,7 @@ pub loop-image-preserved : goal.loop-image-preserved
 loop-image-preserved c = λ p h.
     let images : Pictures = c.args.images.now in
     let here = stands (goal.at.loop-image-preserved c).In-Some in
-    subst (λ (n : ℕ). IsTaking p h (same_lines what.Image (flat_map image_lines images)) (images_left images n) c.args.rest.now c.take_image.new.rest 0) (sym (length_push c.loop-image.yielded c.in-Some.image))
+    subst (λ (n : ℕ). IsTaking p h (same_lines what.Image (flat_map lines_of_image images)) (images_left images n) c.args.rest.now c.take_image.new.rest 0) (sym (length_push c.loop-image.yielded c.in-Some.image))
     (taking_more (images_next images (length c.loop-image.yielded) c.in-Some.image here) (c.loop-image.invariant p h) (c.in_ok-take_image.ensures here.entry.1 p h here.shown).ok)
 
 pub returns : goal.returns
@@ -39,4 +39,4 @@ returns c = λ p h.
     let images : Pictures = c.args.images.now in
     let from = c.into_iter-image-iterator.ensures.into_iter_gives ∙ c.numbers-image-items.ensures.numbers in
     let end = numbers_end images _ c.loop-image.yielded _ from c.loop-image.yielded_by _ _ c.next.ensures.steps c.in-None.is in
-    judged_all (ap (λ (entries : Pictures). same_lines what.Image (flat_map image_lines entries)) (drop_all (length c.loop-image.yielded) images (omega (arith, end)))) (c.loop-image.invariant p h)
+    judged_all (ap (λ (entries : Pictures). same_lines what.Image (flat_map lines_of_image entries)) (drop_all (length c.loop-image.yielded) images (omega (arith, end)))) (c.loop-image.invariant p h)

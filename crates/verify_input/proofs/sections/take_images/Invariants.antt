@@ -2,11 +2,11 @@ use Rattle.std.proofs.Common.{length, List}
 use Rattle.std.specs.List.{flat_map}
 use Rattle.gpu_plan.specs.Plans.{PlansData}
 use Rattle.gpu_journal.specs.declared.event.Event.{Event}
-use Rattle.verify_input.specs.Due.{same_lines, image_lines}
+use Rattle.verify_input.specs.Due.{same_lines, lines_of_image}
 use Rattle.verify_input.specs.declared.what.What.TheVariants as what
 use Rattle.verify_input.proofs.Dues.{IsTaking}
 use Rattle.verify_input.proofs.Lefts.{images_left}
 use Rattle.verify_input.proofs.sections.take_images.Given as goal
 
 abbrev pub invariant-loop-image : goal.invariant-loop-image
-invariant-loop-image l = (p : PlansData) (h : List Event) → IsTaking p h (same_lines what.Image (flat_map image_lines l.images)) (images_left l.images (length l.yielded)) l.fn.rest l.rest 0
+invariant-loop-image l = (p : PlansData) (h : List Event) → IsTaking p h (same_lines what.Image (flat_map lines_of_image l.images)) (images_left l.images (length l.yielded)) l.fn.rest l.rest 0

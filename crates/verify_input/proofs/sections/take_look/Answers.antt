@@ -19,7 +19,7 @@ read c = record {
 }
 
 pub take-requires : goal.take-requires
-take-requires c = subst IsLine (sym (c.bytes.ensures ∙ c.view.ensures)) (view_line _ _ _)
+take-requires c = subst IsLine (sym (c.bytes.ensures ∙ c.put_view.ensures)) (view_line _ _ _)
 
 pub returns-then-not-seen-clause-err : goal.returns-then-not-seen-clause-err
 returns-then-not-seen-clause-err c =
@@ -36,9 +36,9 @@ pub returns-in_err-take-clause-err : goal.returns-in_err-take-clause-err
 returns-in_err-take-clause-err c =
     let exit = err_from_is_err_and c.from_residual-in_err-take.result c.from_residual-in_err-take.ensures.1 in
     rw (exit.1, exit.2) (look_off (read (goal.at.returns-in_err-take-clause-err c).After-first_look-look)
-    (rw (c.bytes.ensures ∙ c.view.ensures) at (c.in_err-take.ensures c.args.history.plans.now (past_of c.args.history)).err))
+    (rw (c.bytes.ensures ∙ c.put_view.ensures) at (c.in_err-take.ensures c.args.history.plans.now (past_of c.args.history)).err))
 
 pub returns-clause-ok : goal.returns-clause-ok
 returns-clause-ok c =
     look_taken (read (goal.at.returns-clause-ok c).After-first_look-look) (c.in_ok-seen.ensures.0 c.if-not-seen.false)
-    (rw (c.bytes.ensures ∙ c.view.ensures) at (c.in_ok-take.ensures c.args.history.plans.now (past_of c.args.history)).ok)
+    (rw (c.bytes.ensures ∙ c.put_view.ensures) at (c.in_ok-take.ensures c.args.history.plans.now (past_of c.args.history)).ok)

@@ -22,16 +22,16 @@ pub loop-ending-init : goal.loop-ending-init
 loop-ending-init c = λ p h. taking_none
 
 pub take-requires : goal.take-requires
-take-requires c = subst IsLine (sym (c.bytes.ensures ∙ c.mark-in-loop-ending.ensures)) (mark_line _ _)
+take-requires c = subst IsLine (sym (c.bytes.ensures ∙ c.put_mark.ensures)) (mark_line _ _)
 
 pub returns-in_err-take : goal.returns-in_err-take
 returns-in_err-take c = λ p h.
     judged_exit (err_from_is_err_and c.from_residual.result c.from_residual.ensures.1)
-    (next c.args.base c.args.endings.now c.loop-ending.ending-index _ c.loop-ending-test.true (c.bytes.ensures ∙ c.mark-in-loop-ending.ensures) c.mark.ensures) (c.loop-ending.invariant p h) (c.in_err-take.ensures p h).err
+    (next c.args.base c.args.endings.now c.loop-ending.ending-index _ c.loop-ending-test.true (c.bytes.ensures ∙ c.put_mark.ensures) c.mark.ensures) (c.loop-ending.invariant p h) (c.in_err-take.ensures p h).err
 
 pub loop-ending-preserved : goal.loop-ending-preserved
 loop-ending-preserved c = λ p h.
-    taking_more (next c.args.base c.args.endings.now c.loop-ending.ending-index _ c.loop-ending-test.true (c.bytes.ensures ∙ c.mark-in-loop-ending.ensures) c.mark.ensures) (c.loop-ending.invariant p h) (c.in_ok-take.ensures p h).ok
+    taking_more (next c.args.base c.args.endings.now c.loop-ending.ending-index _ c.loop-ending-test.true (c.bytes.ensures ∙ c.put_mark.ensures) c.mark.ensures) (c.loop-ending.invariant p h) (c.in_ok-take.ensures p h).ok
 
 pub returns : goal.returns
 returns c = λ p h.

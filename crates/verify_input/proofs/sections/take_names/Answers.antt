@@ -8,29 +8,29 @@ use Rattle.verify_input.proofs.Lefts.{names_first, names_next, names_end}
 use Rattle.verify_input.proofs.sections.take_names.Goals as goal
 
 pub take-requires : goal.take-requires
-take-requires c = subst IsLine (sym (c.bytes.ensures ∙ c.head.ensures)) head_line
+take-requires c = subst IsLine (sym (c.bytes.ensures ∙ c.put_head.ensures)) head_line
 
 pub returns-in_err-take : goal.returns-in_err-take
 returns-in_err-take c = λ h.
     judged_exit (err_from_is_err_and c.from_residual.result c.from_residual.ensures.1)
-    (names_first c.args.plans.now (grind (arith, nat_tests)) (c.bytes.ensures ∙ c.head.ensures)) taking_none (c.in_err-take.ensures c.args.plans.now h).err
+    (names_first c.args.plans.now (grind (arith, nat_tests)) (c.bytes.ensures ∙ c.put_head.ensures)) taking_none (c.in_err-take.ensures c.args.plans.now h).err
 
 pub loop-index-init : goal.loop-index-init
 loop-index-init c = λ h.
-    taking_more (names_first c.args.plans.now (grind (arith, nat_tests)) (c.bytes.ensures ∙ c.head.ensures)) taking_none (c.in_ok-take.ensures c.args.plans.now h).ok
+    taking_more (names_first c.args.plans.now (grind (arith, nat_tests)) (c.bytes.ensures ∙ c.put_head.ensures)) taking_none (c.in_ok-take.ensures c.args.plans.now h).ok
 
 pub take-requires-in-loop-index : goal.take-requires-in-loop-index
-take-requires-in-loop-index c = subst IsLine (sym (c.bytes-in-loop-index.ensures ∙ c.name-in-loop-index.ensures)) (name_line (c.loop-index.index + 1) c.name.result)
+take-requires-in-loop-index c = subst IsLine (sym (c.bytes-in-loop-index.ensures ∙ c.put_name.ensures)) (name_line (c.loop-index.index + 1) c.name.result)
 
 pub returns-in_err-take-2 : goal.returns-in_err-take-2
 returns-in_err-take-2 c = λ h.
     judged_exit (err_from_is_err_and c.from_residual-in_err-take-2.result c.from_residual-in_err-take-2.ensures.1)
-    (names_next c.args.plans.now c.loop-index.index c.name.result (omega arith) (c.bytes-in-loop-index.ensures ∙ c.name-in-loop-index.ensures) c.name.ensures.value)
+    (names_next c.args.plans.now c.loop-index.index c.name.result (omega arith) (c.bytes-in-loop-index.ensures ∙ c.put_name.ensures) c.name.ensures.value)
     (c.loop-index.invariant h) (c.in_err-take-2.ensures c.args.plans.now h).err
 
 pub loop-index-preserved : goal.loop-index-preserved
 loop-index-preserved c = λ h.
-    taking_more (names_next c.args.plans.now c.loop-index.index c.name.result (omega arith) (c.bytes-in-loop-index.ensures ∙ c.name-in-loop-index.ensures) c.name.ensures.value)
+    taking_more (names_next c.args.plans.now c.loop-index.index c.name.result (omega arith) (c.bytes-in-loop-index.ensures ∙ c.put_name.ensures) c.name.ensures.value)
     (c.loop-index.invariant h) (c.in_ok-take-2.ensures c.args.plans.now h).ok
 
 pub returns : goal.returns

@@ -20,16 +20,16 @@ pub bounds-history-index : goal.bounds-history-index
 bounds-history-index c = omega (arith, ends_kept c.args.history c.requires.history)
 
 pub take-requires : goal.take-requires
-take-requires c = subst IsLine (sym (c.bytes.ensures ∙ c.stream.ensures)) (stream_line _ _ _)
+take-requires c = subst IsLine (sym (c.bytes.ensures ∙ c.put_stream.ensures)) (stream_line _ _ _)
 
 pub returns-in_err-take : goal.returns-in_err-take
 returns-in_err-take c =
     judged_exit (err_from_is_err_and c.from_residual.result c.from_residual.ensures.1)
-    (stream_next c.args.history c.requires.history c.loop-index.index c.state.result.now _ (omega arith) c.state.ensures (c.bytes.ensures ∙ c.stream.ensures)) c.loop-index.invariant (c.in_err-take.ensures c.args.history.plans.now (past_of c.args.history)).err
+    (stream_next c.args.history c.requires.history c.loop-index.index c.state.result.now _ (omega arith) c.state.ensures (c.bytes.ensures ∙ c.put_stream.ensures)) c.loop-index.invariant (c.in_err-take.ensures c.args.history.plans.now (past_of c.args.history)).err
 
 pub loop-index-preserved : goal.loop-index-preserved
 loop-index-preserved c =
-    taking_more (stream_next c.args.history c.requires.history c.loop-index.index c.state.result.now _ (omega arith) c.state.ensures (c.bytes.ensures ∙ c.stream.ensures)) c.loop-index.invariant (c.in_ok-take.ensures c.args.history.plans.now (past_of c.args.history)).ok
+    taking_more (stream_next c.args.history c.requires.history c.loop-index.index c.state.result.now _ (omega arith) c.state.ensures (c.bytes.ensures ∙ c.put_stream.ensures)) c.loop-index.invariant (c.in_ok-take.ensures c.args.history.plans.now (past_of c.args.history)).ok
 
 pub returns : goal.returns
 returns c =

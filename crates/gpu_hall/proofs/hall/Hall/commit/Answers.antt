@@ -14,7 +14,7 @@ use Rattle.gpu_house.specs.Committing.{Stage, GoneInPart, Commits}
 use Rattle.house_core.specs.Core.{with_out}
 use Rattle.house_core.specs.Desks.{Out, at_home}
 use Rattle.gpu_hall.specs.Outs.{NoneIsPaused}
-use Rattle.gpu_hall.specs.Views.{HasRoom, HasNoted, HallFits, front_of}
+use Rattle.gpu_hall.specs.Views.{ViewHasRoom, HasNoted, HallFits, view_front}
 use Rattle.gpu_hall.specs.Commits.{Return, CameHome}
 use Rattle.gpu_hall.specs.Halls.{HallData}
 use Rattle.gpu_hall.proofs.Fitting.{fits_same, fits_while, fits_room}
@@ -91,7 +91,7 @@ module _ (g : Over) (c : After-step_batch-answer g) where
   batch_back next done = back_committed g.P.ServiceSide.side g.P.ServiceSide.mark g.N.Naming.plans old new members next done
 
   -- the view is seen as before
-  view_back : (view : Option WriterData) → HasNoted new.drawn c.make_room.new.view view → option_map front_of view ≡ option_map front_of c.self.inside.view
+  view_back : (view : Option WriterData) → HasNoted new.drawn c.make_room.new.view view → option_map view_front view ≡ option_map view_front c.self.inside.view
   view_back view noted = seen_noted new.drawn c.make_room.new.view view noted ∙ seen_same c.self.inside.view c.make_room.new.view c.make_room.ensures.same
 
   -- no run is paused once that of the batch is at home
@@ -103,7 +103,7 @@ note_all-requires-clause-room g c =
     let S = g.P.ServiceSide in
     let b = (goal.at.note_all-requires-clause-room g c).After-step_batch-answer in
     let few = few_ops S.side S.mark g.N.Naming.plans (old g b) (new g b) (members g b) (none g b) c.step_batch-answer.result (did g b) in
-    let room : HasRoom (length c.members.result.now) c.make_room.new.view = c.if-not-make_room.ensures.room refl in
+    let room : ViewHasRoom (length c.members.result.now) c.make_room.new.view = c.if-not-make_room.ensures.room refl in
     let same = ap length c.members.ensures.value in
     let many = length-map c.args.batch (λ (member : FetchedData). member.words) in
     fewer (length (new g b).drawn) (length c.members.result.now) c.make_room.new.view (omega (arith, few, same, many)) room

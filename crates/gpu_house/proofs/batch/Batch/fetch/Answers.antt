@@ -5,8 +5,8 @@ use Rattle.std.specs.List.{All}
 use Rattle.gpu_fetch.specs.Side.{SideData, Fetches}
 use Rattle.gpu_cmd.specs.declared.facts.StreamFacts.{StreamFacts}
 use Rattle.gpu_fetch.specs.declared.sharing.FetchedPart.{FetchedPart}
-use Rattle.gpu_fetch.specs.Fetched.{FetchedData, IsFetched, added}
-use Rattle.gpu_fetch.specs.Parts.{words_in, parts_of}
+use Rattle.gpu_fetch.specs.Fetched.{FetchedData, IsFetched, items_since}
+use Rattle.gpu_fetch.specs.Parts.{words_of_parts, parts_of}
 use Rattle.gpu_fetch.proofs.Parts.{added_read}
 use Rattle.gpu_house.specs.Batches.{facts_after, batch_words, ends_by, AreChained, EndsExactly}
 use Rattle.gpu_house.proofs.Members.{IsOneMore, parts_long, parts_whole, parts_copies, parts_chained, parts_fetched, parts_shown, parts_go_on, parts_end}
@@ -46,7 +46,7 @@ module _ (g : Over) (c : goal.After-deref g) where
       }
 
   -- its words, as they are read
-  read : slice_range c.deref.result.now c.len-from.result (length c.deref.result.now) ≡ added list longer
+  read : slice_range c.deref.result.now c.len-from.result (length c.deref.result.now) ≡ items_since list longer
   read = added_read list c.deref.result.now longer c.len-from.result c.deref.ensures.value (omega (arith, c.len-from.ensures))
 
 pub loop-parts-preserved : goal.loop-parts-preserved
@@ -68,7 +68,7 @@ loop-parts-preserved g c =
 -- ---- where the batch ends
 
 pub share-requires-clause-whole : goal.share-requires-clause-whole
-share-requires-clause-whole g c = ap words_in c.deref-in_default.ensures.value ∙ parts_whole (more g (goal.at.share-requires-clause-whole g c).After-deref)
+share-requires-clause-whole g c = ap words_of_parts c.deref-in_default.ensures.value ∙ parts_whole (more g (goal.at.share-requires-clause-whole g c).After-deref)
 
 pub share-requires-clause-copies : goal.share-requires-clause-copies
 share-requires-clause-copies g c =

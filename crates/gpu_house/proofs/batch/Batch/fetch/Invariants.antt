@@ -1,6 +1,6 @@
 use Rattle.std.proofs.Common.{◌≡◌, ◌-◌, length}
 use Rattle.std.specs.List.{All}
-use Rattle.gpu_fetch.specs.Parts.{words_in, parts_of}
+use Rattle.gpu_fetch.specs.Parts.{words_of_parts, parts_of}
 use Rattle.gpu_house.specs.Batches.{batch_words, most_members}
 use Rattle.gpu_house.proofs.Members.{Gathered}
 use Rattle.gpu_house.proofs.batch.Batch.fetch.Given as goal
@@ -8,7 +8,7 @@ use Rattle.gpu_house.proofs.batch.Batch.fetch.Given as goal
 -- the members so far, whose words are all that is in the list, and what the side and the words keep
 abbrev pub invariant-loop-parts : goal.invariant-loop-parts
 invariant-loop-parts g l = record {
-  full : words_in l.parts.items ≡ length l.list.items;
+  full : words_of_parts l.parts.items ≡ length l.list.items;
   gathered : Gathered (g.P.ServiceSide.side l.fn.side) (g.P.ServiceSide.side l.side) l.fn.facts l.next (parts_of l.list.items l.parts.items);
   shows : All (g.P.ServiceSide.shows l.words) (batch_words (parts_of l.list.items l.parts.items));
   belongs : g.P.ServiceSide.belongs l.side l.words;

@@ -30,7 +30,7 @@ invariant_of-self g c =
     (subst (λ (h : HouseData g.row.P.Denot g.row.P-Note.Denot g.row.P-Results.Denot). is_open (standing_of p h.core.past c.args.run.run.stream) ≡ true → length (S.side c.args.run.side).fetched ≡ c.args.run.run.facts.fetched) (sym c.self.view_is) c.requires.list) in
     let run_of : is_open (standing_of p core.past run.stream) ≡ true → IsRunOf p core.past run = subst (λ (q : PlansData). is_open (standing_of q core.past run.stream) ≡ true → IsRunOf q core.past run) was.plans c.back.ensures.shows in
     record {
-      core = c.holds.ensures;
+      core = c.shows_core.ensures;
       plans = waits.plans ∙ was.plans;
       booked = waits.books ∙ was.booked;
       slots = length-set slots (t - 1) c.come.new.self ∙ was.slots;

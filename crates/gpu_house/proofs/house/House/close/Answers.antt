@@ -34,7 +34,7 @@ invariant_of-self g c =
     let came = closes core now c.args.stream c.close-closing.result c.close-closing.ensures.event c.close-closing.ensures.same in
     kept g.P.ServiceSide.side g.P.ServiceSide.table g.P.ServiceSide.mark g.P.ServiceSide.note_of takes told results_of p g.N.Naming.base g.N.Naming.words g.N.Naming.books g.N.Naming.result_words c.self.inside.hooks c.follow.new.hooks
     record { core = core; slots = slots; results = results } record { core = now; slots = slots; results = results } was
-    c.holds.ensures (⊎_elim (λ grows. grows.plans) (λ stays. stays.plans) came) (⊎_elim (λ grows. grows.books) (λ stays. stays.books) came)
+    c.shows_core.ensures (⊎_elim (λ grows. grows.plans) (λ stays. stays.plans) came) (⊎_elim (λ grows. grows.books) (λ stays. stays.books) came)
     c.follow.ensures refl
     (⊎_elim (λ grows. ended_homes g.P.ServiceSide.side g.P.ServiceSide.table g.P.ServiceSide.mark g.P.ServiceSide.note_of p (table_at g.N.Naming.words) core now (Close c.args.stream) slots grows.past c.close-closing.ensures.outs (close_ends p core.past c.args.stream) was.homes)
     (λ stays. still_homes g.P.ServiceSide.side g.P.ServiceSide.table g.P.ServiceSide.mark g.P.ServiceSide.note_of p (table_at g.N.Naming.words) core now slots stays.past stays.outs was.homes) came)

@@ -2,7 +2,7 @@ use Rattle.std.proofs.Common.{◌≡◌, ℕ, ◌+◌, ◌-◌, true, false, Som
 use Rattle.std.specs.Prelude.{slice_set, IfSome}
 use Rattle.gpu_word.specs.Results.{finishes_in}
 use Rattle.gpu_plan.specs.Plans.{PlansData}
-use Rattle.gpu_fetch.specs.Side.{with_finish}
+use Rattle.gpu_fetch.specs.Side.{finish_published}
 use Rattle.sync_core.specs.Standing.{is_open}
 use Rattle.gpu_journal.specs.declared.event.Event.{Event}
 use Rattle.gpu_journal.specs.declared.event.Event.TheVariants.{Finish}
@@ -39,7 +39,7 @@ invariant_of-self g c =
     let over = open_here c.self.inside.core t run.stream c.is_open.result false c.stream-stream.ensures c.is_open.ensures c.if-not-is_open.true in
     let waits = c.finish.ensures.over over in
     record {
-      core = c.holds.ensures;
+      core = c.shows_core.ensures;
       plans = waits.plans ∙ was.plans;
       booked = waits.books ∙ was.booked;
       slots = length-set c.self.inside.slots.items (c.stream-stream.result - 1) c.come.new.self ∙ was.slots;
@@ -104,11 +104,11 @@ invariant_of-self-2 g c =
     let met = c.meet.ensures in
     kept g.P.ServiceSide.side g.P.ServiceSide.table g.P.ServiceSide.mark g.P.ServiceSide.note_of takes told results_of p g.N.Naming.base g.N.Naming.words g.N.Naming.books g.N.Naming.result_words c.self.inside.hooks c.follow.new.hooks
     record { core = core; slots = slots; results = results } record { core = c.finish-2.new.self; slots = slots'; results = results' } was
-    c.holds-2.ensures grows.plans grows.books c.follow.ensures (length-set slots (t - 1) c.finish-3.new.self)
+    c.shows_core-2.ensures grows.plans grows.books c.follow.ensures (length-set slots (t - 1) c.finish-3.new.self)
     (came_done g.P.ServiceSide.side g.P.ServiceSide.table g.P.ServiceSide.mark g.P.ServiceSide.note_of p (table_at g.N.Naming.words) (book_at g.N.Naming.books) run core c.finish-2.new.self slots t c.index_mut-slot.result.now c.finish-3.new.self c.run.inside.side c.publish_finish.new.self c.run.inside.note
     c.stream-stream.ensures there c.index_mut-slot.ensures.value c.finish-3.ensures c.run.invariant grows.past c.finish-2.ensures.outs (subst (λ (q : PlansData). is_open (standing_of q core.past run.stream) ≡ true) was.plans still_open) run_of end
     (is_out core.outs run.stream record { order = run.order; paused = false } c.finish-2.ensures.out (order_positive p core.past run run_of))
-    (c.publish_finish.ensures.finished ∙ ap with_finish met.told) (c.publish_finish.ensures.table ∙ met.table) was.homes)
+    (c.publish_finish.ensures.finished ∙ ap finish_published met.told) (c.publish_finish.ensures.table ∙ met.table) was.homes)
     (length-set results (t - 1) c.count_finish.new.results)
     (subst (λ (h : List Event). AllFit takes told results_of answers p h results') (sym grows.past)
     (all_more takes told results_of answers p (Finish run.stream run.order) core.past results t c.count_finish.new.results c.index_mut-own.result.now c.stream-stream.ensures
@@ -126,7 +126,7 @@ returns-clause-done g c o =
     let now = slice_set slots (t - 1) c.finish-3.new.self in
     subst (λ (o : OutData g.row.P.Denot g.row.P-Note.Denot). CameDone S.side S.mark S.belongs S.note_belongs c.args.words.now c.args.self.now.slots now o.run.stream o.side o.note) c.run.view_is record {
       done = done;
-      told = c.publish_finish.ensures.finished ∙ ap with_finish met.told;
+      told = c.publish_finish.ensures.finished ∙ ap finish_published met.told;
       still = still;
       slots = slot_changed (λ slot. record slot { side = Some done; begun = false; first = None }) slots c.args.self.now.slots run.stream t c.index_mut-slot.result.now c.finish-3.new.self (ap (λ h. h.slots) c.self.view_is) c.stream-stream.ensures
           (known_here g.N.Naming.plans slots t run.stream c.self.invariant.slots c.stream-stream.ensures c.run.invariant.of_plans.known) c.index_mut-slot.ensures.value c.finish-3.ensures;

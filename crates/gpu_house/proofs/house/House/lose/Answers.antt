@@ -43,7 +43,7 @@ invariant_of-self g c =
     let came = loses_run core now c.run.inside.carried.stream c.lose.ensures.event c.lose.ensures.over in
     kept g.P.ServiceSide.side g.P.ServiceSide.table g.P.ServiceSide.mark g.P.ServiceSide.note_of takes told results_of g.N.Naming.plans g.N.Naming.base g.N.Naming.words g.N.Naming.books g.N.Naming.result_words c.self.inside.hooks c.follow.new.hooks
     record { core = core; slots = slots; results = results } record { core = now; slots = slots'; results = results } was
-    c.holds.ensures (⊎_elim (λ grows. grows.plans) (λ waits. waits.1.plans) came) (⊎_elim (λ grows. grows.books) (λ waits. waits.1.books) came)
+    c.shows_core.ensures (⊎_elim (λ grows. grows.plans) (λ waits. waits.1.plans) came) (⊎_elim (λ grows. grows.books) (λ waits. waits.1.books) came)
     c.follow.ensures (length-set slots (c.stream-stream.result - 1) c.come.new.self)
     (⊎_elim (λ grows. came_lost g.P.ServiceSide.side g.P.ServiceSide.table g.P.ServiceSide.mark g.P.ServiceSide.note_of g.N.Naming.plans (table_at g.N.Naming.words) (book_at g.N.Naming.books) run core now slots t c.index_mut.result.now c.come.new.self c.run.inside.side c.run.inside.note Memory []
     c.stream-stream.ensures there c.index_mut.ensures.value c.come.ensures c.run.invariant grows.past c.lose.ensures.outs was.homes)

@@ -35,7 +35,7 @@ invariant_of-self g c =
     let came = loses core now c.args.stream c.lose_client.ensures.event c.lose_client.ensures.over in
     kept g.P.ServiceSide.side g.P.ServiceSide.table g.P.ServiceSide.mark g.P.ServiceSide.note_of takes told results_of p g.N.Naming.base g.N.Naming.words g.N.Naming.books g.N.Naming.result_words c.self.inside.hooks c.follow.new.hooks
     record { core = core; slots = slots; results = results } record { core = now; slots = slots; results = results } was
-    c.holds.ensures (⊎_elim (λ grows. grows.plans) (λ stays. stays.plans) came) (⊎_elim (λ grows. grows.books) (λ stays. stays.books) came)
+    c.shows_core.ensures (⊎_elim (λ grows. grows.plans) (λ stays. stays.plans) came) (⊎_elim (λ grows. grows.books) (λ stays. stays.books) came)
     c.follow.ensures refl
     (⊎_elim (λ grows. ended_homes g.P.ServiceSide.side g.P.ServiceSide.table g.P.ServiceSide.mark g.P.ServiceSide.note_of p (table_at g.N.Naming.words) core now (Lost c.args.stream Memory []) slots grows.past c.lose_client.ensures.outs (lost_ends p core.past c.args.stream Memory []) was.homes)
     (λ stays. still_homes g.P.ServiceSide.side g.P.ServiceSide.table g.P.ServiceSide.mark g.P.ServiceSide.note_of p (table_at g.N.Naming.words) core now slots stays.past stays.outs was.homes) came)

@@ -106,7 +106,7 @@ invariant_of-self-2 g c =
     let past : now.past ≡ order_event p core.past s ∷ core.past = subst (λ (q : PlansData). now.past ≡ order_event q core.past s ∷ core.past) was.plans grows.past in
     kept side table mark note_of takes told results_of p g.N.Naming.base g.N.Naming.words g.N.Naming.books g.N.Naming.result_words c.self.inside.hooks c.follow.new.hooks
     record { core = core; slots = slots; results = results } record { core = now; slots = slice_set slots (s - 1) c.push.new.self; results = results } was
-    c.holds.ensures grows.plans grows.books (subst (λ (b : ℕ). AreMarked now.plans b now.past c.follow.new.hooks) c.take_room.ensures.base c.follow.ensures) (length-set slots (s - 1) c.push.new.self)
+    c.shows_core.ensures grows.plans grows.books (subst (λ (b : ℕ). AreMarked now.plans b now.past c.follow.new.hooks) c.take_room.ensures.base c.follow.ensures) (length-set slots (s - 1) c.push.new.self)
     (ordered_homes side table mark note_of p (table_at g.N.Naming.words) core now slots s c.args.note c.index_mut-slot.result.now c.push.new.self
     (subst (λ (q : PlansData). IsLegal q core.past) was.plans (core_legal core was.core))
     (subst (λ (n : ℕ). IsKnown n s) (sym was.slots) c.requires.known)

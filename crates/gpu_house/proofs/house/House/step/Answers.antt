@@ -1,7 +1,7 @@
 use Rattle.std.proofs.Common.{◌≡◌, ℕ, ◌-◌, ◌≤◌, Bool, false, true, List, ◌∷◌, option_map, length, refl, sym, ap, subst, ◌∙◌, arith, length-set}
 use Rattle.std.specs.Prelude.{slice_set, slice_index_or}
 use Rattle.std.specs.List.{All}
-use Rattle.gpu_word.specs.Results.{writes_of}
+use Rattle.gpu_word.specs.Results.{writes_listed}
 use Rattle.gpu_cmd.specs.Spans.{words_in}
 use Rattle.gpu_plan.specs.Plans.{PlansData, plan_of}
 use Rattle.gpu_fetch.specs.Side.{SideData, told_more}
@@ -14,7 +14,7 @@ use Rattle.gpu_journal.specs.declared.event.Event.{Event}
 use Rattle.gpu_journal.specs.declared.event.Event.TheVariants.{Step, Lost}
 use Rattle.gpu_journal.specs.declared.event.Why.TheVariants.{Error}
 use Rattle.gpu_journal.specs.Waits.{standing_of, pending_in}
-use Rattle.serial_laws.specs.Runs.{keeps}
+use Rattle.serial_laws.specs.Runs.{step_keeps}
 use Rattle.house_core.specs.Core.{Stays, Grows, IsRunOf, MayHavePut, is_home, book_at}
 use Rattle.house_core.specs.Answers as answers
 use Rattle.house_core.specs.Answers.{WasExecuted}
@@ -34,7 +34,7 @@ use Rattle.gpu_house.specs.Slots.{RunFits}
 use Rattle.gpu_house.specs.House.{HouseData, OutData, HouseInvariant}
 use Rattle.gpu_house.specs.Changes.{ResultsBelong, StillBelongs, met_by}
 use Rattle.gpu_house.specs.Batches.{AreNext}
-use Rattle.gpu_house.specs.Steps.{told_side, IsDone, IsRefused, Steps}
+use Rattle.gpu_house.specs.Steps.{told_side, IsRunStepDone, IsRefused, Steps}
 use Rattle.gpu_house.specs.Stepping.{KeepsBeside, TookStep}
 use Rattle.gpu_house.specs.Drawing.{drawn_if, Draws}
 use Rattle.gpu_house.proofs.Drawings.{told_drawn, draws_step, draws_lost, drawn_where}
@@ -53,10 +53,10 @@ step-requires-clause-may g c =
 
 -- ---- what the core did
 
-refused : (g : Over) (c : goal.In-Invalid g) → answers.IsRefused c.self.inside.core c.step.new.self c.run.inside.carried c.step.new.run c.args.fetched.words c.in-Invalid.error
+refused : (g : Over) (c : goal.In-Invalid g) → answers.IsStepRefused c.self.inside.core c.step.new.self c.run.inside.carried c.step.new.run c.args.fetched.words c.in-Invalid.error
 refused g c = of_invalid _ _ _ _ _ c.in_ok-step.field-0 c.in_ok-step.ensures.steps c.in-Invalid.error c.in-Invalid.is
 
-made : (g : Over) (c : goal.In-Done g) → answers.IsDone c.self.inside.core c.step.new.self c.run.inside.carried c.step.new.run c.args.fetched.words c.in-Done.acted
+made : (g : Over) (c : goal.In-Done g) → answers.IsStepDone c.self.inside.core c.step.new.self c.run.inside.carried c.step.new.run c.args.fetched.words c.in-Done.acted
 made g c = of_done _ _ _ _ _ c.in_ok-step.field-0 c.in_ok-step.ensures.steps c.in-Done.acted c.in-Done.is
 
 -- what holds of the parts of the house and of the run holds of both as contracts see them
@@ -151,7 +151,7 @@ invariant_of-self-in-Invalid g c =
     let was = c.self.invariant in
     let is = refused g (goal.at.invariant_of-self-in-Invalid g c).In-Invalid in
     let grows = is.event in
-    kept _ _ _ _ _ _ _ _ _ _ _ _ c.self.inside.hooks _ _ _ was c.holds.ensures grows.plans grows.books (subst (λ (b : ℕ). AreMarked now.plans b now.past c.follow.new.hooks) c.take_room.ensures.base c.follow.ensures) refl
+    kept _ _ _ _ _ _ _ _ _ _ _ _ c.self.inside.hooks _ _ _ was c.shows_core.ensures grows.plans grows.books (subst (λ (b : ℕ). AreMarked now.plans b now.past c.follow.new.hooks) c.take_room.ensures.base c.follow.ensures) refl
     (ended_homes _ _ _ _ _ _ c.self.inside.core now (Lost s why words) c.self.inside.slots.items grows.past is.outs (lost_ends p h s why words) was.homes) refl
     (subst (λ (h : List Event). AllFit S.takes S.written S.results_of (table_at g.N.Naming.result_words) p h results) (sym grows.past) (all_still S.takes S.written S.results_of (table_at g.N.Naming.result_words) p (Lost s why words) h results (λ s. refl) was.results))
 
@@ -174,14 +174,14 @@ invariant_of-self-2 g c =
     let grows = own.event in
     let positive = order_positive core.plans core.past run (c.in_ok-step.ensures.shows is.still_open) in
     let wrote : writes_told c.in-Done.acted.effect ≡ writes (plan_of p s).areas words (state_of p core.past s) = subst (λ (q : PlansData). writes_told c.in-Done.acted.effect ≡ writes (plan_of q s).areas words (state_of q core.past s)) was.plans own.acted.writes in
-    kept _ _ _ _ _ _ _ _ _ _ _ _ c.self.inside.hooks _ _ _ was c.holds-2.ensures grows.plans grows.books (subst (λ (b : ℕ). AreMarked now.plans b now.past c.follow-2.new.hooks) c.take_room.ensures.base c.follow-2.ensures) refl
+    kept _ _ _ _ _ _ _ _ _ _ _ _ c.self.inside.hooks _ _ _ was c.shows_core-2.ensures grows.plans grows.books (subst (λ (b : ℕ). AreMarked now.plans b now.past c.follow-2.new.hooks) c.take_room.ensures.base c.follow-2.ensures) refl
     (stepped_homes _ _ _ _ _ _ core now c.self.inside.slots.items s words record { order = run.order; paused = c.in-Done.acted.kept } c.run.invariant.of_plans.known.0 grows.past own.outs
     (ap (λ (q : PlansData). is_open (standing_of q core.past s)) (sym was.plans) ∙ is.still_open) (is_out core.outs s record { order = run.order; paused = false } c.in_ok-step.ensures.out positive)
     (ap (λ (row : List Out). is_home row s) own.outs ∙ stays_out core.outs s run.order false c.in-Done.acted.kept c.in_ok-step.ensures.out positive) was.homes)
     (length-set results (t - 1) c.tell.new.results)
     (subst (λ (h : List Event). AllFit S.takes S.written S.results_of (table_at g.N.Naming.result_words) p h (slice_set results (t - 1) c.tell.new.results)) (sym grows.past)
     (all_more S.takes S.written S.results_of (table_at g.N.Naming.result_words) p (Step s words) core.past results t c.tell.new.results c.index_mut.result.now (its g there) (known g there) c.index_mut.ensures.value
-    (c.tell.ensures.written ∙ ap (λ list. told_more (S.written c.index_mut.result.now) (writes_of list)) wrote) c.tell.ensures.takes c.tell.ensures.named was.results))
+    (c.tell.ensures.written ∙ ap (λ list. told_more (S.written c.index_mut.result.now) (writes_listed list)) wrote) c.tell.ensures.takes c.tell.ensures.named was.results))
 
 -- ---- the run
 
@@ -279,7 +279,7 @@ module _ (g : Over) (c : goal.After-drawn_of g) where
   abbrev left : OutData g.row.P.Denot g.row.P-Note.Denot
   left = record { run = c.step.new.run; side = c.tell.new.side; note = c.meet-2.new.note }
 
-  done : IsDone g.P.ServiceSide.side g.P.ServiceSide.mark g.N.Naming.plans c.args.self.now house c.args.run.now left c.args.fetched.words c.in-Done.acted.kept
+  done : IsRunStepDone g.P.ServiceSide.side g.P.ServiceSide.mark g.N.Naming.plans c.args.self.now house c.args.run.now left c.args.fetched.words c.in-Done.acted.kept
   done =
       let path = goal.at.After-drawn_of g c in
       let core = c.self.inside.core in
@@ -289,10 +289,10 @@ module _ (g : Over) (c : goal.After-drawn_of g) where
       let acted = c.in-Done.acted in
       let is = made g path.In-Done in
       let own = is.stepped in
-      seen g path.After-step (λ q h o. IsDone side g.P.ServiceSide.mark q h house o left c.args.fetched.words acted.kept) record {
+      seen g path.After-step (λ q h o. IsRunStepDone side g.P.ServiceSide.mark q h house o left c.args.fetched.words acted.kept) record {
         still_open = is.still_open;
         valid = is.valid;
-        kept = own.acted.kept ∙ ap (keeps core.plans core.past run.stream) own.acted.effect;
+        kept = own.acted.kept ∙ ap (step_keeps core.plans core.past run.stream) own.acted.effect;
         event = own.event.past;
         moved = own.moved;
         run = subst (λ (q : PlansData). IsRunOf q c.step.new.self.past c.step.new.run) own.event.plans own.run;
@@ -317,8 +317,8 @@ returns-clause-steps g c =
     let next = c.next_of.result in
     let acted = c.in-Done.acted in
     let drawn = c.drawn_of.result in
-    let done_by : (b : Bool) → acted.kept ≡ b → IsDone side mark p c.args.self.now (house g c) c.args.run.now (left g c) words b =
-    λ b e. subst (IsDone side mark p c.args.self.now (house g c) c.args.run.now (left g c) words) e (done g c) in
+    let done_by : (b : Bool) → acted.kept ≡ b → IsRunStepDone side mark p c.args.self.now (house g c) c.args.run.now (left g c) words b =
+    λ b e. subst (IsRunStepDone side mark p c.args.self.now (house g c) c.args.run.now (left g c) words) e (done g c) in
     record {
       steps = goes_on (Steps side mark p c.args.self.now (house g c) c.args.run.now (left g c) words) next acted.kept c.at_end.result c.next_of.ensures (done_by true) (done_by false) (done_by false);
       end = ends next acted.kept c.at_end.result c.step.new.run.facts.get c.step.new.run.facts.put c.next_of.ensures c.at_end.ensures.value;

@@ -31,7 +31,7 @@ loop-member-init g c =
     let rest = c.into_iter-member-iterator.result.rest.items in
     let is : c.args.batch ≡ rest = cc in
     let open' : is_open (standing_of p x.house.core.past x.out.run.stream) ≡ true = subst (λ (t : ℕ). is_open (standing_of p x.house.core.past t) ≡ true) c.stream.ensures c.in_default.ensures.none in
-    let low : x.out.run.facts.fetched ≤ length (S.side x.out.side).fetched = c.holds.ensures.list in
+    let low : x.out.run.facts.fetched ≤ length (S.side x.out.side).fetched = c.shows_fit.ensures.list in
     record {
       stands = stands_first S.side S.mark S.belongs S.note_belongs S.results_belong p c.args.words.now x rest open' (subst (MayCommit S.side S.belongs S.note_belongs S.results_belong c.args.words.now x.house x.out) is c.requires)
           (subst (All IsFetched) is c.into_members-member-items.ensures.copies) (subst EndsExactly is c.into_members-member-items.ensures.end) low;

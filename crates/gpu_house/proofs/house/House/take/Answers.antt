@@ -79,7 +79,7 @@ invariant_of-self-2 g c =
     let waits = told.same in
     let out : Out = record { order = run.order; paused = false } in
     record {
-      core = c.holds.ensures;
+      core = c.shows_core.ensures;
       plans = waits.plans ∙ was.plans;
       booked = waits.books ∙ was.booked;
       slots = length-set slots (t - 1) c.leave.new.self ∙ was.slots;

@@ -2,7 +2,7 @@ use Rattle.std.proofs.Common.{◌≡◌, ℕ, ◌+◌, ◌≤◌, [], ◌∷◌,
 use Rattle.gpu_plan.specs.Passes.{flush_count, passes}
 use Rattle.gpu_fetch.specs.Side.{SideData}
 use Rattle.gpu_fetch.specs.Plain.{PlainData, IsFlush, IsAwait, IsBeside, IsNoteBeside, one_further}
-use Rattle.gpu_run.specs.Clients.{ClientData}
+use Rattle.gpu_run.specs.Clients.{RunClientData}
 use Rattle.gpu_run.proofs.NextAction.{found_in, is_await, await_quiet, next_is, counted_on, counts_fit, flushes_quiet}
 use Rattle.gpu_run.proofs.client.Client.act.Goals as goal
 
@@ -38,7 +38,7 @@ pass-requires c =
     record {
       plan = f.same;
       next = next_is IsAwait c.args.plan.now.actions c.self.inside.words.done c.index-actions-self.result f.here await;
-      passes = subst (λ (x : ClientData). IsTrue (passes c.args.plan.now.actions x.words.done c.args.finishes (c.args.token ∷ []))) (sym c.self.view_is) c.requires.passes;
+      passes = subst (λ (x : RunClientData). IsTrue (passes c.args.plan.now.actions x.words.done c.args.finishes (c.args.token ∷ []))) (sym c.self.view_is) c.requires.passes;
     }
 
 pub invariant_of-self-in_default : goal.invariant_of-self-in_default
@@ -61,10 +61,10 @@ pub returns-in_default : goal.returns-in_default
 returns-in_default c =
     let f = found_in _ c.args.self.now c.args.plan.now c.actions.result.now c.self.inside.position c.args.finishes (c.args.token ∷ []) c.index-actions-self.result c.self.view_is c.requires.plan c.actions.ensures.value c.self.invariant.place c.requires.passes c.index-actions-self.is in
     let await = is_await _ c.args.finishes (c.args.token ∷ []) c.index-actions-self.result f.passing c.in_default.not-Put c.in_default.not-Flush in
-    let words : c.self.inside.words ≡ c.args.self.now.words = ap (λ (x : ClientData). x.words) c.self.view_is in
+    let words : c.self.inside.words ≡ c.args.self.now.words = ap (λ (x : RunClientData). x.words) c.self.view_is in
     record {
       words = c.pass.ensures.done ∙ ap one_further words;
-      read = ap (λ (x : ClientData). x.read) c.self.view_is;
+      read = ap (λ (x : RunClientData). x.read) c.self.view_is;
       beside = subst (λ (w : PlainData). (side : SideData) → c.args.finishes ≤ side.finished → c.args.token ≤ side.greatest → IsBeside side w → IsBeside side c.pass.new.self) words c.pass.ensures.beside;
       notes = subst (λ (w : PlainData). (side : SideData) (mark : ℕ) → c.args.finishes ≤ side.finished → c.args.token ≤ side.greatest → IsNoteBeside side w mark → IsNoteBeside side c.pass.new.self mark) words c.pass.ensures.notes;
       quiet = flushes_quiet c.args.plan.now c.args.self.now.words.done c.index-actions-self.result f.there (await_quiet c.index-actions-self.result await);

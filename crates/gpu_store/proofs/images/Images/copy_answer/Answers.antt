@@ -1,7 +1,7 @@
 use Rattle.std.proofs.Common.{◌≡◌, ◌∙◌, ◌&&◌, arith, sym, ap, None, Some, rules, true, false}
 use Rattle.std.proofs.lemmas.Grind.{common_steps}
 use Rattle.std.proofs.lemmas.Bool.{and_left, and_right, and_from}
-use Rattle.gpu_store.specs.Picture.{fits, rectangle}
+use Rattle.gpu_store.specs.Picture.{has_rect, rectangle}
 use Rattle.gpu_store.specs.Images.{picture_of}
 use Rattle.gpu_store.proofs.Steps.{copy-no_source, copy-no_target, copy-outside, copy-done}
 use Rattle.gpu_store.proofs.images.Images.copy_answer.Goals as goal
@@ -25,8 +25,8 @@ returns-then-fits-2 c =
     let a = c.args in
     let source_there : picture_of a.self.now a.source ≡ Some c.in-Some.shown.now = grind (arith, common_steps) in
     let target_there : picture_of a.self.now a.target ≡ Some c.in-Some-get.found.now = grind (arith, common_steps) in
-    let first : fits c.in-Some.shown.now (rectangle a.sx a.sy a.to.w a.to.h) ≡ true = search rules in
-    let second : fits c.in-Some-get.found.now a.to ≡ true = search rules in
+    let first : has_rect c.in-Some.shown.now (rectangle a.sx a.sy a.to.w a.to.h) ≡ true = search rules in
+    let second : has_rect c.in-Some-get.found.now a.to ≡ true = search rules in
     sym (ap (λ end. end.answer) (copy-done a.self.now a.source a.sx a.sy a.target a.to.x a.to.y a.to.w a.to.h c.in-Some.shown.now c.in-Some-get.found.now source_there target_there (and_from _ _ first second)))
 
 pub returns : goal.returns
@@ -34,7 +34,7 @@ returns c =
     let a = c.args in
     let source_there : picture_of a.self.now a.source ≡ Some c.in-Some.shown.now = grind (arith, common_steps) in
     let target_there : picture_of a.self.now a.target ≡ Some c.in-Some-get.found.now = grind (arith, common_steps) in
-    let outside : (fits c.in-Some.shown.now (rectangle a.sx a.sy a.to.w a.to.h) && fits c.in-Some-get.found.now a.to) ≡ false =
+    let outside : (has_rect c.in-Some.shown.now (rectangle a.sx a.sy a.to.w a.to.h) && has_rect c.in-Some-get.found.now a.to) ≡ false =
     elim c.else-fits.branch [
       | else-fits-via-then-fits+else-fits-2 w ↦ and_right _ _ (sym w.fits-then-fits.ensures ∙ w.if-fits-2.false)
       | else-fits-via-else-fits w ↦ and_left _ _ (sym c.fits.ensures ∙ w.if-fits.false)

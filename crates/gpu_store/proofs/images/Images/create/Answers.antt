@@ -3,7 +3,7 @@ use Rattle.std.specs.Prelude.{nat_le, is_some}
 use Rattle.std.proofs.lemmas.Grind.{common_steps}
 use Rattle.gpu_store.specs.declared.op.Op.TheVariants.{Create}
 use Rattle.gpu_store.specs.declared.op.Answer.TheVariants.{InvalidValue, InvalidOperation, OutOfTexels}
-use Rattle.gpu_store.specs.Images.{picture_of, is_side, total, added, apply}
+use Rattle.gpu_store.specs.Images.{picture_of, is_side, total_texels, with_image, apply}
 use Rattle.gpu_store.specs.Picture.{texel_count, painted}
 use Rattle.std.proofs.lemmas.Bool.{le-leb, lt-leb}
 use Rattle.gpu_store.proofs.Counting.{texel_count-painted, counted-added, some_texels}
@@ -27,16 +27,16 @@ too_many : (c : goal.Then-width-height) → apply c.args.self.now (Create c.args
 too_many c =
     let gone : is_some (picture_of c.args.self.now c.args.image) ≡ false = grind (arith, common_steps) in
     let sides : (is_side c.args.width && is_side c.args.height) ≡ true = search rules in
-    let counted : total c.args.self.now ≡ c.self.inside.texels = ap total (sym c.self.view_is) ∙ sym c.self.invariant.counted in
-    let many : nat_le (total c.args.self.now + c.args.width * c.args.height) 4194304 ≡ false = lt-leb _ _ (omega (arith, counted)) in
+    let counted : total_texels c.args.self.now ≡ c.self.inside.texels = ap total_texels (sym c.self.view_is) ∙ sym c.self.invariant.counted in
+    let many : nat_le (total_texels c.args.self.now + c.args.width * c.args.height) 4194304 ≡ false = lt-leb _ _ (omega (arith, counted)) in
     create-many c.args.self.now c.args.image c.args.width c.args.height (missing_from _ gone) sides many
 
-made : (c : goal.After-self-1) → apply c.args.self.now (Create c.args.image c.args.width c.args.height) ≡ done (added c.args.self.now c.args.image (painted c.args.width c.args.height (λ x y. 0)))
+made : (c : goal.After-self-1) → apply c.args.self.now (Create c.args.image c.args.width c.args.height) ≡ done (with_image c.args.self.now c.args.image (painted c.args.width c.args.height (λ x y. 0)))
 made c =
     let gone : is_some (picture_of c.args.self.now c.args.image) ≡ false = grind (arith, common_steps) in
     let sides : (is_side c.args.width && is_side c.args.height) ≡ true = search rules in
-    let counted : total c.args.self.now ≡ c.self.inside.texels = ap total (sym c.self.view_is) ∙ sym c.self.invariant.counted in
-    let room : nat_le (total c.args.self.now + c.args.width * c.args.height) 4194304 ≡ true = le-leb _ _ (omega (arith, counted)) in
+    let counted : total_texels c.args.self.now ≡ c.self.inside.texels = ap total_texels (sym c.self.view_is) ∙ sym c.self.invariant.counted in
+    let room : nat_le (total_texels c.args.self.now + c.args.width * c.args.height) 4194304 ≡ true = le-leb _ _ (omega (arith, counted)) in
     create-done c.args.self.now c.args.image c.args.width c.args.height (missing_from _ gone) sides room
 
 -- ---- so both the answer and the images are right
@@ -64,7 +64,7 @@ returns-clause-answer c = sym (ap (λ end. end.answer) (made c))
 
 pub returns-clause-images : goal.returns-clause-images
 returns-clause-images c =
-    c.in_ok-insert.ensures.entries ∙ ap (λ images. added images c.args.image c.in_ok-blank.blank) c.self.view_is ∙ ap (added c.args.self.now c.args.image) c.in_ok-blank.ensures
+    c.in_ok-insert.ensures.entries ∙ ap (λ images. with_image images c.args.image c.in_ok-blank.blank) c.self.view_is ∙ ap (with_image c.args.self.now c.args.image) c.in_ok-blank.ensures
     ∙ sym (ap (λ end. end.images) (made c))
 
 pub invariant_of-self-2 : goal.invariant_of-self-2

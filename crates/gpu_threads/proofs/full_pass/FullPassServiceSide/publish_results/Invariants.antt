@@ -1,7 +1,7 @@
 use Rattle.std.proofs.Common.{◌≡◌, ◌++◌, take}
-use Rattle.gpu_word.specs.Results.{writes_of}
+use Rattle.gpu_word.specs.Results.{writes_listed}
 use Rattle.gpu_threads.proofs.full_pass.FullPassServiceSide.publish_results.Given as goal
 
 -- the writes up to here are written
 abbrev pub invariant-loop-write : goal.invariant-loop-write
-invariant-loop-write l = l.results ≡ record l.fn.results { written = l.fn.results.written ++ writes_of (take l.write-index l.writes) }
+invariant-loop-write l = l.results ≡ record l.fn.results { written = l.fn.results.written ++ writes_listed (take l.write-index l.writes) }

@@ -75,7 +75,7 @@ invariant_of-self c =
       obeys = legal;
       stands = c.finish.ensures.stands (sync_of p h) was.sync;
       count = c.finish.ensures.count;
-      endings = c.has_room.ensures;
+      endings = c.shows_room.ensures;
       images = was.images ∙ sym (images_then p event h);
       owed = omega (arith, less, room);
       spare = let most = was.spare in let left = c.push.ensures.spare in omega (arith, room, most, left);

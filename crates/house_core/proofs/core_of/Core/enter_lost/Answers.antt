@@ -55,7 +55,7 @@ invariant_of-self c =
       obeys = subst (λ (v : CoreData). Obeys v.plans v.past event) (sym c.self.view_is) c.requires.obeys;
       stands = c.lose-2.ensures.stands (sync_of p h) was.sync;
       count = c.lose-2.ensures.count;
-      endings = c.has_room.ensures;
+      endings = c.shows_room.ensures;
       images = was.images ∙ sym (images_then p event h);
       owed = let need = room.0 in let all = room.1 in omega (arith, none, need, all);
       spare = let all = room.1 in let most = was.spare in let left = c.push.ensures.spare in omega (arith, all, most, left);

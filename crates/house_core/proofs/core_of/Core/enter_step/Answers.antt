@@ -1,6 +1,6 @@
 use Rattle.std.proofs.Common.{◌≡◌, ◌-◌, ℕ, List, ◌∷◌, get_or, set, refl, ap, sym, subst, ◌∙◌, arith}
 use Rattle.sync_core.specs.Core.{StandsFor}
-use Rattle.sync_core.specs.Events.{noted}
+use Rattle.sync_core.specs.Events.{happened}
 use Rattle.stream_state.specs.declared.effect.Effect.{Effect}
 use Rattle.stream_state.specs.State.{State}
 use Rattle.gpu_store.specs.Images.{Pictures}
@@ -111,10 +111,10 @@ invariant_of-self-2 c =
       plans = refl;
       past = past c;
       obeys = obeys c;
-      stands = subst (λ (effect : Effect). StandsFor c.step.new.scene.sync (noted s (deed_asked p effect) (sync_of p h))) (told c).effect
-          (subst (λ (s : ℕ). StandsFor c.step.new.scene.sync (noted s (deed_asked p (acted c).effect) (sync_of p h))) c.stream-stream.ensures (does.waits (sync_of p h) was.sync));
+      stands = subst (λ (effect : Effect). StandsFor c.step.new.scene.sync (happened s (deed_asked p effect) (sync_of p h))) (told c).effect
+          (subst (λ (s : ℕ). StandsFor c.step.new.scene.sync (happened s (deed_asked p (acted c).effect) (sync_of p h))) c.stream-stream.ensures (does.waits (sync_of p h) was.sync));
       count = does.count;
-      endings = c.has_room.ensures;
+      endings = c.shows_room.ensures;
       images = does.images ∙ ap (λ (effect : Effect). (drawn_by effect (now c).images).images) (told c).effect ∙ ap (λ (images : Pictures). (drawn_by (asked_by p s words (world p h)) images).images) was.images ∙ sym (step_images p h s words);
       owed = let same = need_step p h s words in omega (arith, same);
       spare = let room = c.in_ok-take_room.ensures.room in let left = c.push.ensures.spare in omega (arith, room, left);

@@ -73,7 +73,7 @@ invariant_of-self-2 c =
       obeys = order_obeys p h (s c) c.in-Some.place (record { known = (place c).plan; stays = stays c }) (next c);
       stands = subst (λ (fences : List (ℕ × ℕ)). StandsFor c.order.new.self ((s c, Ordered fences) ∷ sync_of p h)) (fences c) (c.in_ok-order.ensures.stands (sync_of p h) was.sync);
       count = c.in_ok-order.ensures.count;
-      endings = c.has_room.ensures;
+      endings = c.shows_room.ensures;
       images = was.images ∙ sym (images_then p (event c) h);
       owed = omega (arith, more);
       spare = let left = c.push.ensures.spare in omega (arith, room, left);

@@ -2,14 +2,14 @@ use Rattle.std.proofs.Common.{◌≡◌, true, ap}
 use Rattle.gpu_house.specs.Batches.{member_words, batch_words}
 use Rattle.gpu_house.proofs.Going.{goes_further}
 use Rattle.house_tests.proofs.Turning.{fetched}
-use Rattle.house_tests.specs.Alone.{IsOut}
+use Rattle.house_tests.specs.Alone.{IsOutAlone}
 use Rattle.house_tests.proofs.Batching.{committed}
 use Rattle.house_tests.proofs.tests.drive.turn_batch.Given.{Over}
 use Rattle.house_tests.proofs.tests.drive.turn_batch.Goals.{In-Ok-step_batch}
 use Rattle.house_tests.proofs.tests.drive.turn_batch.Goals as goal
 
 -- the run has taken its next batch, and is still out where it goes on
-has : (g : Over) (c : In-Ok-step_batch g) → goes_further c.in-Ok-step_batch.next ≡ true → IsOut g.P.ServiceSide.belongs g.P.ServiceSide.note_belongs g.P.ServiceSide.results_belong g.P.ServiceSide.side c.args.words.now c.step_batch.new.self c.step_batch.new.run
+has : (g : Over) (c : In-Ok-step_batch g) → goes_further c.in-Ok-step_batch.next ≡ true → IsOutAlone g.P.ServiceSide.belongs g.P.ServiceSide.note_belongs g.P.ServiceSide.results_belong g.P.ServiceSide.side c.args.words.now c.step_batch.new.self c.step_batch.new.run
 has g c on =
     let S = g.P.ServiceSide in
     let e = c.in-Ok.ensures in

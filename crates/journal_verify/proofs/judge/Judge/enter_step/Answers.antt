@@ -6,12 +6,12 @@ use Rattle.stream_state.specs.declared.effect.Effect.{Effect}
 use Rattle.stream_state.specs.State.{State, noted}
 use Rattle.stream_state.specs.Steps.{effect, stepped}
 use Rattle.stream_state.specs.Laws.{IsTaken}
-use Rattle.sync_core.specs.Core.{StandsFor, left_of}
+use Rattle.sync_core.specs.Core.{StandsFor, unprocessed_of}
 use Rattle.sync_core.specs.Events as sync
 use Rattle.gpu_journal.specs.declared.event.Event.TheVariants.{Step}
 use Rattle.gpu_journal.specs.World.{drawn_by, greatest_after}
 use Rattle.gpu_journal.specs.Waits.{deed_asked}
-use Rattle.gpu_journal.specs.Replaying.{IsWithin}
+use Rattle.gpu_journal.specs.Replaying.{IsWithinQuota}
 use Rattle.gpu_journal.proofs.Worlds.{within_stepped}
 use Rattle.gpu_journal.proofs.Following.{plan_here, state_here}
 use Rattle.journal_verify.specs.declared.judge.Judge.TheInside.{Inside}
@@ -39,10 +39,10 @@ act-requires c =
           known = known;
           accepted = subst (IsTaken (plan_of p s).areas c.args.words.now) (sym state) (subst (λ (j : JudgeData). IsTaken (plan_of p s).areas c.args.words.now (kept_state j s)) (sym c.self.view_is) c.requires.taken);
           command = c.requires.said;
-          within = subst IsWithin (sym c.index_mut.ensures.value) (All-get_or IsWithin old.states (s - 1) c.index_mut.result.now (omega (arith, known.0, known.1, fits.states)) fits.within);
+          within = subst IsWithinQuota (sym c.index_mut.ensures.value) (All-get_or IsWithinQuota old.states (s - 1) c.index_mut.result.now (omega (arith, known.0, known.1, fits.states)) fits.within);
         };
         streams = fits.core;
-        front = subst (λ (j : JudgeData). 0 < length (left_of j.core s)) (sym c.self.view_is) c.requires.front;
+        front = subst (λ (j : JudgeData). 0 < length (unprocessed_of j.core s)) (sym c.self.view_is) c.requires.front;
       };
     }
 
@@ -88,7 +88,7 @@ returns-clause-entered c =
       moved = subst (λ (e : Effect). counts_of c.tell.new.watch ≡ record (counts_of c.index_mut-2.result.now) { token = greatest_after e c.index_mut-2.result.now.token }) told c.in_ok-tell.ensures.counts;
       put = refl;
       drawn = refl;
-      core = λ g stands. subst (λ (e : Effect). StandsFor c.act.new.scene.sync (sync.noted s (deed_asked p e) g)) told (does.waits g stands);
+      core = λ g stands. subst (λ (e : Effect). StandsFor c.act.new.scene.sync (sync.happened s (deed_asked p e) g)) told (does.waits g stands);
       images = does.images ∙ ap (λ (e : Effect). (drawn_by e old.images).images) told;
       states = ap (λ (x : State). set old.states (s - 1) x) (does.state ∙ (λ i. noted (answer i) (stepped areas words (state i))));
     }
@@ -103,10 +103,10 @@ returns-clause-fits c =
     let known = front_known p c.args.self.now s c.requires.fits c.requires.front in
     let plan = plan_here p s c.plan.result.now (omega (arith, known.0)) c.plan.ensures in
     let state : c.index_mut.result.now ≡ kept_state old s = state_here old.states s c.index_mut.result.now (omega (arith, known.0)) (omega (arith, known.1, fits.states)) c.index_mut.ensures.value in
-    let before : IsWithin c.index_mut.result.now = subst IsWithin (sym c.index_mut.ensures.value) (All-get_or IsWithin old.states (s - 1) c.index_mut.result.now (omega (arith, known.0, known.1, fits.states)) fits.within) in
+    let before : IsWithinQuota c.index_mut.result.now = subst IsWithinQuota (sym c.index_mut.ensures.value) (All-get_or IsWithinQuota old.states (s - 1) c.index_mut.result.now (omega (arith, known.0, known.1, fits.states)) fits.within) in
     let taken : IsTaken (plan_of p s).areas words (kept_state old s) = subst (λ (j : JudgeData). IsTaken (plan_of p s).areas words (kept_state j s)) (sym c.self.view_is) c.requires.taken in
     let lawful = (is_watch_here p old s c.index_mut-2.result.now fits known c.index_mut-2.ensures.value).laid_out in
     let does = c.in_ok-acted.ensures.executes in
-    let next : IsWithin c.act.new.state = subst IsWithin (sym does.state) (within_stepped (plan_of p s).areas words c.index_mut.result.now c.in_ok-acted.acted.answer lawful before (subst (IsTaken (plan_of p s).areas words) (sym state) taken)) in
+    let next : IsWithinQuota c.act.new.state = subst IsWithinQuota (sym does.state) (within_stepped (plan_of p s).areas words c.index_mut.result.now c.in_ok-acted.acted.answer lawful before (subst (IsTaken (plan_of p s).areas words) (sym state) taken)) in
     let is = subst (λ (plan : PlanData). IsWatch plan c.tell.new.watch) (sym plan) c.in_ok-tell.ensures.watch in
-    fits_turned p old _ s c.tell.new.watch fits known (does.drawn ∙ fits.drawn) does.count (length-set old.states (s - 1) c.act.new.state) (All-set IsWithin old.states (s - 1) c.act.new.state next fits.within) refl is
+    fits_turned p old _ s c.tell.new.watch fits known (does.drawn ∙ fits.drawn) does.count (length-set old.states (s - 1) c.act.new.state) (All-set IsWithinQuota old.states (s - 1) c.act.new.state next fits.within) refl is

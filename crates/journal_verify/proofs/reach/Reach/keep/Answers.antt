@@ -2,7 +2,7 @@ use Rattle.std.proofs.Common.{◌≡◌, ◌-◌, ◌<◌, ℕ, Option, Some, Bo
 use Rattle.std.specs.Prelude.{◌&&◌}
 use Rattle.std.proofs.lemmas.Bool.{lt-ltb}
 use Rattle.std.proofs.lemmas.List.{get_or_default}
-use Rattle.journal_verify.specs.Reached.{Reached, last_of, older_with, IsKept}
+use Rattle.journal_verify.specs.Reached.{Reached, last_of, older_with, IsPutKept}
 use Rattle.journal_verify.proofs.Reaching.{same_pair}
 use Rattle.journal_verify.proofs.reach.Reach.keep.Goals as goal
 
@@ -28,7 +28,7 @@ returns-in_ok-insert c =
     let ended : c.args.place < length inside.ends.items = omega (arith, c.requires.there) in
     let last : c.index-value.result.now ≡ get_or inside.values.items c.args.place 0 = c.index-value.ensures ∙ get_or_default inside.values.items c.args.place _ 0 valued in
     let end : c.index-end.result.now ≡ get_or inside.ends.items c.args.place 0 = c.index-end.ensures ∙ get_or_default inside.ends.items c.args.place _ 0 ended in
-    let kept : IsKept c.args.done c.args.place old new = record {
+    let kept : IsPutKept c.args.done c.args.place old new = record {
       upto = refl;
       behind = refl;
       values = refl;
@@ -37,4 +37,4 @@ returns-in_ok-insert c =
           ∙ ap (λ (b : Bool). cond b (Some (c.index-end.result.now - 1)) (last_of old.older place value)) (same_pair c.args.place c.index-value.result.now place value)
           ∙ with_last c.args.done c.args.place place value c.index-value.result.now c.index-end.result.now (last_of old.older place value) old last end c.if-end-done.true refl;
     } in
-    subst (λ (old : Reached). IsKept c.args.done c.args.place old new) c.self.view_is kept
+    subst (λ (old : Reached). IsPutKept c.args.done c.args.place old new) c.self.view_is kept

@@ -2,12 +2,12 @@ use Rattle.std.proofs.Common.{◌≡◌, inr, List, [], ◌∷◌, ◌++◌, len
 use Rattle.gpu_store.specs.declared.op.Op.{Op}
 use Rattle.live_view.specs.declared.version.Version.{Version}
 use Rattle.live_view.specs.declared.shown.Shown.{Shown}
-use Rattle.live_view.specs.Versions.{IsLatest, version, drawn_by}
+use Rattle.live_view.specs.Versions.{IsLatest, version, images_drawn}
 use Rattle.live_view.specs.Fronts.{FrontData}
-use Rattle.live_view.specs.Copies.{published, pending}
+use Rattle.live_view.specs.Copies.{published, steps_pending}
 use Rattle.live_view.specs.Steps.{ops_of}
 use Rattle.live_view.specs.Rule.{IsLast, IsBegun}
-use Rattle.live_view.specs.Seen.{WriterData, IsWriter}
+use Rattle.live_view.specs.Seen.{WriterData, IsViewWriter}
 use Rattle.live_view.proofs.Stepping.{whole, last_push, begun_self, begun_next, all_handed, drop_push, drop_whole, on_ok, on_err, in_both, both_ok, three_err}
 use Rattle.live_view.proofs.writer.ViewWriter.publish.Goals as goal
 use Rattle.live_view.proofs.writer.ViewWriter.publish.Given.{Over}
@@ -20,14 +20,14 @@ add-requires g c =
 pub end_version-requires-clause-last : goal.end_version-requires-clause-last
 end_version-requires-clause-last g c =
     let roll : List Version = c.self.inside.roll.versions in
-    let v : Version = version (drawn_by (published c.hand_over.new.copies).version.images (ops_of (pending c.hand_over.new.copies))) c.args.events in
+    let v : Version = version (images_drawn (published c.hand_over.new.copies).version.images (ops_of (steps_pending c.hand_over.new.copies))) c.args.events in
     let added : c.add.new.self.versions ≡ roll ++ v ∷ [] = c.if-not-add.ensures.added in
     let front = c.again-front.ensures ∙ c.front.ensures in
     subst (λ (l : List Version). IsLast v l) (sym (ap (λ (f : FrontData). f.versions) front ∙ added)) (last_push roll v)
 
 pub end_version-requires-clause-begun : goal.end_version-requires-clause-begun
 end_version-requires-clause-begun g c =
-    let v : Version = version (drawn_by (published c.hand_over.new.copies).version.images (ops_of (pending c.hand_over.new.copies))) c.args.events in
+    let v : Version = version (images_drawn (published c.hand_over.new.copies).version.images (ops_of (steps_pending c.hand_over.new.copies))) c.args.events in
     let front = c.again-front.ensures ∙ c.front.ensures in
     begun_next (published c.self.inside.copies) (published c.hand_over.new.copies) c.self.inside.roll c.again-front.result v c.hand_over.ensures.published c.self.invariant.begun
     (ap (λ (f : FrontData). f.view) front ∙ c.if-not-add.ensures.view) (ap (λ (f : FrontData). f.versions) front ∙ c.if-not-add.ensures.added)
@@ -43,17 +43,17 @@ module _ (g : Over) (c : goal.After-end_version g) where
   roll = c.self.inside.roll.versions
 
   abbrev noted : List Op
-  noted = ops_of (pending c.self.inside.copies) ++ c.self.inside.waiting.items
+  noted = ops_of (steps_pending c.self.inside.copies) ++ c.self.inside.waiting.items
 
   -- the version that was added is the next one
   abbrev new : Version
-  new = version (drawn_by (published c.hand_over.new.copies).version.images (ops_of (pending c.hand_over.new.copies))) c.args.events
+  new = version (images_drawn (published c.hand_over.new.copies).version.images (ops_of (steps_pending c.hand_over.new.copies))) c.args.events
 
-  next : new ≡ version (drawn_by old.version.images noted) c.args.events
+  next : new ≡ version (images_drawn old.version.images noted) c.args.events
   next =
-      let steps = pending c.hand_over.new.copies in
-      ap (λ (s : Shown). version (drawn_by s.version.images (ops_of steps)) c.args.events) c.hand_over.ensures.published
-      ∙ ap (λ (ops : List Op). version (drawn_by old.version.images ops) c.args.events) (all_handed steps c.hand_over.new.waiting.items noted c.hand_over.ensures.noted c.in_ok-hand_over.ensures.all)
+      let steps = steps_pending c.hand_over.new.copies in
+      ap (λ (s : Shown). version (images_drawn s.version.images (ops_of steps)) c.args.events) c.hand_over.ensures.published
+      ∙ ap (λ (ops : List Op). version (images_drawn old.version.images ops) c.args.events) (all_handed steps c.hand_over.new.waiting.items noted c.hand_over.ensures.noted c.in_ok-hand_over.ensures.all)
 
   front : c.again-front.result ≡ c.add.new.self
   front = c.again-front.ensures ∙ c.front.ensures
@@ -66,7 +66,7 @@ invariant_of-self-2 g c =
     let now = published c.end_version.new.copies in
     let last : IsLast (new g c) c.again-front.result.versions = subst (λ (l : List Version). IsLast (new g c) l) (sym (listed g c)) (last_push (roll g c) (new g c)) in
     in_both c.end_version.result c.end_version.ensures.published
-    (λ ended. subst (λ (s : Shown). IsWriter s c.add.new.self) (sym ended) (record { last = last; begun = subst (λ (f : FrontData). IsBegun c.again-front.result f) (front g c) (begun_self c.again-front.result) }))
+    (λ ended. subst (λ (s : Shown). IsViewWriter s c.add.new.self) (sym ended) (record { last = last; begun = subst (λ (f : FrontData). IsBegun c.again-front.result f) (front g c) (begun_self c.again-front.result) }))
     (λ same. let stays : now ≡ old g c = same ∙ c.hand_over.ensures.published in
     record {
       last = subst (λ (s : Shown). IsLast s.version s.front.versions) (sym stays) c.self.invariant.last;
@@ -77,7 +77,7 @@ pub returns-clause-versions : goal.returns-clause-versions
 returns-clause-versions g c =
     let all = listed g c
     ∙ ap (λ (w : Version). roll g c ++ w ∷ []) (next g c)
-    ∙ ap (λ (l : List Version). l ++ version (drawn_by (old g c).version.images (noted g c)) c.args.events ∷ []) (sym (whole (old g c).front.versions (roll g c) c.self.invariant.begun.longer)) in
+    ∙ ap (λ (l : List Version). l ++ version (images_drawn (old g c).version.images (noted g c)) c.args.events ∷ []) (sym (whole (old g c).front.versions (roll g c) c.self.invariant.begun.longer)) in
     rw (← c.self.view_is) (on_ok _ c.end_version.result c.end_version.ensures.published (λ ended. ap (λ (s : Shown). s.front.versions) ended ∙ all))
 
 pub returns-clause-images : goal.returns-clause-images

@@ -10,4 +10,4 @@ name-requires-clause-last c = omega (arith, length-heads c.args.self.now.plans.n
 
 pub returns-else-index-eq0-clause-bytes : goal.returns-else-index-eq0-clause-bytes
 returns-else-index-eq0-clause-bytes c =
-    c.name-else-index-eq0.ensures.bytes ∙ ap (λ (line : List ℕ). c.args.sheet.now.bytes ++ line) (sym (head_at c.args.self.now.plans.now c.args.index c.name.result (omega (arith, c.if-index-eq0.false)) (omega (arith, length-heads c.args.self.now.plans.now, c.requires.within)) c.name.ensures.value))
+    c.put_name.ensures.bytes ∙ ap (λ (line : List ℕ). c.args.sheet.now.bytes ++ line) (sym (head_at c.args.self.now.plans.now c.args.index c.name.result (omega (arith, c.if-index-eq0.false)) (omega (arith, length-heads c.args.self.now.plans.now, c.requires.within)) c.name.ensures.value))

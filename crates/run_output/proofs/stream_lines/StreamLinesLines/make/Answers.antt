@@ -21,4 +21,4 @@ returns-clause-bytes c =
     let h = c.args.self.now.report.now.past in
     let lt : c.args.index < length p.plans = omega (arith, length-streams p h, c.requires.within) in
     let ended : slice_index_or c.args.self.now.ends.now c.args.index Done ≡ end_of h (c.args.index + 1) = ap (λ (ends : List End). slice_index_or ends c.args.index Done) c.args.self.now.ended ∙ end_at p h c.args.index lt in
-    c.stream-2.ensures.bytes ∙ ap (λ (line : List ℕ). c.args.sheet.now.bytes ++ line) (rw (c.stream.ensures, ended) (sym (stream_at p h c.args.index lt)))
+    c.put_stream.ensures.bytes ∙ ap (λ (line : List ℕ). c.args.sheet.now.bytes ++ line) (rw (c.stream.ensures, ended) (sym (stream_at p h c.args.index lt)))

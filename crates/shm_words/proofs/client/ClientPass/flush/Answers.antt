@@ -3,7 +3,7 @@ use Rattle.atomic_table.specs.Seated.{TableId}
 use Rattle.gpu_cmd.specs.Lawful.{places_of}
 use Rattle.gpu_plan.specs.declared.plan.Action.TheVariants.{Flush}
 use Rattle.gpu_plan.proofs.Passing.{flushes_within}
-use Rattle.shm_words.specs.Views.{client_of, flushed}
+use Rattle.shm_words.specs.Views.{client_of, flush_done}
 use Rattle.shm_words.specs.Seen.{ClientData}
 use Rattle.shm_words.specs.Acts.{IsAtFlush}
 use Rattle.shm_words.proofs.ClientSteps.{marks}
@@ -36,9 +36,9 @@ split_seat-requires c =
     let seat = c.self.inside.seat in
     let same : seat.table_id ≡ c.words.inside.table.shared.table_id = ap (λ (d : ClientData). d.table) c.self.view_is ∙ sym c.requires.table ∙ sym c.words.view_is in
     let wide : c.words.inside.table.shared.table_id.words ≡ 3 + places_of c.self.inside.plan.areas = ap (λ (t : TableId). t.words) (sym same) ∙ kept.wide in
-    (c.store.ensures.0 ∙ same, omega arith, notes _ _ c.store.new.seat.me (client_still seat.me c.store.new.seat.me (flushed (client_of seat.me.0)) kept.is c.store.ensures.2))
+    (c.store.ensures.0 ∙ same, omega arith, notes _ _ c.store.new.seat.me (client_still seat.me c.store.new.seat.me (flush_done (client_of seat.me.0)) kept.is c.store.ensures.2))
 
 pub invariant_of-self : goal.invariant_of-self
 invariant_of-self c =
     let at = flush_there c.self.inside.plan.actions c.self.inside.done (subst IsAtFlush (sym c.self.view_is) c.requires.next) in
-    moved _ _ _ _ c.self.inside.seat.me c.self.invariant (Flush at.0 at.1) _ _ _ (flushed (client_of c.self.inside.seat.me.0)) at.2 (omega arith) (c.split_seat.ensures.0 ∙ c.store.ensures.0) (c.split_seat.ensures.2 ∙ c.store.ensures.2) refl refl
+    moved _ _ _ _ c.self.inside.seat.me c.self.invariant (Flush at.0 at.1) _ _ _ (flush_done (client_of c.self.inside.seat.me.0)) at.2 (omega arith) (c.split_seat.ensures.0 ∙ c.store.ensures.0) (c.split_seat.ensures.2 ∙ c.store.ensures.2) refl refl

@@ -4,7 +4,7 @@ use Rattle.std.proofs.lemmas.Bool.{le-leb}
 use Rattle.atomic_table.specs.Seated.{TableId}
 use Rattle.gpu_cmd.specs.Lawful.{places_of}
 use Rattle.gpu_plan.specs.declared.plan.Action.TheVariants.{Token}
-use Rattle.shm_words.specs.Views.{client_of, loaded, is_enough, next_of}
+use Rattle.shm_words.specs.Views.{client_of, loaded, is_enough, client_next}
 use Rattle.shm_words.specs.Seen.{ClientData, next_action}
 use Rattle.shm_words.proofs.ClientSteps.{loads_a_token}
 use Rattle.shm_words.proofs.Keeping.{next_there, moved}
@@ -29,6 +29,6 @@ invariant_of-self c =
     let next : slice_get c.self.inside.plan.actions c.self.inside.done ≡ Some action = subst (λ (d : ClientData). next_action d ≡ Some action) (sym c.self.view_is) c.requires.next in
     let here = next_there _ _ _ _ seat.me c.self.invariant action next in
     let passed = c.if-passes.true in
-    let b : is_enough (next_of client) r ≡ true = ap (λ o. is_enough o r) here ∙ le-leb c.args.token r (omega arith) in
-    moved _ _ _ _ seat.me c.self.invariant action _ _ _ (loaded (is_enough (next_of client) r) 2 r client) next (omega arith) c.load-greatest.ensures.0 c.load-greatest.ensures.2 refl
+    let b : is_enough (client_next client) r ≡ true = ap (λ o. is_enough o r) here ∙ le-leb c.args.token r (omega arith) in
+    moved _ _ _ _ seat.me c.self.invariant action _ _ _ (loaded (is_enough (client_next client) r) 2 r client) next (omega arith) c.load-greatest.ensures.0 c.load-greatest.ensures.2 refl
     (ap (λ (x : Bool). client.done + cond x 1 0) b)

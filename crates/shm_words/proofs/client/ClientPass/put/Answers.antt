@@ -6,7 +6,7 @@ use Rattle.atomic_table.specs.Seated.{TableId}
 use Rattle.gpu_cmd.specs.Lawful.{places_of}
 use Rattle.gpu_plan.specs.declared.plan.Action.TheVariants.{Put}
 use Rattle.gpu_plan.specs.Plans.{PlanData, IsWithin}
-use Rattle.shm_words.specs.Views.{client_of, counted}
+use Rattle.shm_words.specs.Views.{client_of, one_done}
 use Rattle.shm_words.specs.Seen.{ClientData, next_action}
 use Rattle.shm_words.proofs.ClientSteps.{stores}
 use Rattle.shm_words.proofs.Keeping.{next_there, moved}
@@ -33,4 +33,4 @@ invariant_of-self c =
     let seat = c.self.inside.seat in
     let action = Put c.args.place c.args.value in
     let next : slice_get c.self.inside.plan.actions c.self.inside.done ≡ Some action = subst (λ (d : ClientData). next_action d ≡ Some action) (sym c.self.view_is) c.requires.next in
-    moved _ _ _ _ seat.me c.self.invariant action _ _ _ (counted (client_of seat.me.0)) next (omega arith) c.store.ensures.0 c.store.ensures.2 refl refl
+    moved _ _ _ _ seat.me c.self.invariant action _ _ _ (one_done (client_of seat.me.0)) next (omega arith) c.store.ensures.0 c.store.ensures.2 refl refl

@@ -1,5 +1,5 @@
 use Rattle.std.proofs.Common.{◌≡◌, ◌-◌, ◌≤◌, ◌<◌, ◌^◌, length}
-use Rattle.gpu_fetch.specs.Plain.{ArePuts, IsStored}
+use Rattle.gpu_fetch.specs.Plain.{ArePuts, HoldItsValues}
 use Rattle.gpu_fetch.proofs.plain.words.PlainWords.put_all.Given as goal
 
 abbrev pub invariant-loop-actions : goal.invariant-loop-actions
@@ -7,7 +7,7 @@ invariant-loop-actions l = record {
   plan : l.self-inside.plan ≡ l.initial.self-inside.plan;
   fits : l.done < 2 ^ 32;
   further : l.initial.self-inside.done ≤ l.done;
-  stored : IsStored l.initial.self-inside.plan.plan l.done l.self-inside.values.items;
+  stored : HoldItsValues l.initial.self-inside.plan.plan l.done l.self-inside.values.items;
   puts : ArePuts l.plan.actions l.initial.self-inside.done l.done;
 }
 

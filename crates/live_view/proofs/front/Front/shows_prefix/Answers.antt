@@ -3,7 +3,7 @@ use mathlib.Core.List.{IsPrefix}
 use Rattle.live_view.specs.declared.version.Version.{Version}
 use Rattle.live_view.specs.Fronts.{FrontData}
 use Rattle.live_view.proofs.Prefixes.{prefix_shorter}
-use Rattle.live_view.proofs.front.Front.meet.Goals as goal
+use Rattle.live_view.proofs.front.Front.shows_prefix.Goals as goal
 
 pub returns : goal.returns
 returns c less =

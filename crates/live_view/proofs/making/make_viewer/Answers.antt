@@ -1,5 +1,5 @@
 use Rattle.live_view.proofs.Keeping.{forks, merges}
-use Rattle.live_view.proofs.making.viewer.Goals as goal
+use Rattle.live_view.proofs.making.make_viewer.Goals as goal
 
 pub tell-requires : goal.tell-requires
 tell-requires g c = forks _ _

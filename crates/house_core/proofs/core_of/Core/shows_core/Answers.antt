@@ -1,5 +1,5 @@
 use Rattle.house_core.proofs.Seen.{parts_of}
-use Rattle.house_core.proofs.core_of.Core.holds.Goals as goal
+use Rattle.house_core.proofs.core_of.Core.shows_core.Goals as goal
 
 pub returns : goal.returns
 returns c = record {

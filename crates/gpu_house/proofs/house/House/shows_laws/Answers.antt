@@ -8,7 +8,7 @@ use Rattle.gpu_journal.specs.Waits.{sync_of}
 use Rattle.gpu_house.specs.Stuck.{IsNotStuck}
 use Rattle.gpu_house.proofs.Least.{not_stuck}
 use Rattle.gpu_house.proofs.Places.{each_has}
-use Rattle.gpu_house.proofs.house.House.holds.Goals as goal
+use Rattle.gpu_house.proofs.house.House.shows_laws.Goals as goal
 
 pub returns-clause-results : goal.returns-clause-results
 returns-clause-results g c stream known =
