@@ -19,9 +19,9 @@
 //! - A book is named by its table.
 #![tactic(auto)]
 
-mod halves;
+mod half;
 mod steps;
 mod table;
 
-pub use halves::{Half, agree, make, set};
+pub use half::{Half, agree, make, set};
 pub use table::Book;

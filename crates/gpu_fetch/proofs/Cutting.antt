@@ -5,7 +5,7 @@ use Rattle.std.specs.List.{All}
 use Rattle.std.proofs.Math.Seq.{take-length}
 use Rattle.std.proofs.lemmas.List.{take-append-le, drop-append-le, drop-drop, length-drop}
 use Rattle.std.proofs.lemmas.List.Elements.{All-head, All-tail}
-use Rattle.gpu_fetch.specs.declared.sharing.FetchedPart.{FetchedPart}
+use Rattle.gpu_fetch.specs.declared.fetched_part.FetchedPart.{FetchedPart}
 use Rattle.gpu_fetch.specs.Fetched.{FetchedData, IsFetched, items_since}
 use Rattle.gpu_fetch.specs.Parts.{words_of_parts, parts_of}
 

@@ -1,6 +1,6 @@
 -- Commands whose words stand in one list, one after the other.
 use Rattle.std.specs.Prelude.{ℕ, ◌+◌, List, [], ◌∷◌, take, drop}
-use Rattle.gpu_fetch.specs.declared.sharing.FetchedPart.{FetchedPart}
+use Rattle.gpu_fetch.specs.declared.fetched_part.FetchedPart.{FetchedPart}
 use Rattle.gpu_fetch.specs.Fetched.{FetchedData}
 
 -- how many words the commands have

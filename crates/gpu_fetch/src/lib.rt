@@ -29,15 +29,15 @@
 
 mod fetch;
 mod fetched;
+mod fetched_part;
 mod plain;
 mod seen_facts;
 mod shared;
-mod sharing;
 mod side;
 
 pub use fetch::{fetch_command, fetch_onto};
 pub use fetched::Fetched;
+pub use fetched_part::{FetchedPart, share};
 pub use plain::{PlainNote, PlainPass, PlainWords};
 pub use seen_facts::SeenFacts;
-pub use sharing::{FetchedPart, share};
 pub use side::ServiceSide;

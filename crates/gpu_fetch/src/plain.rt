@@ -1,6 +1,6 @@
 mod list;
 mod pass;
-mod seen;
+mod seen_plan;
 mod words;
 
 pub use pass::PlainPass;

@@ -18,7 +18,7 @@ use Rattle.gpu_cmd.proofs.Fitting.{accepted_leaves_room}
 use Rattle.gpu_plan.specs.Plans.{PlansData}
 use Rattle.gpu_plan.proofs.Dumps.{found_behind}
 use Rattle.gpu_fetch.specs.Side.{SideData, Fetches}
-use Rattle.gpu_fetch.specs.declared.sharing.FetchedPart.{FetchedPart}
+use Rattle.gpu_fetch.specs.declared.fetched_part.FetchedPart.{FetchedPart}
 use Rattle.gpu_fetch.specs.Fetched.{FetchedData, items_since, IsFetched, FetchesSome}
 use Rattle.gpu_fetch.specs.Parts.{words_of_parts, parts_of}
 use Rattle.gpu_fetch.proofs.Fetching.{fetches_none, fetches_then}

@@ -7,8 +7,8 @@ use Rattle.gpu_journal.specs.World.{known}
 use Rattle.gpu_journal.specs.Serial.{stays, order_event}
 use Rattle.sync_core.specs.Standing.{IsKnown, is_open}
 use Rattle.serial_laws.proofs.Others.{standing_own}
-use Rattle.gpu_run.specs.declared.acting.Act.{Act}
-use Rattle.gpu_run.specs.declared.acting.Act.TheVariants.{Stays, Passed, Ordered}
+use Rattle.gpu_run.specs.declared.act.Act.{Act}
+use Rattle.gpu_run.specs.declared.act.Act.TheVariants.{Stays, Passed, Ordered}
 use Rattle.gpu_run.specs.Rounds.{ActsAs, GoesFurther, IsRising, HaveActed}
 use Rattle.gpu_run.proofs.Phases.{rising_order, acted_order, acted_passed, still_acted}
 

@@ -19,7 +19,7 @@ use Rattle.house_core.specs.Core.{is_home}
 use Rattle.house_core.specs.Desks.{Out}
 use Rattle.gpu_house.specs.Slots.{SlotData, slot_at}
 use Rattle.gpu_house.specs.Changes.{with_note}
-use Rattle.gpu_run.specs.declared.acting.Act.TheVariants.{Stays}
+use Rattle.gpu_run.specs.declared.act.Act.TheVariants.{Stays}
 use Rattle.gpu_run.specs.Clients.{RunClientData, client_of_stream, done_at, flushes_to}
 use Rattle.gpu_run.specs.Rounds.{ActsAs, GoesFurther, IsRising}
 use Rattle.gpu_run.specs.Served.{PlainHouse, HaveOneEach, IsServedAt, IsServed}

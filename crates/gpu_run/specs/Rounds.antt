@@ -6,8 +6,8 @@ use Rattle.gpu_journal.specs.declared.event.Event.TheVariants.{Step}
 use Rattle.gpu_journal.specs.World.{known}
 use Rattle.gpu_journal.specs.Facts.{reach}
 use Rattle.gpu_journal.specs.Serial.{count, stays, has_flush, is_at_close, is_runnable, runner, choice, order_event, IsPlayed}
-use Rattle.gpu_run.specs.declared.acting.Act.{Act}
-use Rattle.gpu_run.specs.declared.acting.Act.TheVariants.{Stays, Passed, Ordered}
+use Rattle.gpu_run.specs.declared.act.Act.{Act}
+use Rattle.gpu_run.specs.declared.act.Act.TheVariants.{Stays, Passed, Ordered}
 use Rattle.gpu_run.specs.Clients.{flushes_to}
 
 -- ---- one action of a client

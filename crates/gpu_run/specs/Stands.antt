@@ -4,7 +4,7 @@ use Rattle.gpu_plan.specs.Plans.{PlansData}
 use Rattle.gpu_journal.specs.declared.event.Event.{Event}
 use Rattle.gpu_journal.specs.Serial.{next}
 use Rattle.serial_laws.specs.Scripts.{AreLawfulPlans}
-use Rattle.gpu_run.specs.declared.acting.Act.{Act}
+use Rattle.gpu_run.specs.declared.act.Act.{Act}
 use Rattle.gpu_run.specs.Clients.{RunClientData, done_at}
 use Rattle.gpu_run.specs.Reading.{HaveRead}
 use Rattle.gpu_run.specs.Rounds.{ActsAs, IsRising, HaveActed, HaveClosed, IsRunning}

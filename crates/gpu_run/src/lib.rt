@@ -18,7 +18,7 @@
 //! - A client stores the puts that follow one another in one loop.
 #![tactic(auto)]
 
-mod acting;
+mod act;
 mod client;
 mod closing;
 mod parts;

@@ -3,7 +3,7 @@ ghost use Rattle.std.specs.Prelude.{◌≡◌, OnOk};
 ghost use Rattle.gpu_journal.specs.Serial.{serial};
 ghost use Rattle.gpu_run.specs.Stands.{Acting, Stands};
 
-use crate::acting::act_all;
+use crate::act::act_all;
 use crate::client::Client;
 use crate::closing::close_all;
 use crate::running::run_all;

@@ -4,8 +4,8 @@ use Rattle.gpu_plan.specs.Plans.{PlansData}
 use Rattle.gpu_journal.specs.declared.event.Event.{Event}
 use Rattle.journal_verify.specs.Answers.{IsFirstWrong, IsWholeHistory, IsUnfinished}
 use Rattle.journal_verify.specs.Followed.{IsFollowed}
-use Rattle.journal_verify.specs.declared.rulings.Ruling.{Ruling}
-use Rattle.journal_verify.specs.declared.rulings.Ruling.TheVariants.{Whole, No, NotComplete}
+use Rattle.journal_verify.specs.declared.ruling.Ruling.{Ruling}
+use Rattle.journal_verify.specs.declared.ruling.Ruling.TheVariants.{Whole, No, NotComplete}
 
 -- what a ruling says of the events
 abbrev pub Rules : PlansData → List Event → Ruling → Type 0

@@ -22,12 +22,12 @@ mod name_lines;
 mod outcome;
 mod output;
 mod page;
-mod pictures;
+mod picture_output;
 mod run;
 mod stream_lines;
 mod writing;
 
-pub use pictures::PictureOutput;
+pub use picture_output::PictureOutput;
 pub use run::RunOutput;
 pub use writing::write_all;
 

@@ -5,7 +5,7 @@ ghost use Rattle.verify_input.specs.Found.{Finds};
 ghost use Rattle.verify_input.specs.Steps.{FindsOf, FindsIn};
 
 use crate::border::Border;
-use crate::cutting::cut_at_border;
+use crate::cut::cut_at_border;
 use crate::fault::JournalFault;
 use crate::finding::Finding;
 use crate::heading::read_behind_head;

@@ -20,7 +20,7 @@
 #![tactic(auto)]
 
 mod border;
-mod cutting;
+mod cut;
 mod digit;
 mod event;
 mod examining;

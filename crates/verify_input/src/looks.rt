@@ -4,7 +4,7 @@ ghost use Rattle.script_lines.specs.Text.{words_of};
 ghost use Rattle.verify_input.specs.Reading.{whole_lines};
 ghost use Rattle.verify_input.specs.Due.{begins_view, viewers_in};
 
-use crate::cutting::first_line;
+use crate::cut::first_line;
 use script_lines::{Words, decimal_u32};
 use std::alloc::{AllocError, Global};
 

@@ -3,7 +3,7 @@ ghost use Rattle.std.specs.Prelude.{◌≡◌, ℕ};
 ghost use Rattle.verify_input.specs.Said.{pieces_of};
 ghost use Rattle.verify_input.specs.Looks.{EndsWith, BeginsWithLook, look_said};
 
-use crate::cutting::first_line;
+use crate::cut::first_line;
 use crate::number::{own_number, own_value};
 use crate::pieces::{Pieces, first_piece};
 

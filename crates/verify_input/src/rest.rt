@@ -1,6 +1,6 @@
 ghost use Rattle.std.specs.Prelude.{◌≡◌, ◌+◌, ◌≤◌, List, ◌∷◌, [], length, OnOk, OnErr, IfErr};
 
-use crate::cutting::behind_line;
+use crate::cut::behind_line;
 use crate::what::What;
 use gpu_word::Memory;
 

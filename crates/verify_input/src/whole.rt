@@ -6,7 +6,7 @@ ghost use Rattle.verify_input.specs.Taking.{IsHistory, JudgesAll, past_of};
 ghost use Rattle.verify_input.specs.Whole.{FindsAll, FindsBehind, FindsWhole};
 
 use crate::border::Border;
-use crate::cutting::cut_at_border;
+use crate::cut::cut_at_border;
 use crate::fault::JournalFault;
 use crate::finding::Finding;
 use crate::looks::view_lines;

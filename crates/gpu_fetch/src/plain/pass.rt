@@ -5,7 +5,7 @@ ghost use Rattle.gpu_fetch.specs.Side.{MayFetch, fresh_side, with_words};
 ghost use Rattle.gpu_fetch.specs.Plain.{IsBeside, IsNoteBeside, IsValueOfPlace};
 
 use crate::plain::list::FetchList;
-use crate::plain::seen::SeenPlan;
+use crate::plain::seen_plan::SeenPlan;
 use crate::plain::words::{PlainNote, PlainWords};
 use crate::side::ServiceSide;
 use gpu_plan::Plan;

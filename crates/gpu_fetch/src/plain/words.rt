@@ -7,7 +7,7 @@ ghost use Rattle.gpu_fetch.specs.Side.{SideData, fresh_side};
 ghost use Rattle.gpu_fetch.specs.Plain.{fresh_words, one_further, ArePuts, IsNext, IsPut, IsFlush, IsAwait, IsBeside, IsNoteBeside};
 
 use crate::plain::pass::PlainPass;
-use crate::plain::seen::SeenPlan;
+use crate::plain::seen_plan::SeenPlan;
 use gpu_plan::{Action, Plan};
 use gpu_word::Memory;
 use std::alloc::Global;

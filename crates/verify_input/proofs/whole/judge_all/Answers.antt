@@ -2,7 +2,7 @@ use Rattle.std.proofs.Common.{map, refl, reverse, ap, subst, ◌∙◌, arith}
 use Rattle.std.specs.List.{range_with_len}
 use Rattle.gpu_journal.specs.Ended.{end_of}
 use Rattle.journal_verify.specs.Ruled.{Rules}
-use Rattle.journal_verify.specs.declared.rulings.Ruling.{Ruling}
+use Rattle.journal_verify.specs.declared.ruling.Ruling.{Ruling}
 use Rattle.verify_input.specs.Reading.{whole_lines}
 use Rattle.verify_input.specs.Due.{dues, AreDue}
 use Rattle.verify_input.specs.Taking.{IsFirstBadOf}

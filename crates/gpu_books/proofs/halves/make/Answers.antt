@@ -1,5 +1,0 @@
-use Rattle.gpu_books.proofs.Keeping.{opens}
-use Rattle.gpu_books.proofs.halves.make.Goals as goal
-
-pub of_words-requires : goal.of_words-requires
-of_words-requires c = opens
