@@ -1,4 +1,5 @@
 ghost use Rattle.std.specs.Prelude.{◌≡◌, ◌+◌, ◌<◌, ◌≤◌, ◌^◌, IfOk, IsOkAnd, length, slice_index};
+ghost use Rattle.gpu_word.specs.Bytes.{values_of};
 ghost use Rattle.gpu_cmd.specs.Lawful.{IsLawfulFacts, most_fetched, places_of};
 ghost use Rattle.gpu_cmd.specs.Checks.{headed, checked, decoded};
 
@@ -56,18 +57,18 @@ fn checked(ring_words: usize, command: Command, facts: &StreamFacts) -> Result<D
 /// - its data and its offsets into result memories are
 /// - its memories hold what it reads and writes
 /// - the stream's quota holds with its transfer words too
-pub fn decode(words: &[u32], facts: &StreamFacts) -> Result<Decoded, CmdError>
+pub fn decode(words: &[(u32, u32)], facts: &StreamFacts) -> Result<Decoded, CmdError>
     requires lawful { IsLawfulFacts facts.now }
-    requires head { IsOkAnd (headed (slice_index words.now 0) facts.now)
+    requires head { IsOkAnd (headed (slice_index (values_of words.now) 0) facts.now)
         (λ shape. length words.now ≡ shape.ring_words) }
 
-    ensures verdict { result ≡ decoded words.now facts.now }
+    ensures verdict { result ≡ decoded (values_of words.now) facts.now }
     ensures none { IfOk result (λ found. found.count ≡ 0 → found.from ≡ 0) }
     ensures transfer { IfOk result (λ found. 0 < found.count → facts.now.areas.ring ≤ found.from) }
     ensures places { IfOk result (λ found. found.from + found.count ≤ places_of facts.now.areas) }
     ensures quota { IfOk result
         (λ found. facts.now.fetched + length words.now + found.count ≤ most_fetched) }
 {
-    let command = table::command(split(words[0]).id, words);
+    let command = table::command(split(words[0].1).id, words);
     checked(words.len(), command, facts)
 }

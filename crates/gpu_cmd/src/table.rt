@@ -1,5 +1,6 @@
 ghost use Rattle.std.specs.Prelude.{◌≡◌, ◌<◌, length, take, IfSome, IsSomeAnd, IsTrue};
 ghost use Rattle.std.specs.Option.{option_map};
+ghost use Rattle.gpu_word.specs.Bytes.{values_of};
 ghost use Rattle.gpu_cmd.specs.Table.{row_of, fits, ring_words_of, argument, command_said};
 
 use crate::command::Command;
@@ -46,13 +47,13 @@ pub(crate) fn ring_words(id: u32, size: u32) -> u32
 
 // The command of an id that a command has, by its ring words.
 #[tactic(auto, unfolding(crate::specs::Table::row_of))]
-pub(crate) fn command(id: u32, words: &[u32]) -> Command
+pub(crate) fn command(id: u32, words: &[(u32, u32)]) -> Command
     requires { IsSomeAnd (row_of id) (λ row. IsTrue (fits row (length words.now))) }
-    ensures { IfSome (row_of id) (λ row. result ≡ row.command (argument words.now)) }
+    ensures { IfSome (row_of id) (λ row. result ≡ row.command (argument (values_of words.now))) }
 {
     match id {
         ids::NOOP => Command::Noop,
-        ids::SET_TOKEN => Command::SetToken { token: words[1] },
+        ids::SET_TOKEN => Command::SetToken { token: words[1].1 },
         ids::SET_BUCKET_SIZE => arguments::set_bucket_size(words),
         ids::SET_BUCKET_DATA => arguments::set_bucket_data(words),
         ids::SET_BUCKET_DATA_IMMEDIATE => arguments::set_bucket_data_immediate(words),
@@ -61,13 +62,13 @@ pub(crate) fn command(id: u32, words: &[u32]) -> Command
         ids::INSERT_FENCE => arguments::insert_fence(words),
         ids::WAIT_TOKEN => arguments::wait_token(words),
         ids::CREATE_IMAGE => arguments::create_image(words),
-        ids::DELETE_IMAGE => Command::DeleteImage { image: words[1] },
+        ids::DELETE_IMAGE => Command::DeleteImage { image: words[1].1 },
         ids::CLEAR_RECT => arguments::clear_rect(words),
         ids::COPY_RECT => arguments::copy_rect(words),
         ids::UPLOAD_RECT => arguments::upload_rect(words),
         ids::UPLOAD_BUCKET => arguments::upload_bucket(words),
         ids::CREATE_BUFFER => arguments::create_buffer(words),
-        ids::DELETE_BUFFER => Command::DeleteBuffer { buffer: words[1] },
+        ids::DELETE_BUFFER => Command::DeleteBuffer { buffer: words[1].1 },
         ids::BUFFER_DATA => arguments::buffer_data(words),
         ids::UPLOAD_BUFFER => arguments::upload_buffer(words),
         ids::WAIT_SYNC_TOKEN => arguments::wait_sync_token(words),
@@ -76,7 +77,7 @@ pub(crate) fn command(id: u32, words: &[u32]) -> Command
 }
 
 // The first words, up to a given number, or all where there are fewer.
-fn first(words: &[u32], count: usize) -> &[u32]
+fn first(words: &[(u32, u32)], count: usize) -> &[(u32, u32)]
     ensures { result.now ≡ take count words.now }
 {
     if words.len() <= count {
@@ -89,11 +90,11 @@ fn first(words: &[u32], count: usize) -> &[u32]
 /// The command that words say by the header and the arguments that they begin with, without a check on these:
 /// - words after its ring words are not looked at
 /// - `None`: no command has the header's id, or none of that id has a given number of ring words
-pub fn command_of(words: &[u32]) -> Option<Command>
+pub fn command_of(words: &[(u32, u32)]) -> Option<Command>
     requires { 0 < length words.now }
-    ensures { result ≡ command_said words.now }
+    ensures { result ≡ command_said (values_of words.now) }
 {
-    let header = split(words[0]);
+    let header = split(words[0].1);
     let ring = first(words, ring_words(header.id, header.size) as usize);
     match fits(header.id, ring.len() as u32) {
         Some(true) => Some(command(header.id, ring)),

@@ -1,20 +1,13 @@
 ghost use Rattle.std.specs.Prelude.{◌≡◌, ◌≢◌, ◌+◌, ◌≤◌, ◌<◌, ◌^◌, ◌⊎◌, ◌++◌, IfOk, IfErr, OnOk};
 ghost use Rattle.std.specs.List.{All};
-ghost use Rattle.std.specs.List.Sorted.{IsStrictlyIncreasing};
-ghost use Rattle.gpu_cmd.specs.Copied.{copied, fetched_places, places_listed, IsCopy};
+ghost use Rattle.gpu_cmd.specs.Copied.{IsCopy};
 ghost use Rattle.gpu_cmd.specs.Lawful.{IsLawfulFacts, places_of};
 ghost use Rattle.gpu_fetch.specs.Side.{Fetches};
 ghost use Rattle.gpu_fetch.specs.Fetched.{items_since, FetchesRow, FetchesRowInPart, FetchesSome, FetchesRows};
 
-use crate::fetched::Fetched;
-use crate::seen_facts::SeenFacts;
 use crate::side::ServiceSide;
 use gpu_cmd::{CmdError, Command, StreamFacts, decode, head};
-use gpu_word::{Memory, Words, copy_values};
-use std::alloc::Global;
-
-/// For how many values room is made at first: most commands have no more ring entries.
-const USUAL_ENTRIES: usize = 16;
+use gpu_word::Memory;
 
 // Fetches the words of a given number of places that follow one another, in rising order, and appends them to a list.
 fn fetch_row<P: ServiceSide>(
@@ -51,7 +44,6 @@ fn fetch_row<P: ServiceSide>(
 /// Fetches the next command of a stream and adds its words to a list. The answer is the verdict.
 /// - The words come in this order, each place once: its header alone, its other ring entries, its transfer words.
 /// - The fetch goes as far as the checks let it come. No place is fetched for a put out of range.
-/// - The values of the ring entries are left in a list of their own, so that the next fetch takes no memory for them.
 ///
 /// # Errors
 ///
@@ -62,7 +54,6 @@ pub fn fetch_onto<P: ServiceSide>(
     words: &P::Words,
     facts: &StreamFacts,
     list: &mut Vec<(u32, u32)>,
-    values: &mut Vec<u32>,
 ) -> Result<Result<Command, CmdError>, Memory>
     requires belongs { P.belongs side.old words.now }
     requires lawful { IsLawfulFacts facts.now }
@@ -100,54 +91,11 @@ pub fn fetch_onto<P: ServiceSide>(
     list.reserve(shape.ring_words as usize)?;
     list.push_reserved((facts.get, entry));
     fetch_row(side, words, list, facts.get + 1, shape.ring_words - 1)?;
-    values.clear();
-    values.reserve(USUAL_ENTRIES)?;
-    copy_values(values, &list[from..])?;
-    match decode(values, facts) {
+    match decode(&list[from..], facts) {
         Ok(found) => {
             fetch_row(side, words, list, found.from, found.count)?;
             Ok(Ok(found.command))
         }
         Err(error) => Ok(Err(error)),
     }
-}
-
-/// Fetches the next command of a stream, as `fetch_onto` does, with a list of its own for its words. The list of values that
-/// it is passed is room alone, whatever it holds: a caller that passes it again takes no memory for the next command's.
-///
-/// # Errors
-///
-/// `Memory`: the side fetched the first of the places that must be fetched. Where the side itself never runs out of
-/// memory, these are no place, the header's place, or all ring places of the command.
-pub fn fetch_command<P: ServiceSide>(
-    alloc: Global,
-    side: &mut P,
-    words: &P::Words,
-    facts: &StreamFacts,
-    values: &mut Vec<u32>,
-) -> Result<Fetched, Memory>
-    requires belongs { P.belongs side.old words.now }
-    requires lawful { IsLawfulFacts facts.now }
-    requires more { facts.now.get ≢ facts.now.put }
-    requires areas { facts.now.areas ≡ (P.side side.old).plan.areas }
-
-    ensures fetches { IfOk result
-        (λ found. Fetches (P.side side.old) (P.side side.new) found.words) }
-    ensures shows { IfOk result (λ found. All (P.shows words.now) found.words) }
-    ensures places { IfOk result
-        (λ found. places_listed found.words ≡ fetched_places found.words facts.now) }
-    ensures once { IfOk result (λ found. IsStrictlyIncreasing (places_listed found.words)) }
-    ensures verdict { IfOk result (λ found. copied found.words facts.now ≡ found.verdict) }
-    ensures facts { IfOk result (λ found. found.facts ≡ facts.now) }
-    ensures some { IfErr result (λ _. FetchesSome (P.side side.old) (P.side side.new) facts.now) }
-    ensures rows { IfErr result
-        (λ _. P.wants ⊎ FetchesRows (P.side side.old) (P.side side.new) facts.now) }
-    ensures belongs { P.belongs side.new words.now }
-    ensures notes { (n : P.Note) → P.note_belongs side.old words.now n
-        → P.note_belongs side.new words.now n }
-    ensures table { P.table side.new ≡ P.table side.old }
-{
-    let mut list = Vec::new(alloc);
-    let verdict = fetch_onto(side, words, facts, &mut list, values)?;
-    Ok(Fetched::of(Words::taken(list), verdict, SeenFacts::of(facts)))
 }

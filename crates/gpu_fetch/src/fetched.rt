@@ -5,37 +5,42 @@ ghost use Rattle.gpu_cmd.specs.Copied.{IsCopy, copied, fetched_places, places_li
 
 use crate::seen_facts::SeenFacts;
 use gpu_cmd::{CmdError, Command};
-use gpu_word::Words;
 use std::marker::Model;
 
 /// What was fetched of a command: its words, each once and in order, and the verdict of checks 1 to 10 on them. Contracts see
 /// the facts of the stream beside it, which the verdict rests on: they are lawful, and `get` is not `put`.
 #[derive(Debug, Drop)]
-pub struct Fetched {
-    words: Words,
-    verdict: Result<Command, CmdError>,
+pub struct Fetched<'a> {
+    words: &'a [(u32, u32)],
+    verdict: &'a Result<Command, CmdError>,
     facts: SeenFacts,
 }
 
-impl Model for Fetched {
+impl<'a> Model for Fetched<'a> {
     ghost use Rattle.gpu_fetch.specs.Fetched.{FetchedData, IsFetched};
 
     ghost Value = { FetchedData };
 
-    ghost view = { λ f. record { words = f.words; verdict = f.verdict; facts = f.facts.facts } };
+    ghost view = { λ f.
+        record { words = f.words.now; verdict = f.verdict.now; facts = f.facts.facts } };
 
     ghost invariant = { λ f. IsFetched
-        (record { words = f.words; verdict = f.verdict; facts = f.facts.facts }) };
+        (record { words = f.words.now; verdict = f.verdict.now; facts = f.facts.facts }) };
 }
 
-impl Fetched {
-    // The words of a command with the verdict on them.
-    pub(crate) fn of(words: Words, verdict: Result<Command, CmdError>, facts: SeenFacts) -> Fetched
+impl<'a> Fetched<'a> {
+    /// The words of a command with the verdict on them.
+    pub fn of(
+        words: &'a [(u32, u32)],
+        verdict: &'a Result<Command, CmdError>,
+        facts: SeenFacts,
+    ) -> Fetched<'a>
         requires lawful { IsLawfulFacts facts.facts }
         requires more { facts.facts.get ≢ facts.facts.put }
-        requires copy { IsCopy words facts.facts verdict }
+        requires copy { IsCopy words.now facts.facts verdict.now }
 
-        ensures is { result ≡ record { words = words; verdict = verdict; facts = facts.facts } }
+        ensures is { result
+            ≡ record { words = words.now; verdict = verdict.now; facts = facts.facts } }
         ensures places { places_listed result.words ≡ fetched_places result.words facts.facts }
         ensures once { IsStrictlyIncreasing (places_listed result.words) }
         ensures verdict { copied result.words facts.facts ≡ result.verdict }
@@ -49,30 +54,12 @@ impl Fetched {
 
     /// The words fetched, as pairs of a place and its value: the ring places of the command and then its transfer places,
     /// as far as the checks let it come. `get` was not `put`.
-    pub fn words(&self) -> &[(u32, u32)]
+    pub fn words(&self) -> &'a [(u32, u32)]
         ensures value { result.now ≡ self.now.words }
         ensures copy { IsCopy result.now self.now.facts self.now.verdict }
         ensures more { self.now.facts.get ≢ self.now.facts.put }
     {
-        self.words.as_slice()
-    }
-
-    /// Shows that the words are those of the command, each once, and that `get` was not `put`. It changes nothing.
-    pub fn shows_copy(&self)
-        ensures copy { IsCopy self.now.words self.now.facts self.now.verdict }
-        ensures more { self.now.facts.get ≢ self.now.facts.put }
-    {
-        let _ = &self.words;
-    }
-
-    /// The words fetched, which take no memory anew.
-    pub fn into_words(self) -> Words
-        ensures value { result ≡ self.words }
-        ensures copy { IsCopy result self.facts self.verdict }
-        ensures more { self.facts.get ≢ self.facts.put }
-    {
-        let Fetched { words, .. } = self;
-        words
+        self.words
     }
 
     /// The command, or the first check that fails on these words.
@@ -80,6 +67,6 @@ impl Fetched {
         ensures value { result ≡ self.now.verdict }
         ensures copy { IsCopy self.now.words self.now.facts result }
     {
-        self.verdict
+        *self.verdict
     }
 }

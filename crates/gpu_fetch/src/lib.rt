@@ -4,10 +4,9 @@
 //! published as finished, the greatest token published, and the latest flush met.
 //!
 //! What the contracts say:
-//! - `fetch_command`, over any side, makes the list of fetches grow by exactly the words of one command. They are at the
-//!   places that must be fetched, each once and in rising order, with the verdict on these words.
-//! - `fetch_onto` does the same, and adds the words to a list after those of other commands. `share` cuts such a list into
-//!   what was fetched of each.
+//! - `fetch_onto`, over any side, makes the list of fetches grow by exactly the words of one command. They are at the
+//!   places that must be fetched, each once and in rising order, with the verdict on these words. They are added to a
+//!   list after those of other commands.
 //! - Each word is one that the client may have put between the latest flush met and its bound by the side's own numbers.
 //!   That holds for every client that goes on storing meanwhile.
 //! - Where memory runs out, the list has grown by words at the first of these places.
@@ -35,9 +34,9 @@ mod seen_facts;
 mod shared;
 mod side;
 
-pub use fetch::{fetch_command, fetch_onto};
+pub use fetch::fetch_onto;
 pub use fetched::Fetched;
-pub use fetched_part::{FetchedPart, share};
+pub use fetched_part::FetchedPart;
 pub use plain::{PlainNote, PlainPass, PlainWords};
 pub use seen_facts::SeenFacts;
 pub use side::ServiceSide;

@@ -23,8 +23,8 @@ impl SeenFacts {
         SeenFacts {}
     }
 
-    // The same once more.
-    pub(crate) fn again(&self) -> SeenFacts
+    /// The same once more.
+    pub fn again(&self) -> SeenFacts
         ensures { result.facts ≡ self.now.facts }
     {
         SeenFacts {}

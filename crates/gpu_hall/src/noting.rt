@@ -65,7 +65,7 @@ pub(crate) fn publish_all<N: Naming, P: NamedSide, H: Hook, R: Wait>(
     ensures view { writer.new.view ≡ writer.old.view }
     ensures stays { OnErr result (writer.new.versions ≡ writer.old.versions) }
 {
-    let count = house.journal().events().len();
+    let count = house.journal().count();
     if count > u32::MAX as usize {
         return Err(Memory);
     }

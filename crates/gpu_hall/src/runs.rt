@@ -71,7 +71,7 @@ impl<N: Naming, P: NamedSide, H: Hook> Hall<N, P, H> {
         ensures view { self.new.view ≡ self.old.view }
     {
         let mut run = run;
-        if !make_room(&mut self.view, batch.members().len()) {
+        if !make_room(&mut self.view, batch.count()) {
             self.house.lose(run);
             return None;
         }

@@ -1,5 +1,5 @@
 //! Batches: commands that are fetched one after the other without the lock.
-ghost use Rattle.std.specs.Prelude.{◌≡◌, ◌≢◌, ◌+◌, ◌<◌, ◌^◌, true, false, Ok, IfOk, IfErr, IfSome, IfNone};
+ghost use Rattle.std.specs.Prelude.{◌≡◌, ◌≢◌, ◌+◌, ◌<◌, ◌^◌, true, false, length, take, slice_index_or, Ok, IfOk, IfErr, IfSome, IfNone};
 ghost use Rattle.std.specs.List.{All};
 ghost use Rattle.gpu_cmd.specs.Copied.{IsCopy};
 ghost use Rattle.gpu_cmd.specs.Lawful.{IsLawfulFacts};
@@ -9,7 +9,7 @@ ghost use Rattle.house_core.specs.Answers.{further};
 ghost use Rattle.gpu_house.specs.Batches.{facts_after, batch_words, AreChained, is_heard, ends_by, EndsExactly, FetchesInPart};
 
 use gpu_cmd::{CmdError, Command, StreamFacts};
-use gpu_fetch::{Fetched, FetchedPart, SeenFacts, ServiceSide, fetch_onto, share};
+use gpu_fetch::{Fetched, FetchedPart, SeenFacts, ServiceSide, fetch_onto};
 use gpu_word::{Memory, split};
 use std::alloc::Global;
 use std::marker::Model;
@@ -23,20 +23,24 @@ const MOST_MEMBERS: usize = 64;
 /// may wait, or that is the last of its flush.
 #[derive(Debug, Drop)]
 pub struct Batch {
-    members: Vec<Fetched>,
+    list: Vec<(u32, u32)>,
+    parts: Vec<FetchedPart>,
 }
 
 impl Model for Batch {
-    ghost use Rattle.std.specs.Prelude.{List};
+    ghost use Rattle.std.specs.Prelude.{◌≡◌, List, length};
     ghost use Rattle.std.specs.List.{All};
     ghost use Rattle.gpu_fetch.specs.Fetched.{FetchedData, IsFetched};
+    ghost use Rattle.gpu_fetch.specs.Parts.{words_of_parts, parts_of};
     ghost use Rattle.gpu_house.specs.Batches.{EndsExactly};
 
     ghost Value = { List FetchedData };
 
-    ghost view = { λ b. b.members.items };
+    ghost view = { λ b. parts_of b.list.items b.parts.items };
 
-    ghost invariant = { λ b. EndsExactly b.members.items × All IsFetched b.members.items };
+    ghost invariant = { λ b. (words_of_parts b.parts.items ≡ length b.list.items)
+        × EndsExactly (parts_of b.list.items b.parts.items)
+        × All IsFetched (parts_of b.list.items b.parts.items) };
 }
 
 // Whether the step of a command may be told to a client or to another stream, or may wait.
@@ -147,12 +151,11 @@ impl Batch {
         ensures table { P.table side.new ≡ P.table side.old }
     {
         let mut list = Vec::new(alloc);
-        let mut values = Vec::new(alloc);
         let mut parts = Vec::new(alloc);
         let mut next = *facts;
         loop {
             let from = list.len();
-            let verdict = fetch_onto(side, words, &next, &mut list, &mut values)?;
+            let verdict = fetch_onto(side, words, &next, &mut list)?;
             let count = list.len() - from;
             parts.push(FetchedPart {
                 count,
@@ -161,30 +164,29 @@ impl Batch {
             })?;
             match facts_behind(&next, &list[from..], &verdict) {
                 Some(facts) if parts.len() < MOST_MEMBERS => next = facts,
-                _ => {
-                    let members = share(alloc, list, &parts)?;
-                    return Ok(Batch { members });
-                }
+                _ => return Ok(Batch { list, parts }),
             }
         }
     }
 
-    /// What was fetched of each command, in order.
-    pub fn members(&self) -> &[Fetched]
-        ensures value { result.now ≡ self.now }
+    /// How many commands were fetched.
+    pub fn count(&self) -> usize
+        ensures count { result ≡ length self.now }
         ensures end { EndsExactly self.now }
         ensures copies { All IsFetched self.now }
     {
-        &self.members
+        self.parts.len()
     }
 
-    /// The same, taken out.
-    pub(crate) fn into_members(self) -> Vec<Fetched>
-        ensures value { result.items ≡ self }
-        ensures end { EndsExactly self }
-        ensures copies { All IsFetched self }
+    // What was fetched of the command at an index, before which there are so many words of others.
+    #[inline(always)]
+    pub(crate) fn member(&self, index: usize, from: usize) -> Fetched<'_>
+        requires within { index < length self.now }
+        requires from { from ≡ length (batch_words (take index self.now)) }
+        ensures { result ≡ slice_index_or self.now index result }
     {
-        let Batch { members } = self;
-        members
+        let part = &self.parts[index];
+        let words = &self.list[from..from + part.count];
+        Fetched::of(words, &part.verdict, part.facts.again())
     }
 }

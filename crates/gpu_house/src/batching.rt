@@ -87,9 +87,12 @@ impl<N: Naming, P: ServiceSide, H: Hook> House<N, P, H> {
         if let Some(over) = self.over(run.stream()) {
             return Ok(over);
         }
-        for member in batch.into_members() {
+        let mut from = 0;
+        for index in 0..batch.count() {
+            let member = batch.member(index, from);
+            from += member.words().len();
             drawn.reserve(1)?;
-            let progress = self.step(run, words, member)?;
+            let progress = self.step(run, words, &member)?;
             add(drawn, progress.drawn);
             match progress.next {
                 Next::More => {}

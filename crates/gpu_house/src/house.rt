@@ -42,8 +42,6 @@ pub struct House<N: Naming, P: ServiceSide, H: Hook> {
     pub(crate) slots: Vec<Slot<P, P::Note>>,
     pub(crate) hooks: Hooks<H>,
     pub(crate) results: Vec<P::Results>,
-    // Room for the values of the ring entries of commands, which each run takes along.
-    pub(crate) values: Vec<u32>,
     pub(crate) of: PhantomData<N>,
 }
 
@@ -97,7 +95,6 @@ impl<N: Naming, P: ServiceSide, H: Hook> House<N, P, H> {
             slots,
             hooks: Hooks::make(alloc, hook),
             results,
-            values: Vec::new(alloc),
             of: PhantomData,
         })
     }

@@ -1,4 +1,4 @@
-ghost use Rattle.std.specs.Prelude.{◌≡◌, option_map, IfOk, IfErr, IsTrue, ◌↔◌};
+ghost use Rattle.std.specs.Prelude.{◌≡◌, option_map, OnOk, IfOk, IfErr, IsTrue, ◌↔◌};
 ghost use Rattle.std.specs.List.{All};
 ghost use Rattle.gpu_cmd.specs.Copied.{IsCopy};
 ghost use Rattle.gpu_cmd.specs.Lawful.{IsLawfulFacts};
@@ -13,8 +13,8 @@ ghost use Rattle.gpu_house.specs.Fetching.{CanFetch, HasMetNote, RunFetches};
 use crate::batch::Batch;
 use crate::meeting::meet;
 use crate::naming::Naming;
-use gpu_cmd::StreamFacts;
-use gpu_fetch::{Fetched, ServiceSide, fetch_command};
+use gpu_cmd::{CmdError, Command, StreamFacts};
+use gpu_fetch::{ServiceSide, fetch_onto};
 use gpu_word::Memory;
 use house_core::Carried;
 use std::alloc::Global;
@@ -30,8 +30,6 @@ pub struct Run<N: Naming, P: ServiceSide> {
     pub(crate) carried: Carried,
     pub(crate) side: P,
     pub(crate) note: Option<P::Note>,
-    // Room for the values of a command's ring entries, the same for each command that the run fetches.
-    pub(crate) values: Vec<u32>,
     pub(crate) of: PhantomData<N>,
 }
 
@@ -97,33 +95,35 @@ impl<N: Naming, P: ServiceSide> Run<N, P> {
         self.carried.paused()
     }
 
-    /// Fetches the next command, without the lock. The first fetch of an order meets its note.
+    /// Fetches the next command, without the lock, into a list in place of what that has. The answer is the verdict on its words. The
+    /// first fetch of an order meets its note.
     ///
     /// # Errors
     ///
     /// `Memory`: the side has fetched the first of the places that were to be fetched.
-    pub fn fetch(&mut self, words: &P::Words) -> Result<Fetched, Memory>
+    pub fn fetch(
+        &mut self,
+        words: &P::Words,
+        list: &mut Vec<(u32, u32)>,
+    ) -> Result<Result<Command, CmdError>, Memory>
         requires { CanFetch P.side P.belongs P.note_belongs words.now self.old }
         ensures keeps { HasMetNote P.belongs P.note_belongs words.now self.old self.new }
-        ensures facts { IfOk result (λ found. found.facts ≡ self.old.run.facts) }
-        ensures fetches { IfOk result
-            (λ found. RunFetches P.side P.mark P.shows words.now self.old self.new found.words) }
-        ensures copy { IfOk result
-            (λ found. IsCopy found.words self.old.run.facts found.verdict) }
+        ensures fetches { OnOk result
+            (RunFetches P.side P.mark P.shows words.now self.old self.new list.new.items) }
+        ensures copy { IfOk result (IsCopy list.new.items self.old.run.facts) }
         ensures some { IfErr result
             (λ _. FetchesSome (met_by (option_map P.mark self.old.note) (P.side self.old.side))
             (P.side self.new.side) self.old.run.facts) }
     {
         let Run {
-            alloc,
             carried,
             side,
             note,
-            values,
             ..
         } = self;
         meet(side, note, words);
-        fetch_command(*alloc, side, words, carried.facts(), values)
+        list.clear();
+        fetch_onto(side, words, carried.facts(), list)
     }
 
     /// Fetches commands one after the other up to the end of a batch, without the lock. The first fetch of an order meets its note.

@@ -18,7 +18,6 @@ use crate::naming::Naming;
 use crate::run::Run;
 use gpu_fetch::ServiceSide;
 use std::marker::PhantomData;
-use std::mem;
 use wait_hooks::Hook;
 
 impl<N: Naming, P: ServiceSide, H: Hook> House<N, P, H> {
@@ -50,7 +49,6 @@ impl<N: Naming, P: ServiceSide, H: Hook> House<N, P, H> {
             alloc,
             core,
             slots,
-            values,
             ..
         } = self;
         let carried = core.take()?;
@@ -61,7 +59,6 @@ impl<N: Naming, P: ServiceSide, H: Hook> House<N, P, H> {
                 carried,
                 side,
                 note,
-                values: mem::replace(values, Vec::new(*alloc)),
                 of: PhantomData,
             }),
             None => unreachable!(),
@@ -95,11 +92,9 @@ impl<N: Naming, P: ServiceSide, H: Hook> House<N, P, H> {
             carried,
             mut side,
             mut note,
-            values,
             of: _,
         } = run;
         let stream = carried.stream();
-        self.values = values;
         let House {
             core,
             slots,
@@ -138,11 +133,9 @@ impl<N: Naming, P: ServiceSide, H: Hook> House<N, P, H> {
             carried,
             side,
             note,
-            values,
             of: _,
         } = run;
         let stream = carried.stream();
-        self.values = values;
         self.core.back(carried);
         self.core.shows_core();
         self.slots[stream as usize - 1].come(side, note);
@@ -164,11 +157,9 @@ impl<N: Naming, P: ServiceSide, H: Hook> House<N, P, H> {
             carried,
             side,
             note,
-            values,
             of: _,
         } = run;
         let stream = carried.stream();
-        self.values = values;
         let House {
             core,
             slots,

@@ -59,12 +59,13 @@ impl<N: Naming, P: ServiceSide, H: Hook> House<N, P, H> {
         &mut self,
         run: &mut Run<N, P>,
         words: &P::Words,
-        fetched: Fetched,
+        fetched: &Fetched<'_>,
     ) -> Result<Progress, Memory>
         requires { MayStep P.side P.belongs P.note_belongs P.results_belong words.now self.old
-            run.old fetched }
+            run.old fetched.now }
         ensures steps { IfOk result
-            (TookStep P.side P.mark N.plans self.old self.new run.old run.new fetched.words) }
+            (TookStep P.side P.mark N.plans self.old self.new run.old run.new
+            fetched.now.words) }
         ensures keeps { KeepsBeside P.side P.belongs P.note_belongs P.results_belong words.now
             self.old self.new run.old run.new }
         ensures err { OnErr result (Same self.old self.new) }

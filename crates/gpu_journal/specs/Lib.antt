@@ -1,4 +1,5 @@
 pub mod Past
+pub mod Entries
 pub mod World
 pub mod Waits
 pub mod Facts

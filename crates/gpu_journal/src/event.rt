@@ -1,3 +1,6 @@
+ghost use Rattle.std.specs.Prelude.{◌≡◌};
+ghost use Rattle.gpu_journal.specs.Past.{event_words};
+
 use gpu_cmd::CmdError;
 use gpu_word::Words;
 
@@ -12,15 +15,44 @@ pub enum Why {
 
 /// One event of a run. Streams and orders count from 1.
 #[derive(Debug, Drop)]
-pub enum Event {
+pub enum Event<'a> {
     /// A flush drew the next order number; `place` is how many actions of the stream stand before it.
-    Order { stream: u32, order: u32, place: u32 },
+    Order {
+        stream: u32,
+        order: u32,
+        place: u32,
+    },
     /// A command was executed on these words.
-    Step { stream: u32, words: Words },
+    Step {
+        stream: u32,
+        words: Words<'a>,
+    },
     /// All commands of an order were executed.
-    Finish { stream: u32, order: u32 },
+    Finish {
+        stream: u32,
+        order: u32,
+    },
     /// The stream was lost. An error carries the words that it was found in.
-    Lost { stream: u32, why: Why, words: Words },
+    Lost {
+        stream: u32,
+        why: Why,
+        words: Words<'a>,
+    },
     /// The client closed its stream.
-    Close { stream: u32 },
+    Close {
+        stream: u32,
+    },
+}
+
+impl<'a> Event<'a> {
+    /// The words that the event carries.
+    #[inline(always)]
+    pub fn words(&self) -> &[(u32, u32)]
+        ensures { result.now ≡ event_words self.now }
+    {
+        match self {
+            Event::Step { words, .. } | Event::Lost { words, .. } => words.as_slice(),
+            Event::Order { .. } | Event::Finish { .. } | Event::Close { .. } => &[],
+        }
+    }
 }

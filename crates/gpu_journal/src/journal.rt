@@ -1,27 +1,58 @@
-ghost use Rattle.std.specs.Prelude.{◌≡◌, ◌+◌, ◌≤◌, ◌<◌, [], ◌∷◌, reverse, OnOk, OnErr};
+ghost use Rattle.std.specs.Prelude.{◌≡◌, ◌+◌, ◌≤◌, ◌<◌, ◌^◌, [], ◌∷◌, ◌++◌, length, reverse, slice_index_or, vec_capacity, OnOk, OnErr};
+ghost use Rattle.gpu_journal.specs.Past.{event_words};
 
+use crate::entry::{Entry, event_of};
 use crate::event::Event;
-use gpu_word::Memory;
+use gpu_word::{Memory, Words};
 use std::alloc::Global;
 use std::marker::Model;
 
-/// The events of a run. Contracts see the newest first, and how many more there is room for.
+/// The most words that all events have together.
+const MOST_WORDS: usize = u32::MAX as usize;
+
+/// The events of a run. Contracts see the newest first, and how many more events and words there is room for.
+///
+/// The words of all events lie in one list, so that an event takes no memory of its own.
 #[derive(Drop)]
 pub struct Journal {
-    events: Vec<Event>,
+    entries: Vec<Entry>,
+    words: Vec<(u32, u32)>,
 }
 
 impl Model for Journal {
-    ghost use Rattle.std.specs.Prelude.{◌-◌, reverse, vec_len, vec_capacity};
+    ghost use Rattle.std.specs.Prelude.{◌-◌, ◌≤◌, min, length, reverse, vec_len, vec_capacity};
+    ghost use Rattle.std.specs.List.{All};
     ghost use Rattle.gpu_journal.specs.Past.{Past};
+    ghost use Rattle.gpu_journal.specs.Entries.{events_of, LiesInWords};
 
     ghost Value = { Past };
 
     ghost view = { λ journal.
         record {
-          events = reverse journal.events.items;
-          spare = vec_capacity journal.events - vec_len journal.events;
+          events = reverse (events_of journal.words.items journal.entries.items);
+          spare = vec_capacity journal.entries - vec_len journal.entries;
+          room = min (vec_capacity journal.words) 4294967295 - vec_len journal.words;
         } };
+
+    ghost invariant = { λ journal. (length journal.words.items ≤ 4294967295)
+        × All (LiesInWords journal.words.items) journal.entries.items };
+}
+
+// Appends words, in room that was made before, and gives the indices between which they stand.
+#[inline(always)]
+fn keep(list: &mut Vec<(u32, u32)>, words: Words<'_>) -> (u32, u32)
+    requires room { length list.old.items + length words ≤ vec_capacity list.old }
+    requires few { length list.old.items + length words < 2 ^ 32 }
+    ensures list { list.new.items ≡ list.old.items ++ words }
+    ensures from { result.0 ≡ length list.old.items }
+    ensures end { result.1 ≡ length list.new.items }
+{
+    let from = list.len() as u32;
+    match list.extend_from_slice(words.as_slice()) {
+        Ok(()) => {}
+        Err(_) => unreachable!(),
+    }
+    (from, list.len() as u32)
 }
 
 impl Journal {
@@ -30,7 +61,8 @@ impl Journal {
         ensures { result.events ≡ [] }
     {
         Journal {
-            events: Vec::new(alloc),
+            entries: Vec::new(alloc),
+            words: Vec::new(alloc),
         }
     }
 
@@ -39,25 +71,93 @@ impl Journal {
         ensures events { self.new.events ≡ self.old.events }
         ensures spare { OnOk result (more ≤ self.new.spare) }
         ensures grows { self.old.spare ≤ self.new.spare }
+        ensures room { self.new.room ≡ self.old.room }
         ensures err { OnErr result (self.new.spare ≡ self.old.spare) }
     {
-        self.events.reserve(more)?;
+        self.entries.reserve(more)?;
         Ok(())
     }
 
-    /// Adds an event after all others, in room that was made before.
-    pub fn push(&mut self, event: Event)
-        requires { 0 < self.old.spare }
+    /// Makes room for a given number of further words.
+    pub fn reserve_words(&mut self, more: usize) -> Result<(), Memory>
+        ensures events { self.new.events ≡ self.old.events }
+        ensures spare { self.new.spare ≡ self.old.spare }
+        ensures room { OnOk result (more ≤ self.new.room) }
+        ensures full { OnErr result (self.old.room < more) }
+    {
+        if more > MOST_WORDS - self.words.len() {
+            return Err(Memory);
+        }
+        self.words.reserve(more)?;
+        Ok(())
+    }
+
+    /// Adds an event after all others, in room that was made before. Its words are copied.
+    #[inline(always)]
+    pub fn push(&mut self, event: Event<'_>)
+        requires spare { 0 < self.old.spare }
+        requires room { length (event_words event) ≤ self.old.room }
         ensures events { self.new.events ≡ event ∷ self.old.events }
         ensures spare { self.new.spare + 1 ≡ self.old.spare }
     {
-        self.events.push_reserved(event);
+        let entry = match event {
+            Event::Order {
+                stream,
+                order,
+                place,
+            } => Entry::Order {
+                stream,
+                order,
+                place,
+            },
+            Event::Step { stream, words } => {
+                let (from, end) = keep(&mut self.words, words);
+                Entry::Step { stream, from, end }
+            }
+            Event::Finish { stream, order } => Entry::Finish { stream, order },
+            Event::Lost { stream, why, words } => {
+                let (from, end) = keep(&mut self.words, words);
+                Entry::Lost {
+                    stream,
+                    why,
+                    from,
+                    end,
+                }
+            }
+            Event::Close { stream } => Entry::Close { stream },
+        };
+        self.entries.push_reserved(entry);
     }
 
-    /// The events in the order in which they came.
-    pub fn events(&self) -> &[Event]
-        ensures { result.now ≡ reverse self.now.events }
+    /// Adds an event after all others, and takes the memory that this needs.
+    ///
+    /// # Errors
+    ///
+    /// `Memory`: the events are as before.
+    #[inline(always)]
+    pub fn add(&mut self, event: Event<'_>) -> Result<(), Memory>
+        ensures ok { OnOk result (self.new.events ≡ event ∷ self.old.events) }
+        ensures err { OnErr result (self.new.events ≡ self.old.events) }
     {
-        self.events.as_slice()
+        self.reserve(1)?;
+        self.reserve_words(event.words().len())?;
+        self.push(event);
+        Ok(())
+    }
+
+    /// How many events there are.
+    pub fn count(&self) -> usize
+        ensures { result ≡ length self.now.events }
+    {
+        self.entries.len()
+    }
+
+    /// The event at an index. The oldest has index 0.
+    #[inline(always)]
+    pub fn event(&self, index: usize) -> Event<'_>
+        requires { index < length self.now.events }
+        ensures { result ≡ slice_index_or (reverse self.now.events) index result }
+    {
+        event_of(&self.words, &self.entries[index])
     }
 }

@@ -17,6 +17,7 @@
 #![tactic(auto)]
 
 mod end;
+mod entry;
 mod event;
 mod flush;
 mod journal;

@@ -20,17 +20,18 @@ use wait_hooks::Hook;
 pub(crate) fn play<N: Naming, H: Hook>(
     house: &mut House<N, PlainPass, H>,
     clients: &mut [Client],
+    list: &mut Vec<(u32, u32)>,
 ) -> Result<(), Memory>
     requires { Stands (Acting 0) N.plans house.old clients.old }
     ensures serial { OnOk result (house.new.core.past ≡ serial N.plans) }
     ensures stands { OnOk result (Stands (Acting 0) N.plans house.new clients.new) }
 {
     loop {
-        let before = house.journal().events().len();
+        let before = house.journal().count();
         act_all(house, clients)?;
         close_all(house, clients);
-        run_all(house, clients)?;
-        if house.journal().events().len() == before {
+        run_all(house, clients, list)?;
+        if house.journal().count() == before {
             return Ok(());
         }
     }

@@ -10,7 +10,7 @@ ghost use Rattle.gpu_run.specs.Turning.{HasTakenNext};
 ghost use Rattle.gpu_run.specs.Stands.{Acting, Running, Stands, EndsWhereNoneCame};
 
 use crate::client::Client;
-use gpu_fetch::PlainPass;
+use gpu_fetch::{Fetched, PlainPass, SeenFacts};
 use gpu_house::{House, Naming, Next, Run};
 use gpu_word::Memory;
 use wait_hooks::Hook;
@@ -24,6 +24,7 @@ fn turn<N: Naming, H: Hook>(
     house: &mut House<N, PlainPass, H>,
     clients: &[Client],
     run: &mut Run<N, PlainPass>,
+    list: &mut Vec<(u32, u32)>,
 ) -> Result<bool, Memory>
     requires lawful { AreLawfulPlans N.plans }
     requires played { IsPlayed N.plans house.old.core.past }
@@ -36,9 +37,10 @@ fn turn<N: Naming, H: Hook>(
         run.old.run.stream run.new) }
 {
     let words = clients[run.stream() as usize - 1].words();
-    let fetched = run.fetch(words)?;
-    fetched.shows_copy();
-    match house.step(run, words, fetched)?.into_next() {
+    let facts = SeenFacts::of(run.facts());
+    let verdict = run.fetch(words, list)?;
+    let fetched = Fetched::of(list, &verdict, facts);
+    match house.step(run, words, &fetched)?.into_next() {
         Next::More => Ok(true),
         Next::FlushEnd => Ok(true),
         _ => Ok(false),
@@ -54,6 +56,7 @@ fn run_out<N: Naming, H: Hook>(
     house: &mut House<N, PlainPass, H>,
     clients: &[Client],
     run: Run<N, PlainPass>,
+    list: &mut Vec<(u32, u32)>,
 ) -> Result<(), Memory>
     requires lawful { AreLawfulPlans N.plans }
     requires played { IsPlayed N.plans house.old.core.past }
@@ -73,7 +76,7 @@ fn run_out<N: Naming, H: Hook>(
 {
     let mut out = run;
     while !out.at_end() {
-        let Ok(went) = turn(house, clients, &mut out) else {
+        let Ok(went) = turn(house, clients, &mut out, list) else {
             house.lose(out);
             return Err(Memory);
         };
@@ -95,6 +98,7 @@ fn run_out<N: Naming, H: Hook>(
 pub(crate) fn run_all<N: Naming, H: Hook>(
     house: &mut House<N, PlainPass, H>,
     clients: &[Client],
+    list: &mut Vec<(u32, u32)>,
 ) -> Result<(), Memory>
     requires stands { Stands Running N.plans house.old clients.now }
     ensures stands { OnOk result (Stands (Acting 0) N.plans house.new clients.now) }
@@ -104,7 +108,7 @@ pub(crate) fn run_all<N: Naming, H: Hook>(
 {
     loop {
         match house.take() {
-            Some(run) => run_out(house, clients, run)?,
+            Some(run) => run_out(house, clients, run, list)?,
             None => return Ok(()),
         }
     }

@@ -44,7 +44,8 @@ fn run_named<N: Naming, H: Hook>(
         books,
     } = parts;
     let mut house = House::<N, PlainPass, H>::make(alloc, plans, hook, sides, results, books)?;
-    play(&mut house, &mut clients)?;
+    let mut list = Vec::new(alloc);
+    play(&mut house, &mut clients, &mut list)?;
     let dumps = all_dumps(alloc, &house, clients)?;
     Ok((house.report(), dumps))
 }

@@ -1,6 +1,7 @@
 //! The conversion of packed bytes into texels.
 ghost use Rattle.std.specs.Prelude.{◌≡◌, ◌+◌, ◌%◌, ◌≤◌, ◌<◌, length, drop, IfOk};
 ghost use Rattle.gpu_word.specs.Formats.{format_bytes};
+ghost use Rattle.gpu_word.specs.Bytes.{values_of, bytes_of};
 ghost use Rattle.gpu_store.specs.Conversion.{texel, widened, texel_565, texel_4444, texel_of, texels_of};
 
 use crate::texels::Texels;
@@ -106,4 +107,23 @@ pub fn unpack(alloc: Global, format: Format, bytes: &[u8]) -> Result<Texels, Mem
         Format::Rgba4444 => unpack_as(alloc, Format::Rgba4444, bytes),
         Format::L8 => unpack_as(alloc, Format::L8, bytes),
     }
+}
+
+/// The texels of the values of words that stand at places: each value has the bytes of one texel of red, green, blue and alpha.
+pub fn unpack_words(alloc: Global, words: &[(u32, u32)]) -> Result<Texels, Memory>
+    ensures texels { IfOk result
+        (λ texels. texels ≡ texels_of Format.Rgba8 (bytes_of (values_of words.now))) }
+    ensures count { IfOk result (λ texels. length texels ≡ length words.now) }
+{
+    let mut items = Vec::with_capacity(alloc, words.len())?;
+    for word in words {
+        let value = word.1;
+        items.push_reserved(pack(
+            value % 256,
+            value / 256 % 256,
+            value / 65_536 % 256,
+            value / 16_777_216,
+        ));
+    }
+    Ok(Texels::of(items))
 }

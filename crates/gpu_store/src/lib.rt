@@ -27,7 +27,7 @@ mod rows;
 mod sums;
 mod texels;
 
-pub use conversion::unpack;
+pub use conversion::{unpack, unpack_words};
 pub use images::Images;
 pub use numbers::Numbers;
 pub use op::{Answer, Op};

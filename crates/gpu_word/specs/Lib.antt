@@ -3,4 +3,3 @@ pub mod Formats
 pub mod Bytes
 pub mod Outcome
 pub mod Results
-pub mod Kept

@@ -86,7 +86,9 @@ impl Core {
         let ranks = ranks(alloc, &plans)?;
         let scheduler = Scheduler::make(alloc, ranks.as_slice())?;
         let mut journal = Journal::make(alloc);
-        journal.reserve(usual_events(&plans).max(count as usize))?;
+        let usual = usual_events(&plans);
+        journal.reserve(usual.max(count as usize))?;
+        journal.reserve_words(usual.saturating_mul(4))?;
         let desks = desks(alloc, &plans, books)?;
         let images = Images::make(alloc);
         Ok(Core {

@@ -1,5 +1,5 @@
 //! The ends of streams: they are lost, or they close.
-ghost use Rattle.std.specs.Prelude.{◌≡◌, ◌↔◌, [], length, true, false, IsTrue};
+ghost use Rattle.std.specs.Prelude.{◌≡◌, ◌↔◌, [], length, true, false, OnOk, OnErr, IsOk, IsTrue};
 ghost use Rattle.gpu_plan.specs.Plans.{plan_of, is_closed};
 ghost use Rattle.sync_core.specs.Standing.{IsKnown, is_open};
 ghost use Rattle.gpu_journal.specs.declared.event.Event.TheVariants.{Lost, Close};
@@ -10,7 +10,7 @@ ghost use Rattle.house_core.specs.Core.{Stays, Grows};
 
 use crate::core_of::Core;
 use gpu_journal::{Event, Why};
-use gpu_word::Words;
+use gpu_word::{Memory, Words};
 
 /// How a close was answered.
 #[derive(Clone, Copy, Debug, PartialEq, Eq)]
@@ -24,13 +24,23 @@ pub enum Closing {
 }
 
 impl Core {
-    // The journal notes the loss of a stream.
-    pub(crate) fn enter_lost(&mut self, stream: u32, why: Why, words: Words)
+    // The journal notes the loss of a stream. A loss without words takes no memory.
+    //
+    // `Memory`: nothing has changed.
+    pub(crate) fn enter_lost(
+        &mut self,
+        stream: u32,
+        why: Why,
+        words: &[(u32, u32)],
+    ) -> Result<(), Memory>
         requires open { IsOpen self.old.plans self.old.past stream }
-        requires obeys { Obeys self.old.plans self.old.past (Lost stream why words) }
-        ensures event { Grows self.old self.new (Lost stream why words) }
+        requires obeys { Obeys self.old.plans self.old.past (Lost stream why words.now) }
+        ensures event { OnOk result (Grows self.old self.new (Lost stream why words.now)) }
         ensures outs { self.new.outs ≡ self.old.outs }
+        ensures stays { OnErr result (Stays self.old self.new) }
+        ensures free { words.now ≡ [] → IsOk result }
     {
+        self.journal.reserve_words(words.len())?;
         let Core {
             journal,
             scene,
@@ -43,7 +53,12 @@ impl Core {
         desk.lose();
         scene.sync.lose(stream);
         scene.sync.shows_room();
-        journal.push(Event::Lost { stream, why, words });
+        journal.push(Event::Lost {
+            stream,
+            why,
+            words: Words::of(words),
+        });
+        Ok(())
     }
 
     // The journal notes the close of a stream.
@@ -77,8 +92,10 @@ impl Core {
         ensures outs { self.new.outs ≡ self.old.outs }
     {
         if self.is_open(stream) {
-            let words = Words::none(self.alloc);
-            self.enter_lost(stream, Why::Memory, words);
+            match self.enter_lost(stream, Why::Memory, &[]) {
+                Ok(()) => {}
+                Err(_) => unreachable!(),
+            }
         }
     }
 

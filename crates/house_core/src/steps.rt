@@ -33,7 +33,7 @@ pub enum Stepped {
 impl Core {
     // The verdict on what was fetched for a run whose stream is open.
     #[tactic(auto, using(stream_state::proofs::Telling::copy_refuses, stream_state::proofs::Telling::state_refuses, stream_state::proofs::Telling::command_passes))]
-    fn judge(&self, stream: u32, fetched: &Fetched) -> Result<Command, CmdError>
+    fn judge(&self, stream: u32, fetched: &Fetched<'_>) -> Result<Command, CmdError>
         requires known { IsKnown (length self.now.plans.plans) stream }
         requires facts { fetched.now.facts ≡ facts_at self.now.plans self.now.past stream }
         ensures verdict { result
@@ -50,7 +50,7 @@ impl Core {
         &mut self,
         run: &mut Carried,
         command: &Command,
-        words: Words,
+        words: &[(u32, u32)],
     ) -> Result<Acted, Memory>
         requires plan { IsOfPlans self.old.plans run.old }
         requires book { run.old.book ≡ book_at self.old.books run.old.stream }
@@ -58,25 +58,29 @@ impl Core {
             ≡ record { order = run.old.order; paused = false } }
         requires going { run.old.paused ≡ false }
         requires shows { IsRunOf self.old.plans self.old.past run.old }
-        requires obeys { Obeys self.old.plans self.old.past (Step run.old.stream words) }
-        requires command { verdict_at self.old.plans self.old.past run.old.stream words
+        requires obeys { Obeys self.old.plans self.old.past (Step run.old.stream words.now) }
+        requires command { verdict_at self.old.plans self.old.past run.old.stream words.now
             ≡ Ok command.now }
-        ensures stepped { IfOk result (HasStepped self.old self.new run.old run.new words) }
+        ensures stepped { IfOk result (HasStepped self.old self.new run.old run.new words.now) }
         ensures err { OnErr result (Stays self.old self.new) }
         ensures same { OnErr result (run.new ≡ run.old) }
     {
         let stream = run.stream();
         take_room(&mut self.journal, self.owed, 1)?;
+        self.journal.reserve_words(words.len())?;
         let desk = &mut self.desks[stream as usize - 1];
         let taken = Taken {
             plans: &self.plans,
             stream,
             command,
-            words: words.as_slice(),
+            words,
         };
         let acted = run.step(desk, &mut self.scene, &taken)?;
         self.scene.sync.shows_room();
-        self.journal.push(Event::Step { stream, words });
+        self.journal.push(Event::Step {
+            stream,
+            words: Words::of(words),
+        });
         Ok(acted)
     }
 
@@ -87,13 +91,13 @@ impl Core {
     ///
     /// `Memory`: nothing has changed.
     #[inline(always)]
-    pub fn step(&mut self, run: &mut Carried, fetched: Fetched) -> Result<Stepped, Memory>
+    pub fn step(&mut self, run: &mut Carried, fetched: &Fetched<'_>) -> Result<Stepped, Memory>
         requires plan { IsOfPlans self.old.plans run.old }
         requires book { run.old.book ≡ book_at self.old.books run.old.stream }
         requires going { run.old.paused ≡ false }
-        requires facts { fetched.facts ≡ run.old.facts }
-        requires may { All (MayHavePut self.old.plans run.old) fetched.words }
-        ensures steps { IfOk result (AnswersStep self.old self.new run.old run.new fetched.words) }
+        requires facts { fetched.now.facts ≡ run.old.facts }
+        requires may { All (MayHavePut self.old.plans run.old) fetched.now.words }
+        ensures steps { IfOk result (AnswersStep self.old self.new run.old run.new fetched.now.words) }
         ensures out { out_at self.old.outs run.old.stream
             ≡ record { order = run.old.order; paused = false } }
         ensures shows { is_open (standing_of self.old.plans self.old.past run.old.stream) ≡ true
@@ -109,12 +113,12 @@ impl Core {
         if self.is_closed(stream) {
             return Ok(Stepped::Closed);
         }
-        let judged = self.judge(stream, &fetched);
-        let words = fetched.into_words();
+        let judged = self.judge(stream, fetched);
+        let words = fetched.words();
         match judged {
             Ok(command) => Ok(Stepped::Done(self.enter_step(run, &command, words)?)),
             Err(error) => {
-                self.enter_lost(stream, Why::Error(error), words);
+                self.enter_lost(stream, Why::Error(error), words)?;
                 Ok(Stepped::Invalid(error))
             }
         }

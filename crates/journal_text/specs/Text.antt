@@ -1,8 +1,9 @@
 -- The texts of events and of streams.
-use Rattle.std.specs.Prelude.{ℕ, List, [], ◌++◌, codes}
+use Rattle.std.specs.Prelude.{ℕ, List, ◌++◌, codes}
 use Rattle.std.specs.List.{flat_map}
 use Rattle.gpu_cmd.specs.Errors.{code_of}
 use Rattle.stream_state.specs.State.{State}
+pub use Rattle.gpu_journal.specs.Past.{event_words}
 use Rattle.gpu_journal.specs.declared.event.Event.{Event}
 use Rattle.gpu_journal.specs.declared.event.Event.TheVariants.{Order, Step, Finish, Lost, Close}
 use Rattle.gpu_journal.specs.declared.event.Why.{Why}
@@ -20,14 +21,6 @@ word_text word = number_text word.0 ++ codes ":" ++ hex8 word.1
 abbrev pub why_text : Why → List ℕ
 why_text (Error error) = number_text (code_of error)
 why_text Memory = codes " memory"
-
--- the words that an event carries
-abbrev pub event_words : Event → List (ℕ × ℕ)
-event_words (Order stream order place) = []
-event_words (Step stream words) = words
-event_words (Finish stream order) = []
-event_words (Lost stream why words) = words
-event_words (Close stream) = []
 
 -- the line of an event
 unfoldable pub event_text : Event → List ℕ

@@ -75,7 +75,7 @@ pub(crate) fn put_why(out: &mut Vec<u8>, why: Why)
 
 /// Appends the line of an event.
 #[tactic(auto, unfolding(crate::specs::Text::event_text))]
-pub(crate) fn put_event(out: &mut Vec<u8>, event: &Event)
+pub(crate) fn put_event(out: &mut Vec<u8>, event: &Event<'_>)
     requires { vec_len out.old + EVENT + length (flat_map word_text (event_words event.now))
         ≤ vec_capacity out.old }
     ensures items { out.new.items ≡ out.old.items ++ event_text event.now }
@@ -137,7 +137,7 @@ fn room_with(words: &[(u32, u32)]) -> Option<usize>
 }
 
 /// How many bytes hold the line of an event, where that many can be counted.
-pub(crate) fn room_of(event: &Event) -> Option<usize>
+pub(crate) fn room_of(event: &Event<'_>) -> Option<usize>
     ensures { IfSome result (λ room. EVENT + length
         (flat_map word_text (event_words event.now)) ≤ room) }
 {

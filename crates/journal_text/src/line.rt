@@ -59,7 +59,7 @@ impl Line {
     }
 
     /// The line of an event, which has at most 69,632 words, each at a place below 69,632.
-    pub fn put_event(&mut self, event: &Event)
+    pub fn put_event(&mut self, event: &Event<'_>)
         requires few { length (event_words event.now) ≤ 69632 }
         requires near { All (λ word. word.0 < 69632) (event_words event.now) }
         ensures { self.new ≡ event_text event.now }

@@ -91,7 +91,7 @@ impl Sheet {
     }
 
     /// Puts the line of an event, which has at most 69,632 words, each at a place below 69,632.
-    pub fn put_event(&mut self, event: &Event)
+    pub fn put_event(&mut self, event: &Event<'_>)
         requires room { length self.old.bytes ≤ self.old.limit }
         requires few { length (event_words event.now) ≤ 69632 }
         requires near { All (λ word. word.0 < 69632) (event_words event.now) }

@@ -1,4 +1,4 @@
-ghost use Rattle.std.specs.Prelude.{◌≡◌, ◌++◌, IfOk, IfSome, IsSome};
+ghost use Rattle.std.specs.Prelude.{◌≡◌, ◌++◌, reverse, IfOk, IfSome, IsSome};
 ghost use Rattle.gpu_store.specs.Images.{picture_of};
 ghost use Rattle.journal_text.specs.Text.{tally_of, journal_text, stream_text};
 ghost use Rattle.journal_text.specs.Picture.{image_text, picture_text};
@@ -9,22 +9,23 @@ use crate::other_lines::{OTHER, put_mark};
 use crate::picture_line::{HEAD, TEXEL, put_head, put_row};
 use crate::stream_line::{STREAM, put_stream};
 use crate::tally::Tally;
-use gpu_journal::{End, Event};
+use gpu_journal::{End, Journal};
 use gpu_store::Images;
 use gpu_word::Memory;
 use std::alloc::Global;
 use stream_state::StreamState;
 use sync_core::Ending;
 
-/// The text of some events: a line for each, in their order.
+/// The text of a journal: a line for each event, in their order.
 #[tactic(auto, unfolding(crate::specs::Text::journal_text))]
-pub fn journal_text(alloc: Global, events: &[Event]) -> Result<Vec<u8>, Memory>
-    ensures { IfOk result (λ text. text.items ≡ journal_text events.now) }
+pub fn journal_text(alloc: Global, journal: &Journal) -> Result<Vec<u8>, Memory>
+    ensures { IfOk result (λ text. text.items ≡ journal_text (reverse journal.now.events)) }
 {
     let mut text = Vec::new(alloc);
-    for event in events {
-        text.reserve(room_of(event).ok_or(Memory)?)?;
-        put_event(&mut text, event);
+    for index in 0..journal.count() {
+        let event = journal.event(index);
+        text.reserve(room_of(&event).ok_or(Memory)?)?;
+        put_event(&mut text, &event);
     }
     Ok(text)
 }

@@ -1,12 +1,10 @@
-ghost use Rattle.std.specs.Prelude.{◌≡◌, ◌≢◌, ◌≤◌, Ok, IfOk};
+ghost use Rattle.std.specs.Prelude.{◌≡◌, ◌≢◌, ◌≤◌, Ok};
 ghost use Rattle.gpu_cmd.specs.Lawful.{IsLawfulFacts};
 ghost use Rattle.gpu_cmd.specs.Checks.{headed};
 ghost use Rattle.stream_state.specs.Steps.{header_in};
 ghost use Rattle.journal_verify.specs.Copy.{is_row, transfer_read, entries_read, copy_read};
 
 use gpu_cmd::{CmdError, Command, Decoded, Shape, StreamFacts, decode, head};
-use gpu_word::copy_values;
-use std::alloc::AllocError;
 
 // The places of the words follow one another from this one on.
 fn follow(words: &[(u32, u32)], from: u32) -> bool
@@ -48,52 +46,46 @@ fn entries(
     words: &[(u32, u32)],
     facts: &StreamFacts,
     shape: Shape,
-    values: &mut Vec<u32>,
-) -> Result<Option<Result<Command, CmdError>>, AllocError>
+) -> Option<Result<Command, CmdError>>
     requires lawful { IsLawfulFacts facts.now }
     requires header { headed (header_in words.now) facts.now ≡ Ok shape }
     requires some { 1 ≤ shape.ring_words }
-    ensures { IfOk result (λ verdict. verdict ≡ entries_read words.now facts.now (Ok shape)) }
+    ensures { result ≡ entries_read words.now facts.now (Ok shape) }
 {
     let ring = shape.ring_words as usize;
     if words.len() < ring {
-        return Ok(None);
+        return None;
     }
     let (entries, more) = words.split_at(ring);
     if !follow(entries, facts.get) {
-        return Ok(None);
+        return None;
     }
-    copy_values(values, entries)?;
-    Ok(transfer(more, decode(values, facts)))
+    transfer(more, decode(entries, facts))
 }
 
-/// The verdict of checks 1 to 10 on words, where their places are those to be fetched. `values` is memory to work in.
+/// The verdict of checks 1 to 10 on words, where their places are those to be fetched.
 #[tactic(auto, unfolding(crate::specs::Copy::copy_read))]
-pub(crate) fn copy(
-    words: &[(u32, u32)],
-    facts: &StreamFacts,
-    values: &mut Vec<u32>,
-) -> Result<Option<Result<Command, CmdError>>, AllocError>
+pub(crate) fn copy(words: &[(u32, u32)], facts: &StreamFacts) -> Option<Result<Command, CmdError>>
     requires lawful { IsLawfulFacts facts.now }
     requires more { facts.now.get ≢ facts.now.put }
-    ensures { IfOk result (λ verdict. verdict ≡ copy_read words.now facts.now) }
+    ensures { result ≡ copy_read words.now facts.now }
 {
     if facts.put >= facts.areas.ring {
         if words.is_empty() {
-            return Ok(Some(Err(CmdError::OutOfBounds)));
+            return Some(Err(CmdError::OutOfBounds));
         }
-        return Ok(None);
+        return None;
     }
     if words.is_empty() || words[0].0 != facts.get {
-        return Ok(None);
+        return None;
     }
     match head(words[0].1, facts) {
-        Ok(shape) => entries(words, facts, shape, values),
+        Ok(shape) => entries(words, facts, shape),
         Err(error) => {
             if words.len() == 1 {
-                return Ok(Some(Err(error)));
+                return Some(Err(error));
             }
-            Ok(None)
+            None
         }
     }
 }

@@ -1,10 +1,10 @@
-ghost use Rattle.std.specs.Prelude.{◌≡◌, ℕ, ◌+◌, ◌<◌, ◌==◌, if◌then◌else◌, map, reverse, length, slice_index_or, IfOk};
+ghost use Rattle.std.specs.Prelude.{◌≡◌, ℕ, ◌+◌, ◌<◌, ◌==◌, if◌then◌else◌, map, length, slice_index_or, IfOk};
 ghost use Rattle.std.specs.List.{range_with_len};
 ghost use Rattle.gpu_journal.specs.declared.end.End.TheVariants.{Done};
 ghost use Rattle.gpu_journal.specs.Ended.{end_of};
 ghost use Rattle.journal_verify.specs.Ends.{end_after};
 
-use gpu_journal::{End, Event};
+use gpu_journal::{End, Event, Journal};
 use gpu_word::Memory;
 use std::alloc::Global;
 
@@ -24,7 +24,7 @@ fn set_end(ends: &mut [End], stream: u32, end: End)
 }
 
 // Writes down how an event ends its stream, where it does.
-fn note(ends: &mut [End], event: &Event)
+fn note(ends: &mut [End], event: &Event<'_>)
     ensures len { length ends.new ≡ length ends.old }
     ensures each { (k : ℕ) → k < length ends.old
         → slice_index_or ends.new k Done
@@ -39,13 +39,13 @@ fn note(ends: &mut [End], event: &Event)
 
 /// How each of a given number of streams ended, in one walk over the events from the oldest on.
 #[tactic(auto)]
-pub fn ends_of(alloc: Global, count: u32, events: &[Event]) -> Result<Vec<End>, Memory>
+pub fn ends_of(alloc: Global, count: u32, journal: &Journal) -> Result<Vec<End>, Memory>
     ensures { IfOk result (λ ends. ends.items
-        ≡ map (end_of (reverse events.now)) (range_with_len 1 count)) }
+        ≡ map (end_of journal.now.events) (range_with_len 1 count)) }
 {
     let mut ends = vec![in alloc; End::Done; count as usize]?;
-    for event in events {
-        note(&mut ends, event);
+    for index in 0..journal.count() {
+        note(&mut ends, &journal.event(index));
     }
     Ok(ends)
 }

@@ -52,7 +52,7 @@ fn first_dumped(alloc: Global, plans: &Plans) -> Result<Vec<Dumped>, Memory>
 }
 
 // The stream of an event.
-fn stream_of(event: &Event) -> u32
+fn stream_of(event: &Event<'_>) -> u32
     ensures { result ≡ stream_in event.now }
 {
     match event {
@@ -95,13 +95,8 @@ impl Followed {
         Ok(())
     }
 
-    /// The first rule that an event breaks. Where it breaks none, it is taken up. `values` is memory to work in.
-    pub(crate) fn take(
-        &mut self,
-        plans: &Plans,
-        event: &Event,
-        values: &mut Vec<u32>,
-    ) -> Result<Option<u32>, Memory>
+    /// The first rule that an event breaks. Where it breaks none, it is taken up.
+    pub(crate) fn take(&mut self, plans: &Plans, event: &Event<'_>) -> Result<Option<u32>, Memory>
         requires fits { FitsPlans plans.now self.old.judge }
         requires counted { CountsAtMost 4294967294 self.old.judge }
         requires streams { length self.old.dumped ≡ length plans.now.plans }
@@ -110,7 +105,7 @@ impl Followed {
             (λ fault. fault ≡ None → HasFollowed plans.now event.now self.old self.new) }
         ensures fits { OnOk result (FitsPlans plans.now self.new.judge) }
     {
-        match self.judge.enter(plans, event, values)? {
+        match self.judge.enter(plans, event)? {
             Ok(effect) => {
                 self.tell(stream_of(event), &effect)?;
                 Ok(None)

@@ -1,4 +1,4 @@
-ghost use Rattle.std.specs.Prelude.{◌≡◌, ◌+◌, ◌<◌, ◌^◌, length, IfOk, option_copied};
+ghost use Rattle.std.specs.Prelude.{◌≡◌, ◌+◌, ◌<◌, ◌^◌, length, option_copied};
 ghost use Rattle.gpu_cmd.specs.Lawful.{IsLawfulFacts};
 ghost use Rattle.sync_core.specs.Standing.{IsKnown};
 ghost use Rattle.journal_verify.specs.Kept.{JudgeData, watch_of};
@@ -11,7 +11,6 @@ use crate::watch::Watch;
 use gpu_cmd::{CmdError, Command, StreamFacts};
 use gpu_journal::put_at;
 use gpu_plan::Plans;
-use std::alloc::AllocError;
 use std::marker::Model;
 use step_parts::Scene;
 use stream_state::StreamState;
@@ -145,32 +144,26 @@ impl Judge {
     }
 
     // Rules 4 to 8 of words that are fetched, and the verdict on them.
-    pub(crate) fn fetch_outcome(
-        &self,
-        plans: &Plans,
-        s: u32,
-        words: &[(u32, u32)],
-        values: &mut Vec<u32>,
-    ) -> Result<Outcome, AllocError>
+    pub(crate) fn fetch_outcome(&self, plans: &Plans, s: u32, words: &[(u32, u32)]) -> Outcome
         requires fits { FitsPlans plans.now self.now }
-        ensures { IfOk result (λ outcome. outcome ≡ fetch_outcome plans.now self.now s words.now) }
+        ensures { result ≡ fetch_outcome plans.now self.now s words.now }
     {
         if self.scene.sync.front(s).is_none() {
-            return Ok(Outcome::Broken(4));
+            return Outcome::Broken(4);
         }
         if self.scene.sync.blocked(s) {
-            return Ok(Outcome::Broken(5));
+            return Outcome::Broken(5);
         }
         let facts = self.facts(plans, s);
         if facts.get == facts.put {
-            return Ok(Outcome::Broken(7));
+            return Outcome::Broken(7);
         }
-        let Some(verdict) = copy(words, &facts, values)? else {
-            return Ok(Outcome::Broken(7));
+        let Some(verdict) = copy(words, &facts) else {
+            return Outcome::Broken(7);
         };
         if !self.are_held(s, words) {
-            return Ok(Outcome::Broken(8));
+            return Outcome::Broken(8);
         }
-        Ok(self.judged(s, verdict))
+        self.judged(s, verdict)
     }
 }

@@ -72,7 +72,6 @@ impl Judge {
         plans: &Plans,
         s: u32,
         words: &[(u32, u32)],
-        values: &mut Vec<u32>,
     ) -> Result<Result<Effect, u32>, Memory>
         requires fits { FitsPlans plans.now self.old }
         ensures fault { IfOk result
@@ -84,7 +83,7 @@ impl Judge {
             (Event.Step s words.now) effect)) }
         ensures fits { OnOk result (FitsPlans plans.now self.new) }
     {
-        match self.fetch_outcome(plans, s, words, values)? {
+        match self.fetch_outcome(plans, s, words) {
             Outcome::Broken(rule) => Ok(Err(rule)),
             Outcome::Refused(_) => Ok(Err(9)),
             Outcome::Valid(command) => {
@@ -101,7 +100,6 @@ impl Judge {
         s: u32,
         error: CmdError,
         words: &[(u32, u32)],
-        values: &mut Vec<u32>,
     ) -> Result<Result<Effect, u32>, Memory>
         requires fits { FitsPlans plans.now self.old }
         ensures fault { IfOk result
@@ -113,7 +111,7 @@ impl Judge {
             (Event.Lost s (Why.Error error) words.now) effect)) }
         ensures fits { OnOk result (FitsPlans plans.now self.new) }
     {
-        match self.fetch_outcome(plans, s, words, values)? {
+        match self.fetch_outcome(plans, s, words) {
             Outcome::Broken(rule) => Ok(Err(rule)),
             Outcome::Valid(_) => Ok(Err(9)),
             Outcome::Refused(other) => {
@@ -183,12 +181,11 @@ impl Judge {
     }
 
     /// The first rule that an event breaks; or where it breaks none, it is taken up, and this is what it asks of the rest of
-    /// the service. `values` is memory to work in.
+    /// the service.
     pub(crate) fn enter(
         &mut self,
         plans: &Plans,
-        event: &Event,
-        values: &mut Vec<u32>,
+        event: &Event<'_>,
     ) -> Result<Result<Effect, u32>, Memory>
         requires fits { FitsPlans plans.now self.old }
         requires counted { CountsAtMost 4294967294 self.old }
@@ -205,23 +202,18 @@ impl Judge {
                 order,
                 place,
             } => self.order(plans, *stream, *order, *place),
-            Event::Step { stream, words } => self.step(plans, *stream, words.as_slice(), values),
+            Event::Step { stream, words } => self.step(plans, *stream, words.as_slice()),
             Event::Finish { stream, order } => self.finish(plans, *stream, *order),
             Event::Lost { stream, why, words } => match why {
-                Why::Error(error) => self.lose(plans, *stream, *error, words.as_slice(), values),
+                Why::Error(error) => self.lose(plans, *stream, *error, words.as_slice()),
                 Why::Memory => Ok(self.lose_for_memory(plans, *stream, words.as_slice())),
             },
             Event::Close { stream } => Ok(self.close(plans, *stream)),
         }
     }
 
-    /// The first rule that an event breaks. Where it breaks none, it is taken up. `values` is memory to work in.
-    pub(crate) fn take(
-        &mut self,
-        plans: &Plans,
-        event: &Event,
-        values: &mut Vec<u32>,
-    ) -> Result<Option<u32>, Memory>
+    /// The first rule that an event breaks. Where it breaks none, it is taken up.
+    pub(crate) fn take(&mut self, plans: &Plans, event: &Event<'_>) -> Result<Option<u32>, Memory>
         requires fits { FitsPlans plans.now self.old }
         requires counted { CountsAtMost 4294967294 self.old }
         ensures fault { IfOk result (λ fault. fault ≡ fault_of plans.now self.old event.now) }
@@ -229,7 +221,7 @@ impl Judge {
             (λ fault. fault ≡ None → HasEntered plans.now event.now self.old self.new) }
         ensures fits { OnOk result (FitsPlans plans.now self.new) }
     {
-        match self.enter(plans, event, values)? {
+        match self.enter(plans, event)? {
             Ok(_) => Ok(None),
             Err(rule) => Ok(Some(rule)),
         }

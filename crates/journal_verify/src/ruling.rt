@@ -1,9 +1,9 @@
-ghost use Rattle.std.specs.Prelude.{◌<◌, ◌^◌, length, IfOk, OnOk};
+ghost use Rattle.std.specs.Prelude.{◌<◌, ◌^◌, length, reverse, IfOk, OnOk};
 ghost use Rattle.journal_verify.specs.Followed.{NotesSum};
 ghost use Rattle.journal_verify.specs.Ruled.{Rules};
 
 use crate::followed::Followed;
-use gpu_journal::Event;
+use gpu_journal::Journal;
 use gpu_plan::Plans;
 use gpu_word::Memory;
 use serial_laws::plans_are_lawful;
@@ -47,20 +47,19 @@ fn note_wished(followed: &mut Followed, wishes: &[u32], events: u32) -> Result<(
 pub fn follow(
     alloc: Global,
     plans: &Plans,
-    events: &[Event],
+    journal: &Journal,
     wishes: &[u32],
 ) -> Result<Ruling, Memory>
-    requires { length events.now < 2 ^ 32 }
-    ensures { IfOk result (λ ruling. Rules plans.now events.now ruling) }
+    requires { length journal.now.events < 2 ^ 32 }
+    ensures { IfOk result (λ ruling. Rules plans.now (reverse journal.now.events) ruling) }
 {
     plans_are_lawful(plans);
     let mut followed = Followed::make(alloc, plans)?;
-    let mut values = Vec::new(alloc);
     note_wished(&mut followed, wishes, 0)?;
     let mut left = later(wishes, 0);
-    for (index, event) in events.iter().enumerate() {
+    for index in 0..journal.count() {
         let number = index as u32 + 1;
-        if let Some(rule) = followed.take(plans, event, &mut values)? {
+        if let Some(rule) = followed.take(plans, &journal.event(index))? {
             let event = number;
             return Ok(Ruling::No { event, rule });
         }

@@ -5,35 +5,35 @@ ghost use Rattle.run_output.specs.Parts.{LineHasRoom};
 
 use crate::lines::Lines;
 use crate::outcome::Outcome;
-use gpu_journal::Event;
+use gpu_journal::Journal;
 use journal_text::Sheet;
 
 /// The journal: a line for each event, in their order.
 #[derive(Drop)]
 pub(crate) struct EventLines<'a> {
-    pub(crate) events: &'a [Event],
-    ghost room: { All LineHasRoom events.now },
+    pub(crate) journal: &'a Journal,
+    ghost room: { All LineHasRoom (reverse journal.now.events) },
 }
 
 impl<'a> EventLines<'a> {
     /// The lines of a run's events.
     pub(crate) fn of(run: &'a Outcome) -> EventLines<'a>
-        ensures { result.events.now ≡ reverse run.now.report.past }
+        ensures { result.journal.now.events ≡ run.now.report.past }
     {
         EventLines {
-            events: run.report().journal().events(),
+            journal: run.report().journal(),
         }
     }
 }
 
 impl<'a> Lines for EventLines<'a> {
-    ghost lines = { λ e. map event_text e.events.now };
+    ghost lines = { λ e. map event_text (reverse e.journal.now.events) };
 
     fn count(&self) -> usize {
-        self.events.len()
+        self.journal.count()
     }
 
     fn make(&self, index: usize, sheet: &mut Sheet) {
-        sheet.put_event(&self.events[index]);
+        sheet.put_event(&self.journal.event(index));
     }
 }

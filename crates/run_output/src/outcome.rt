@@ -18,8 +18,7 @@ fn ends_in(alloc: Global, report: &Report) -> Result<Vec<End>, Memory>
     ensures { IfOk result (λ ends. ends.items
         ≡ map (end_of report.now.past) (streams_of report.now.plans)) }
 {
-    let count = report.plans().count();
-    ends_of(alloc, count, report.journal().events())
+    ends_of(alloc, report.plans().count(), report.journal())
 }
 
 // The lines of a run's events have room, and its streams are few.

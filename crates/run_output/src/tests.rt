@@ -1,4 +1,4 @@
-ghost use Rattle.std.specs.Prelude.{IfOk};
+ghost use Rattle.std.specs.Prelude.{reverse, IfOk};
 ghost use Rattle.std.specs.List.{All};
 ghost use Rattle.run_output.specs.Parts.{LineHasRoom};
 
@@ -6,7 +6,7 @@ use crate::event_lines::EventLines;
 use crate::page::Page;
 use crate::writing::write_all;
 use gpu_io::MemorySink;
-use gpu_journal::Event;
+use gpu_journal::{Event, Journal};
 use std::alloc::{AllocError, Global};
 use std::test::Fail;
 
@@ -36,14 +36,14 @@ fn a_front_stands_after_a_failed_write(rt: HostRuntime) -> Result<(), Fail> {
 
 // Three closes, whose lines have eight bytes each.
 #[tactic(auto, using(crate::proofs::Closing::close_pushed))]
-fn closes(alloc: Global) -> Result<Vec<Event>, Fail>
-    ensures { IfOk result (λ events. All LineHasRoom events.items) }
+fn closes(alloc: Global) -> Result<Journal, Fail>
+    ensures { IfOk result (λ journal. All LineHasRoom (reverse journal.events)) }
 {
-    let mut events = Vec::new(alloc);
+    let mut journal = Journal::make(alloc);
     for stream in 1..4u32 {
-        events.push(Event::Close { stream })?;
+        journal.add(Event::Close { stream })?;
     }
-    Ok(events)
+    Ok(journal)
 }
 
 // Notes what stands in a sink, and whether the call before went well.
@@ -55,8 +55,8 @@ fn note(trace: &mut Vec<u8>, sink: &MemorySink, done: bool) -> Result<(), AllocE
 
 // What stands in a sink, whose calls of these numbers fail, once a page of 16 bytes has put the lines of these events, and
 // once it has given the rest.
-fn put_and_given(alloc: Global, events: &[Event], fails: &[u32]) -> Result<Vec<u8>, Fail>
-    requires { All LineHasRoom events.now }
+fn put_and_given(alloc: Global, journal: &Journal, fails: &[u32]) -> Result<Vec<u8>, Fail>
+    requires { All LineHasRoom (reverse journal.now.events) }
 {
     let Ok(mut page) = Page::within(alloc, 16) else {
         return Err(Fail::from("memory is ample"));
@@ -66,7 +66,7 @@ fn put_and_given(alloc: Global, events: &[Event], fails: &[u32]) -> Result<Vec<u
         return Err(Fail::from("memory is ample"));
     };
     let mut trace = Vec::new(alloc);
-    let put = page.put_all(&mut sink, &EventLines { events }).is_ok();
+    let put = page.put_all(&mut sink, &EventLines { journal }).is_ok();
     note(&mut trace, &sink, put)?;
     let given = page.give(&mut sink).is_ok();
     note(&mut trace, &sink, given)?;
@@ -76,7 +76,7 @@ fn put_and_given(alloc: Global, events: &[Event], fails: &[u32]) -> Result<Vec<u
 // Lines that were put before a call that fails stand there, and the next call gives the rest.
 #[test]
 fn lines_are_gathered_before_they_are_written(rt: HostRuntime) -> Result<(), Fail> {
-    let events = closes(rt.alloc())?;
+    let journal = closes(rt.alloc())?;
     for (fails, want) in [
         (
             [9],
@@ -84,7 +84,7 @@ fn lines_are_gathered_before_they_are_written(rt: HostRuntime) -> Result<(), Fai
         ),
         ([2], b"close 1\nclose 2\n|close 1\nclose 2\n!".as_slice()),
     ] {
-        let trace = put_and_given(rt.alloc(), &events, &fails)?;
+        let trace = put_and_given(rt.alloc(), &journal, &fails)?;
         assert_eq!(rt; trace.as_slice(), want);
     }
     Ok(())

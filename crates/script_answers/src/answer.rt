@@ -1,4 +1,4 @@
-ghost use Rattle.std.specs.Prelude.{◌≡◌, true, false, IfOk, OnErr};
+ghost use Rattle.std.specs.Prelude.{◌≡◌, true, false, reverse, IfOk, OnErr};
 ghost use Rattle.std.specs.List.{list_any};
 ghost use Rattle.run_output.specs.Pieces.{Adds};
 ghost use Rattle.script_answers.specs.Answers.{answer_ending, answer_text};
@@ -8,7 +8,7 @@ ghost use Rattle.serial_laws.specs.Going.{is_memory_loss};
 
 use crate::status::Status;
 use gpu_io::{Failed, Sink};
-use gpu_journal::{Event, Why};
+use gpu_journal::{Event, Journal, Why};
 use run_output::{PictureOutput, RunOutput, write_all};
 
 /// An answer, with all memory that writing it takes.
@@ -25,7 +25,7 @@ pub enum Answer {
 }
 
 // Whether an event is a loss by an error.
-fn is_error_loss(event: &Event) -> bool
+fn is_error_loss(event: &Event<'_>) -> bool
     ensures { result ≡ is_error_loss event.now }
 {
     matches!(
@@ -38,7 +38,7 @@ fn is_error_loss(event: &Event) -> bool
 }
 
 // Whether an event is a loss as out of memory.
-fn wants_memory(event: &Event) -> bool
+fn wants_memory(event: &Event<'_>) -> bool
     ensures { result ≡ is_memory_loss event.now }
 {
     matches!(
@@ -51,24 +51,34 @@ fn wants_memory(event: &Event) -> bool
 }
 
 // Whether one of the events is a loss by an error.
-fn has_error_loss(events: &[Event]) -> bool
-    ensures { result ≡ list_any is_error_loss events.now }
+fn has_error_loss(journal: &Journal) -> bool
+    ensures { result ≡ list_any is_error_loss (reverse journal.now.events) }
 {
-    events.iter().any(is_error_loss)
+    for index in 0..journal.count() {
+        if is_error_loss(&journal.event(index)) {
+            return true;
+        }
+    }
+    false
 }
 
 // Whether one of the events is a loss as out of memory.
-fn has_memory_loss(events: &[Event]) -> bool
-    ensures { result ≡ list_any is_memory_loss events.now }
+fn has_memory_loss(journal: &Journal) -> bool
+    ensures { result ≡ list_any is_memory_loss (reverse journal.now.events) }
 {
-    events.iter().any(wants_memory)
+    for index in 0..journal.count() {
+        if wants_memory(&journal.event(index)) {
+            return true;
+        }
+    }
+    false
 }
 
 // How a run ends that prints these events.
-fn run_ending(events: &[Event]) -> Status
-    ensures { result ≡ run_ending events.now }
+fn run_ending(journal: &Journal) -> Status
+    ensures { result ≡ run_ending (reverse journal.now.events) }
 {
-    match (has_memory_loss(events), has_error_loss(events)) {
+    match (has_memory_loss(journal), has_error_loss(journal)) {
         (true, _) => Status::MemoryLost,
         (false, true) => Status::SomeLost,
         (false, false) => Status::Ok,
@@ -82,7 +92,7 @@ fn write_run<K: Sink>(run: RunOutput, sink: &mut K) -> Result<Status, Failed>
     ensures ending { IfOk result (λ ending. ending ≡ answer_ending (Answer.Ran run)) }
     ensures writing { tells_all (answer_ending (Answer.Ran run)) ≡ true }
 {
-    let ending = run_ending(run.report().journal().events());
+    let ending = run_ending(run.report().journal());
     run.write(sink)?;
     Ok(ending)
 }

@@ -23,12 +23,11 @@ pub fn trial_text(
     ensures { IfOk result (λ text. text.items
         ≡ line_text size seed journal.now.events images.now endings.now) }
 {
-    let events = journal.events();
     let mut text = Vec::new(alloc);
     push_count(&mut text, b"trial", size as usize)?;
     push_number(&mut text, seed as usize)?;
-    push_count(&mut text, b" events", events.len())?;
-    push_count(&mut text, b" lost", loss_count(events))?;
+    push_count(&mut text, b" events", journal.count())?;
+    push_count(&mut text, b" lost", loss_count(journal))?;
     push_count(&mut text, b" images", images.count() as usize)?;
     push_count(&mut text, b" endings", endings.len())?;
     text.extend_from_slice(b" sum ")?;

@@ -1,8 +1,9 @@
 -- What a command does to the state of its stream, and what it asks of the rest of the service.
-use Rattle.std.specs.Prelude.{ℕ, ◌+◌, ◌*◌, ◌/◌, ◌%◌, ◌^◌, max, Option, Some, None, option_map, unwrap_or, List, [], ◌∷◌, length, map, take, drop, slice_index}
+use Rattle.std.specs.Prelude.{ℕ, ◌+◌, ◌*◌, ◌/◌, ◌%◌, ◌^◌, max, Option, Some, None, option_map, unwrap_or, List, [], ◌∷◌, length, take, drop, slice_index}
 use Rattle.std.specs.Option.{option_map_or}
 use Rattle.gpu_word.specs.Header.{size_of, id_of}
 use Rattle.gpu_word.specs.Formats.{format_of}
+pub use Rattle.gpu_word.specs.Bytes.{values_of}
 use Rattle.gpu_word.specs.Bytes.{bytes_of}
 use Rattle.gpu_cmd.specs.declared.command.Command.{Command}
 use Rattle.gpu_cmd.specs.declared.command.Command.TheVariants.{Noop, SetToken, SetBucketSize, SetBucketData, SetBucketDataImmediate, GetBucketStart, GetBucketData, InsertFence, WaitToken, CreateImage, DeleteImage, ClearRect, CopyRect, UploadRect, UploadBucket, CreateBuffer, DeleteBuffer, BufferData, UploadBuffer, WaitSyncToken}
@@ -24,10 +25,6 @@ use Rattle.stream_state.specs.Writes.{Writes, words_written, with_write, after_w
 use Rattle.stream_state.specs.State.{State, first_state, noted}
 
 -- ---- the words of a step: its ring words, the header first, and then its transfer words
-
--- the values of the words, in their order
-abbrev pub values_of : List (ℕ × ℕ) → List ℕ
-values_of words = map (λ word. word.1) words
 
 -- the header of a command
 abbrev pub header_in : List (ℕ × ℕ) → ℕ

@@ -9,10 +9,13 @@ ghost use Rattle.stream_state.specs.Accepted.{HoldItsBytes, BringsItsTexels, tak
 use crate::effect::Effect;
 use crate::ops::{plain_op, upload};
 use crate::state::StreamState;
-use crate::words::transfer_bytes;
+use crate::words::{transfer_bytes, transfer_texels};
 use gpu_cmd::{Command, Name, texels_bytes};
 use gpu_store::{Op, Rect};
 use gpu_word::Memory;
+
+/// The number of the format whose texels are words.
+const WORDS: u32 = 1;
 
 /// A number of 64 bits of its two halves.
 pub fn joined(low: u32, high: u32) -> u64
@@ -119,6 +122,14 @@ impl StreamState {
                 ..
             } => {
                 let count = texels_bytes(w, h, format);
+                if format == WORDS && memory_offset % 4 == 0 {
+                    let texels = transfer_texels(self.alloc, words, count)?;
+                    return Ok(Some(Op::Upload {
+                        image,
+                        rect: Rect { x, y, w, h },
+                        texels,
+                    }));
+                }
                 let bytes = transfer_bytes(self.alloc, words, memory_offset, count)?;
                 let op = upload(self.alloc, image, Rect { x, y, w, h }, format, &bytes)?;
                 Ok(Some(op))

@@ -1,10 +1,11 @@
 //! The words of a step: its ring words, the header first, and then its transfer words.
-ghost use Rattle.std.specs.Prelude.{◌≡◌, ◌+◌, ◌-◌, ◌*◌, ◌≤◌, ◌<◌, length, take, drop, IfOk};
-ghost use Rattle.gpu_word.specs.Bytes.{bytes_of};
+ghost use Rattle.std.specs.Prelude.{◌≡◌, ◌-◌, ◌*◌, ◌%◌, ◌≤◌, ◌<◌, length, IfOk};
+ghost use Rattle.gpu_store.specs.Conversion.{texels_of};
 ghost use Rattle.stream_state.specs.Accepted.{HasTransfer};
 ghost use Rattle.stream_state.specs.Steps.{ring_words_in, transfer_bytes, immediate_bytes};
 
-use gpu_word::{Memory, bytes_of, split, values_of};
+use gpu_store::{Texels, unpack_words};
+use gpu_word::{Memory, bytes_of, split};
 use std::alloc::Global;
 
 /// How many bytes a word has.
@@ -12,17 +13,6 @@ const WORD_BYTES: u32 = 4;
 
 /// The ring words before the data entries of SetBucketDataImmediate: the header and three arguments.
 const WORDS_BEFORE_DATA: usize = 4;
-
-// A given number of bytes from an offset on of values.
-#[tactic(auto, using(crate::proofs::Counts::bytes_counted))]
-fn some_bytes(alloc: Global, values: &[u32], from: usize, count: usize) -> Result<Vec<u8>, Memory>
-    requires { from + count ≤ 4 * length values.now }
-    ensures bytes { IfOk result
-        (λ bytes. bytes.items ≡ take count (drop from (bytes_of values.now))) }
-    ensures count { IfOk result (λ bytes. length bytes.items ≡ count) }
-{
-    bytes_of(alloc, values, from, count)
-}
 
 // How many of the words are ring words: of a Noop, whose id is 0, its header alone.
 fn ring_words(words: &[(u32, u32)]) -> usize
@@ -53,13 +43,29 @@ pub fn transfer_bytes(
         return Ok(Vec::new(alloc));
     }
     let (_, transfer) = words.split_at(ring_words(words));
-    let values = values_of(alloc, transfer)?;
-    some_bytes(
+    bytes_of(
         alloc,
-        &values,
+        transfer,
         (offset % WORD_BYTES) as usize,
         count as usize,
     )
+}
+
+/// The texels whose bytes are a given number of bytes of the transfer words of a step, from the start of the first word on, four
+/// for each texel.
+pub fn transfer_texels(alloc: Global, words: &[(u32, u32)], count: u128) -> Result<Texels, Memory>
+    requires transfer { HasTransfer words.now 0 count }
+    requires whole { count % 4 ≡ 0 }
+    ensures texels { IfOk result
+        (λ texels. texels ≡ texels_of Format.Rgba8 (transfer_bytes words.now 0 count)) }
+    ensures count { IfOk result (λ texels. 4 * length texels ≡ count) }
+{
+    if count == 0 {
+        return Ok(Texels::of(Vec::new(alloc)));
+    }
+    let (_, transfer) = words.split_at(ring_words(words));
+    let (front, _) = transfer.split_at(count as usize / 4);
+    unpack_words(alloc, front)
 }
 
 /// The first bytes of the data entries of a SetBucketDataImmediate.
@@ -70,6 +76,5 @@ pub fn immediate_bytes(alloc: Global, words: &[(u32, u32)], count: usize) -> Res
     ensures count { IfOk result (λ bytes. length bytes.items ≡ count) }
 {
     let (_, data) = words.split_at(words.len().min(WORDS_BEFORE_DATA));
-    let values = values_of(alloc, data)?;
-    some_bytes(alloc, &values, 0, count)
+    bytes_of(alloc, data, 0, count)
 }

@@ -1,5 +1,5 @@
 -- How lines that are due are taken off what is left of an output.
-use Rattle.std.specs.Prelude.{◌≡◌, ℕ, ◌+◌, ◌≤◌, ◌<◌, ◌^◌, ◌==◌, if◌then◌else◌, Bool, true, false, map, reverse, List, length, Result, OnOk, IfErr}
+use Rattle.std.specs.Prelude.{◌≡◌, ℕ, ◌+◌, ◌≤◌, ◌<◌, ◌^◌, ◌==◌, if◌then◌else◌, Bool, true, false, map, List, length, Result, OnOk, IfErr}
 use Rattle.gpu_plan.specs.Plans.{PlansData}
 use Rattle.gpu_journal.specs.declared.event.Event.{Event}
 use Rattle.gpu_journal.specs.declared.end.End.{End}
@@ -36,14 +36,14 @@ pub record Judges {T : Type 0} (p : PlansData) (h : List Event) (dues : List Due
 
 -- the events, the newest first
 abbrev pub past_of : History → List Event
-past_of history = reverse history.events.now
+past_of history = history.journal.now.events
 
 -- what is kept is what the events leave, which are a legal and complete history of the plans
 pub record IsHistory (history : History) : Type 0 where
   pub whole : IsWholeHistory history.plans.now (past_of history)
   pub followed : IsFollowed history.plans.now (past_of history) history.followed.now
   pub ends : history.ends.now ≡ map (end_of (past_of history)) (streams_of history.plans.now)
-  pub few : length history.events.now < 2 ^ 32
+  pub few : length history.journal.now.events < 2 ^ 32
 
 -- a look of so many events, at least a given number and at most all, has this sum
 pub record IsLook (p : PlansData) (h : List Event) (least : ℕ) (look : ℕ × ℕ) : Type 0 where

@@ -7,7 +7,6 @@ use crate::word::words;
 use gpu_cmd::CmdError;
 use gpu_journal::{Event, Why};
 use gpu_word::{Memory, Words};
-use std::alloc::Global;
 
 // Why a stream was lost: a word that is `memory` or the number of an error.
 fn why(word: &[u8]) -> Option<Why>
@@ -32,7 +31,7 @@ fn why(word: &[u8]) -> Option<Why>
 
 // The pieces after `order`.
 #[tactic(auto, unfolding(crate::specs::Said::order_said))]
-fn order(mut pieces: Pieces<'_>) -> Option<Event>
+fn order<'a>(mut pieces: Pieces<'_>) -> Option<Event<'a>>
     ensures { result ≡ order_said (pieces_of pieces.entry.rest.now) }
 {
     let (Some(s), Some(n), Some(c), None) = (
@@ -55,11 +54,10 @@ fn order(mut pieces: Pieces<'_>) -> Option<Event>
 
 // The pieces after `step`.
 #[tactic(auto, unfolding(crate::specs::Said::step_said))]
-fn step(
-    alloc: Global,
-    room: &mut Vec<(u32, u32)>,
+fn step<'a>(
+    room: &'a mut Vec<(u32, u32)>,
     mut pieces: Pieces<'_>,
-) -> Result<Option<Event>, Memory>
+) -> Result<Option<Event<'a>>, Memory>
     ensures { IfOk result (λ said. said ≡ step_said (pieces_of pieces.entry.rest.now)) }
 {
     let Some(s) = pieces.next() else {
@@ -68,7 +66,7 @@ fn step(
     let Some(stream) = own_number(s) else {
         return Ok(None);
     };
-    match words(alloc, room, pieces)? {
+    match words(room, pieces)? {
         Some(words) => Ok(Some(Event::Step { stream, words })),
         None => Ok(None),
     }
@@ -76,7 +74,7 @@ fn step(
 
 // The pieces after `finish`.
 #[tactic(auto, unfolding(crate::specs::Said::finish_said))]
-fn finish(mut pieces: Pieces<'_>) -> Option<Event>
+fn finish<'a>(mut pieces: Pieces<'_>) -> Option<Event<'a>>
     ensures { result ≡ finish_said (pieces_of pieces.entry.rest.now) }
 {
     let (Some(s), Some(n), None) = (pieces.next(), pieces.next(), pieces.next()) else {
@@ -88,7 +86,7 @@ fn finish(mut pieces: Pieces<'_>) -> Option<Event>
 }
 
 // A loss with these words: one as out of memory has none.
-fn lost_with(stream: u32, why: Why, words: Words) -> Option<Event>
+fn lost_with<'a>(stream: u32, why: Why, words: Words<'a>) -> Option<Event<'a>>
     ensures { result ≡ lost_with stream why words }
 {
     match why {
@@ -104,11 +102,10 @@ fn lost_with(stream: u32, why: Why, words: Words) -> Option<Event>
 
 // The pieces after `lost`.
 #[tactic(auto, unfolding(crate::specs::Said::lost_said))]
-fn lost(
-    alloc: Global,
-    room: &mut Vec<(u32, u32)>,
+fn lost<'a>(
+    room: &'a mut Vec<(u32, u32)>,
     mut pieces: Pieces<'_>,
-) -> Result<Option<Event>, Memory>
+) -> Result<Option<Event<'a>>, Memory>
     ensures { IfOk result (λ said. said ≡ lost_said (pieces_of pieces.entry.rest.now)) }
 {
     let (Some(s), Some(w)) = (pieces.next(), pieces.next()) else {
@@ -117,7 +114,7 @@ fn lost(
     let (Some(stream), Some(why)) = (own_number(s), why(w)) else {
         return Ok(None);
     };
-    match words(alloc, room, pieces)? {
+    match words(room, pieces)? {
         Some(words) => Ok(lost_with(stream, why, words)),
         None => Ok(None),
     }
@@ -125,7 +122,7 @@ fn lost(
 
 // The pieces after `close`.
 #[tactic(auto, unfolding(crate::specs::Said::close_said))]
-fn close(mut pieces: Pieces<'_>) -> Option<Event>
+fn close<'a>(mut pieces: Pieces<'_>) -> Option<Event<'a>>
     ensures { result ≡ close_said (pieces_of pieces.entry.rest.now) }
 {
     let (Some(s), None) = (pieces.next(), pieces.next()) else {
@@ -137,22 +134,21 @@ fn close(mut pieces: Pieces<'_>) -> Option<Event>
 
 // What a first word says with the pieces after it.
 #[tactic(auto, unfolding(crate::specs::Said::said_by))]
-fn said_by(
-    alloc: Global,
-    room: &mut Vec<(u32, u32)>,
+fn said_by<'a>(
+    room: &'a mut Vec<(u32, u32)>,
     keyword: &[u8],
     pieces: Pieces<'_>,
-) -> Result<Option<Event>, Memory>
+) -> Result<Option<Event<'a>>, Memory>
     ensures { IfOk result (λ said. said ≡ said_by keyword.now (pieces_of pieces.entry.rest.now)) }
 {
     if keyword == b"step".as_slice() {
-        step(alloc, room, pieces)
+        step(room, pieces)
     } else if keyword == b"order".as_slice() {
         Ok(order(pieces))
     } else if keyword == b"finish".as_slice() {
         Ok(finish(pieces))
     } else if keyword == b"lost".as_slice() {
-        lost(alloc, room, pieces)
+        lost(room, pieces)
     } else if keyword == b"close".as_slice() {
         Ok(close(pieces))
     } else {
@@ -160,15 +156,14 @@ fn said_by(
     }
 }
 
-/// The event whose line this is, without its line feed. `room` is memory to work in.
+/// The event whose line this is, without its line feed. Its words lie in `room`.
 #[tactic(auto, unfolding(crate::specs::Said::line_said))]
-pub(crate) fn event(
-    alloc: Global,
-    room: &mut Vec<(u32, u32)>,
+pub(crate) fn event<'a>(
+    room: &'a mut Vec<(u32, u32)>,
     line: &[u8],
-) -> Result<Option<Event>, Memory>
+) -> Result<Option<Event<'a>>, Memory>
     ensures { IfOk result (λ said. said ≡ line_said line.now) }
 {
     let (keyword, pieces) = first_piece(line);
-    said_by(alloc, room, keyword, pieces)
+    said_by(room, keyword, pieces)
 }

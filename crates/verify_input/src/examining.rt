@@ -1,4 +1,4 @@
-ghost use Rattle.std.specs.Prelude.{◌+◌, ◌<◌, ◌≤◌, ◌^◌, length, IfOk};
+ghost use Rattle.std.specs.Prelude.{◌+◌, ◌<◌, ◌≤◌, ◌^◌, length, reverse, IfOk};
 ghost use Rattle.verify_input.specs.Reading.{whole_lines};
 ghost use Rattle.verify_input.specs.Parts.{before};
 ghost use Rattle.verify_input.specs.Found.{Finds};
@@ -9,22 +9,22 @@ use crate::cut::cut_at_border;
 use crate::fault::JournalFault;
 use crate::finding::Finding;
 use crate::heading::read_behind_head;
-use gpu_journal::Event;
+use gpu_journal::Journal;
 use gpu_plan::{Plans, ScriptFault, parse};
 use gpu_word::Memory;
 use journal_verify::{Verdict, verify};
 use std::alloc::Global;
-use std::mem;
 
 // The verdict on events.
-fn judge(alloc: Global, plans: &Plans, events: &[Event]) -> Result<Finding, Memory>
-    requires { length events.now < 2 ^ 32 }
-    ensures { IfOk result (λ finding. FindsOf plans.now events.now finding) }
+fn judge(alloc: Global, plans: &Plans, journal: &Journal) -> Result<Finding, Memory>
+    requires { length journal.now.events < 2 ^ 32 }
+    ensures { IfOk result
+        (λ finding. FindsOf plans.now (reverse journal.now.events) finding) }
 {
-    match verify(alloc, plans, events)? {
+    match verify(alloc, plans, journal)? {
         Verdict::Yes(images) => Ok(Finding::Yes {
             images,
-            events: events.len() as u32,
+            events: journal.count() as u32,
         }),
         Verdict::No { event, rule } => Ok(Finding::No { event, rule }),
         Verdict::NotComplete => Ok(Finding::NotComplete),
@@ -39,12 +39,7 @@ fn examine_journal(alloc: Global, plans: &Plans, lines: u32, text: &[u8]) -> Res
 {
     let cut = cut_at_border(text, Border::Journal);
     match read_behind_head(alloc, plans, cut.part) {
-        Ok(events) => {
-            let finding = judge(alloc, plans, events.as_slice());
-            // The program ends with the finding, so the many lists of words are not given back one by one.
-            mem::forget(events);
-            finding
-        }
+        Ok(journal) => judge(alloc, plans, &journal),
         Err(JournalFault::Refused { line }) => Ok(Finding::NoJournal {
             line: lines + 1 + line,
         }),

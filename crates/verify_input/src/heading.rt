@@ -1,4 +1,4 @@
-ghost use Rattle.std.specs.Prelude.{◌<◌, ◌≤◌, ◌^◌, length, IfOk, IfErr};
+ghost use Rattle.std.specs.Prelude.{◌<◌, ◌≤◌, ◌^◌, length, reverse, IfOk, IfErr};
 ghost use Rattle.verify_input.specs.Reading.{whole_lines};
 ghost use Rattle.verify_input.specs.Found.{head_of, TellsBehind, IsOtherAt};
 
@@ -6,7 +6,7 @@ use crate::fault::JournalFault;
 use crate::reading::read_journal;
 use crate::rest::{Bad, Rest};
 use crate::sections::take_names;
-use gpu_journal::Event;
+use gpu_journal::Journal;
 use gpu_plan::Plans;
 use journal_text::Line;
 use std::alloc::Global;
@@ -18,11 +18,12 @@ pub(crate) fn read_behind_head(
     alloc: Global,
     plans: &Plans,
     text: &[u8],
-) -> Result<Vec<Event>, JournalFault>
+) -> Result<Journal, JournalFault>
     requires { length text.now ≤ 16777216 }
     ensures ok { IfOk result
-        (λ events. TellsBehind (head_of plans.now) (whole_lines text.now) events.items) }
-    ensures few { IfOk result (λ events. length events.items < 2 ^ 32) }
+        (λ journal. TellsBehind (head_of plans.now) (whole_lines text.now)
+        (reverse journal.events)) }
+    ensures few { IfOk result (λ journal. length journal.events < 2 ^ 32) }
     ensures err { IfErr result
         (λ fault. IsOtherAt (head_of plans.now) (whole_lines text.now) fault) }
 {
@@ -34,7 +35,7 @@ pub(crate) fn read_behind_head(
         Err(Bad::Memory) => return Err(JournalFault::Memory),
     }
     match read_journal(alloc, rest.text) {
-        Ok(events) => Ok(events),
+        Ok(journal) => Ok(journal),
         Err(JournalFault::Refused { line }) => Err(JournalFault::Refused {
             line: rest.line - 1 + line,
         }),

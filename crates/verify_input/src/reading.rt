@@ -1,9 +1,9 @@
-ghost use Rattle.std.specs.Prelude.{◌≡◌, ◌+◌, ◌≤◌, ◌∷◌, ◌++◌, length, IfOk, IfErr, IfSome, MatchOption};
+ghost use Rattle.std.specs.Prelude.{◌≡◌, ◌+◌, ◌≤◌, ◌∷◌, ◌++◌, length, reverse, IfOk, IfErr, IfSome, MatchOption};
 ghost use Rattle.verify_input.specs.Reading.{HasNoFeed, IsJournal, IsFault};
 
 use crate::event::event;
 use crate::fault::JournalFault;
-use gpu_journal::Event;
+use gpu_journal::Journal;
 use script_lines::{cut_at, line_end};
 use std::alloc::Global;
 
@@ -21,24 +21,24 @@ fn first_line(text: &[u8]) -> Option<(&[u8], &[u8])>
 /// The events of a journal text, which has at most 16,777,216 bytes.
 ///
 /// Refused: the first line that is no event line in its exact spelling with a line feed, of numbers of 32 bits.
-pub fn read_journal(alloc: Global, text: &[u8]) -> Result<Vec<Event>, JournalFault>
+pub fn read_journal(alloc: Global, text: &[u8]) -> Result<Journal, JournalFault>
     requires { length text.now ≤ 16777216 }
-    ensures ok { IfOk result (λ events. IsJournal text.now events.items) }
+    ensures ok { IfOk result (λ journal. IsJournal text.now (reverse journal.events)) }
     ensures err { IfErr result (λ fault. IsFault text.now fault) }
 {
-    let mut events = Vec::new(alloc);
+    let mut journal = Journal::make(alloc);
     let mut room = Vec::new(alloc);
     let mut rest = text;
     while !rest.is_empty() {
-        let line = events.len() as u32 + 1;
+        let line = journal.count() as u32 + 1;
         let Some((front, behind)) = first_line(rest) else {
             return Err(JournalFault::Refused { line });
         };
-        let Some(said) = event(alloc, &mut room, front)? else {
+        let Some(said) = event(&mut room, front)? else {
             return Err(JournalFault::Refused { line });
         };
-        events.push(said)?;
+        journal.add(said)?;
         rest = behind;
     }
-    Ok(events)
+    Ok(journal)
 }

@@ -20,7 +20,7 @@ use crate::looks::LOOKS;
 use crate::reading_lines::{first_look, value_before_end};
 use crate::rest::{Bad, Rest};
 use crate::what::What;
-use gpu_journal::{End, Event, replay};
+use gpu_journal::{End, Journal, replay};
 use gpu_plan::{Action, Plans};
 use gpu_store::{Images, texel_sum};
 use gpu_word::Memory;
@@ -34,7 +34,7 @@ use wait_hooks::mark;
 #[derive(Clone, Copy)]
 pub(crate) struct History<'a> {
     pub(crate) plans: &'a Plans,
-    pub(crate) events: &'a [Event],
+    pub(crate) journal: &'a Journal,
     pub(crate) followed: &'a Followed,
     pub(crate) ends: &'a [End],
 }
@@ -260,14 +260,13 @@ pub(crate) fn take_dumps(
 // The sum of all texels after a number of events.
 fn sum_after(alloc: Global, history: History<'_>, events: u32) -> Result<u32, Memory>
     requires history { IsHistory history }
-    requires few { events ≤ length history.events.now }
+    requires few { events ≤ length history.journal.now.events }
     ensures { IfOk result (λ sum. sum ≡ sum_after history.entry.plans.now (past_of history.entry) events) }
 {
     if let Some(sum) = history.followed.sum_after(events) {
         return Ok(sum);
     }
-    let (first, _) = history.events.split_at(events as usize);
-    let images = replay(alloc, history.plans, first)?;
+    let images = replay(alloc, history.plans, history.journal, events as usize)?;
     Ok(texel_sum(&images))
 }
 
@@ -285,7 +284,7 @@ fn may_be_seen(
     if events < least {
         return Ok(false);
     }
-    if events as usize > history.events.len() {
+    if events as usize > history.journal.count() {
         return Ok(false);
     }
     let found = sum_after(alloc, history, events)?;
@@ -332,7 +331,7 @@ fn take_last_look(
     ensures err { IfErr result (λ bad. (least : ℕ) → IsBad history.entry.plans.now (past_of history.entry)
         (Due.LastLook viewer ∷ []) least rest.old bad) }
 {
-    let all = history.events.len() as u32;
+    let all = history.journal.count() as u32;
     take_look(alloc, rest, line, history, viewer, all)?;
     Ok(())
 }

@@ -1,5 +1,5 @@
 //! A whole output: the names, the journal, and all lines after it.
-ghost use Rattle.std.specs.Prelude.{◌≡◌, ◌+◌, ◌<◌, ◌≤◌, ◌^◌, length, drop, IfOk};
+ghost use Rattle.std.specs.Prelude.{◌≡◌, ◌+◌, ◌<◌, ◌≤◌, ◌^◌, length, drop, reverse, IfOk};
 ghost use Rattle.verify_input.specs.Reading.{whole_lines};
 ghost use Rattle.verify_input.specs.Due.{dues};
 ghost use Rattle.verify_input.specs.Taking.{IsHistory, JudgesAll, past_of};
@@ -15,7 +15,7 @@ use crate::rest::{Bad, Rest};
 use crate::sections::{
     History, take_dumps, take_images, take_marks, take_names, take_streams, take_viewers,
 };
-use gpu_journal::Event;
+use gpu_journal::Journal;
 use gpu_plan::{Plans, ScriptFault, parse};
 use gpu_word::Memory;
 use journal_text::Line;
@@ -48,33 +48,33 @@ fn take_rest(
 fn judge_all(
     alloc: Global,
     plans: &Plans,
-    events: &[Event],
+    journal: &Journal,
     rest: Rest<'_>,
     line: &mut Line,
     base: u32,
 ) -> Result<Finding, Memory>
-    requires { length events.now < 2 ^ 32 }
-    ensures { IfOk result (λ finding. FindsAll plans.now base events.now
+    requires { length journal.now.events < 2 ^ 32 }
+    ensures { IfOk result (λ finding. FindsAll plans.now base (reverse journal.now.events)
         (whole_lines rest.entry.text.now) rest.entry.line finding) }
 {
     let mut rest = rest;
     let views = view_lines(alloc, rest.text)?;
-    let followed = match follow(alloc, plans, events, &views.events)? {
+    let followed = match follow(alloc, plans, journal, &views.events)? {
         Ruling::Whole(followed) => followed,
         Ruling::No { event, rule } => return Ok(Finding::No { event, rule }),
         Ruling::NotComplete => return Ok(Finding::NotComplete),
     };
-    let ends = ends_of(alloc, plans.count(), events)?;
+    let ends = ends_of(alloc, plans.count(), journal)?;
     let history = History {
         plans,
-        events,
+        journal,
         followed: &followed,
         ends: ends.as_slice(),
     };
     match take_rest(alloc, &mut rest, line, history, base, views.viewers) {
         Ok(()) => Ok(Finding::Yes {
             images: followed.into_images(),
-            events: events.len() as u32,
+            events: journal.count() as u32,
         }),
         Err(Bad::Off { line, what }) => Ok(Finding::Differs { line, what }),
         Err(Bad::Memory) => Err(Memory),
@@ -117,8 +117,8 @@ fn examine_output(
         Err(Bad::Memory) => return Err(Memory),
     }
     let cut = cut_at_border(rest.text, Border::Journal);
-    let events = match read_journal(alloc, cut.part) {
-        Ok(events) => events,
+    let journal = match read_journal(alloc, cut.part) {
+        Ok(journal) => journal,
         Err(JournalFault::Refused { line }) => {
             return Ok(Finding::NoJournal {
                 line: rest.line - 1 + line,
@@ -127,7 +127,7 @@ fn examine_output(
         Err(JournalFault::Memory) => return Err(Memory),
     };
     let after = after_part(rest, cut.part, cut.lines);
-    judge_all(alloc, plans, events.as_slice(), after, &mut line, base)
+    judge_all(alloc, plans, &journal, after, &mut line, base)
 }
 
 /// The verdict on an input of at most 16,777,216 bytes: a script, a line whose only word is `journal`, and a whole output with

@@ -3,11 +3,11 @@ ghost use Rattle.std.specs.Bool.{Decides};
 ghost use Rattle.verify_input.specs.Said.{pieces_of, words_said};
 ghost use Rattle.verify_input.specs.Fronts.{is_colon, IsCut, HasValue, HasNoValue, HasWord, HasNoWord};
 
-use crate::number::{own_number, own_value};
+use crate::number::{own_value, short_number};
 use crate::pieces::Pieces;
-use gpu_word::{Memory, Words};
+use gpu_word::Words;
 use script_lines::cut_at;
-use std::alloc::{AllocError, Global};
+use std::alloc::AllocError;
 
 // The place of the first colon.
 fn colon_in(text: &[u8]) -> Option<usize>
@@ -65,7 +65,7 @@ fn word_at(text: &[u8], colon: usize) -> Option<((u32, u32), &[u8])>
         (λ front. HasWord text.now front.0 front.1.now) }
 {
     let (digits, behind) = cut_at(text, colon);
-    let place = own_number(digits)?;
+    let place = short_number(digits)?;
     let (value, rest) = first_value(behind)?;
     Some(((place, value), rest))
 }
@@ -104,16 +104,15 @@ fn collect_words(words: &mut Vec<(u32, u32)>, pieces: Pieces<'_>) -> Result<bool
     Ok(true)
 }
 
-/// The words that all pieces say, if each is a word. `room` is memory to work in.
-pub(crate) fn words(
-    alloc: Global,
-    room: &mut Vec<(u32, u32)>,
+/// The words that all pieces say, if each is a word. They lie in `room`.
+pub(crate) fn words<'a>(
+    room: &'a mut Vec<(u32, u32)>,
     pieces: Pieces<'_>,
-) -> Result<Option<Words>, Memory>
+) -> Result<Option<Words<'a>>, AllocError>
     ensures { IfOk result (λ said. said ≡ words_said (pieces_of pieces.entry.rest.now)) }
 {
     if collect_words(room, pieces)? {
-        Ok(Some(Words::of(alloc, room)?))
+        Ok(Some(Words::of(room)))
     } else {
         Ok(None)
     }

@@ -43,7 +43,7 @@ fn flush_of(alloc: Global, noops: usize, entries: &str, count: usize) -> Result<
 // Whether batches were of these sizes, and drew a given number of operations.
 fn were_taken(pace: &Pace, sizes: &[usize], draws: usize) -> bool {
     match pace {
-        Pace::Single => false,
+        Pace::Single { .. } => false,
         Pace::Batched {
             sizes: taken,
             drawn,
@@ -54,7 +54,7 @@ fn were_taken(pace: &Pace, sizes: &[usize], draws: usize) -> bool {
 // Whether a flush is taken in batches of these sizes, which draw a given number of operations, with the output that the
 // same commands give one by one.
 fn is_taken_in(alloc: Global, script: &str, sizes: &[usize], draws: usize) -> Result<bool, Fail> {
-    let one_by_one = stirred(alloc, script, &[], &mut Pace::Single)?;
+    let one_by_one = stirred(alloc, script, &[], &mut Pace::single(alloc))?;
     let mut pace = Pace::batched(alloc);
     let batched = stirred(alloc, script, &[], &mut pace)?;
     let same = output_of(alloc, &one_by_one)?.as_slice() == output_of(alloc, &batched)?.as_slice();

@@ -36,7 +36,7 @@ fn areas_lie_end_to_end(rt: HostRuntime) {
 #[test]
 fn words_say_their_command(rt: HostRuntime) {
     // Words after the ring words are not looked at, nor are checks made: no image has a side of 0.
-    let words = [0x2040_0004, 7, 0, 9, 5];
+    let words = [(0, 0x2040_0004), (1, 7), (2, 0), (3, 9), (4, 5)];
     let create = Command::CreateImage {
         image: 7,
         width: 0,
@@ -44,5 +44,5 @@ fn words_say_their_command(rt: HostRuntime) {
     };
     assert_eq!(rt; command_of(&words), Some(create));
     assert_eq!(rt; command_of(&words[..3]), None);
-    assert_eq!(rt; command_of(&[0x7000_0001]), None);
+    assert_eq!(rt; command_of(&[(0, 0x7000_0001)]), None);
 }

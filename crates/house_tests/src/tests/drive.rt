@@ -6,7 +6,7 @@ ghost use Rattle.gpu_house.specs.Names.{table_at};
 ghost use Rattle.gpu_house.specs.Slots.{slot_at};
 ghost use Rattle.house_tests.specs.Alone.{ordered, IsHome, IsOutAlone};
 
-use gpu_fetch::ServiceSide;
+use gpu_fetch::{Fetched, SeenFacts, ServiceSide};
 use gpu_house::{House, Naming, Next, Run};
 use gpu_store::Op;
 use gpu_word::Memory;
@@ -20,13 +20,20 @@ const MOST_TURNS: u32 = 80;
 /// How a run takes the commands of its flush.
 #[derive(Drop)]
 pub enum Pace {
-    /// One by one.
-    Single,
+    /// One by one, with the words of the latest.
+    Single { list: Vec<(u32, u32)> },
     /// In batches: of how many commands each was, and what they drew.
     Batched { sizes: Vec<usize>, drawn: Vec<Op> },
 }
 
 impl Pace {
+    // One by one.
+    pub fn single(alloc: Global) -> Pace {
+        Pace::Single {
+            list: Vec::new(alloc),
+        }
+    }
+
     // In batches.
     pub fn batched(alloc: Global) -> Pace {
         Pace::Batched {
@@ -65,6 +72,7 @@ fn turn<N: Naming, P: ServiceSide, H: Hook>(
     house: &mut House<N, P, H>,
     words: &P::Words,
     mut run: Run<N, P>,
+    list: &mut Vec<(u32, u32)>,
 ) -> Result<Option<Run<N, P>>, Memory>
     requires { IsOutAlone P.belongs P.note_belongs P.results_belong P.side words.now house.old run }
     ensures { IfOk result (λ left. IfSome left
@@ -74,11 +82,13 @@ fn turn<N: Naming, P: ServiceSide, H: Hook>(
         house.finish(run, words);
         return Ok(None);
     }
-    let Ok(fetched) = run.fetch(words) else {
+    let facts = SeenFacts::of(run.facts());
+    let Ok(verdict) = run.fetch(words, list) else {
         house.lose(run);
         return Err(Memory);
     };
-    let Ok(progress) = house.step(&mut run, words, fetched) else {
+    let fetched = Fetched::of(list, &verdict, facts);
+    let Ok(progress) = house.step(&mut run, words, &fetched) else {
         house.lose(run);
         return Err(Memory);
     };
@@ -112,7 +122,7 @@ fn turn_batch<N: Naming, P: ServiceSide, H: Hook>(
         house.lose(run);
         return Err(Memory);
     };
-    if sizes.push(batch.members().len()).is_err() {
+    if sizes.push(batch.count()).is_err() {
         house.lose(run);
         return Err(Memory);
     }
@@ -142,7 +152,7 @@ fn turn_by<N: Naming, P: ServiceSide, H: Hook>(
         (IsOutAlone P.belongs P.note_belongs P.results_belong P.side words.now house.new)) }
 {
     match pace {
-        Pace::Single => turn(house, words, run),
+        Pace::Single { list } => turn(house, words, run, list),
         Pace::Batched { sizes, drawn } => turn_batch(house, words, run, sizes, drawn),
     }
 }

@@ -280,7 +280,7 @@ fn driven(alloc: Global, before: Before) -> Result<Report, Fail> {
 
 // Whether the journal tells of the loss, and stream 2 alone did all.
 fn tells_the_loss(alloc: Global, report: &Report) -> Result<bool, Fail> {
-    let text = journal_text(alloc, report.journal().events())?;
+    let text = journal_text(alloc, report.journal())?;
     if report.plans().count() != 2 {
         return Err("two streams".into());
     }

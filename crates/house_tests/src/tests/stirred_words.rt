@@ -96,7 +96,7 @@ fn has_output_by(
 
 // Whether it has this output with its commands taken one by one, and in batches.
 fn has_output(alloc: Global, script: &str, turns: &[u32], output: &str) -> Result<bool, Fail> {
-    let one_by_one = has_output_by(alloc, script, turns, output, Pace::Single)?;
+    let one_by_one = has_output_by(alloc, script, turns, output, Pace::single(alloc))?;
     let batched = has_output_by(alloc, script, turns, output, Pace::batched(alloc))?;
     Ok(one_by_one && batched)
 }

@@ -1,4 +1,4 @@
-use gpu_journal::{End, Why, replay};
+use gpu_journal::{End, Journal, Why, replay};
 use gpu_plan::parse;
 use journal_text::{Tally, mark_text, tally_text};
 use std::test::Fail;
@@ -38,7 +38,7 @@ fn no_event_leaves_no_image(rt: HostRuntime) -> Result<(), Fail> {
     )
     .ok()
     .ok_or("a script")?;
-    let images = replay(rt.alloc(), &plans, &[])?;
+    let images = replay(rt.alloc(), &plans, &Journal::make(rt.alloc()), 0)?;
     assert!(rt; images.count() == 0);
     Ok(())
 }

@@ -164,15 +164,16 @@ fn workers_beside_clients(rt: HostRuntime) -> Result<(), Fail> {
     };
     let report = led(&rt, rt.alloc(), TWO_AND_ONE, 1, &gate)?;
     assert_eq!(rt; value_of(&gate.late), 0);
+    let journal = report.journal();
     let mut last = 0;
-    for event in report.journal().events() {
+    for index in 0..journal.count() {
         if let Event::Order {
             stream: 1,
             order,
             ..
-        } = event
+        } = journal.event(index)
         {
-            last = *order;
+            last = order;
         }
     }
     assert_eq!(rt; last, 3);

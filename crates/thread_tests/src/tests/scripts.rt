@@ -127,7 +127,7 @@ pub(crate) fn viewed<G: Gate + Sync, R: Threads + Wait + Sync>(
 
 // The lines of a report's journal.
 pub(crate) fn lines_of(alloc: Global, report: &Report) -> Result<Vec<u8>, Fail> {
-    let text = journal_text(alloc, report.journal().events()).ok();
+    let text = journal_text(alloc, report.journal()).ok();
     Ok(text.ok_or("memory is ample")?)
 }
 

@@ -38,7 +38,7 @@ fn a_finished_order_is_seen_during_the_run(rt: HostRuntime) -> Result<(), Fail> 
     };
     let (report, all) = viewed(&rt, rt.alloc(), READ_BACK, 1, 1, &gate)?;
     assert_eq!(rt; value_of(&gate.late), 0);
-    assert_eq!(rt; report.journal().events().len(), 7);
+    assert_eq!(rt; report.journal().count(), 7);
     let looks = all.first().ok_or("one viewer")?;
     assert_eq!(rt;
         looks.get(1),
