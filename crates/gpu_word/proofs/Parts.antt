@@ -1,9 +1,9 @@
 -- The bytes of a part of some words.
 use Rattle.std.proofs.Common.{◌≡◌, ℕ, zero, suc, ◌+◌, ◌-◌, ◌*◌, ◌≤◌, List, [], ◌∷◌, ◌++◌, length, take, drop, refl, sym, ap, ◌∙◌, arith}
-use Rattle.std.proofs.lemmas.List.{take-append-le, take-take, drop-drop, drop-take, length-drop}
+use Rattle.std.proofs.lemmas.List.{take-append-le, take-take, drop-drop, drop-take, length-drop, take-map, drop-map}
 use Rattle.byteorder.specs.Endian.{little_bytes}
 use Rattle.std.proofs.lemmas.Grind.{common_steps}
-use Rattle.gpu_word.specs.Bytes.{bytes_of}
+use Rattle.gpu_word.specs.Bytes.{values_of, bytes_of}
 
 -- after the bytes of n words stand those of the words after them
 pub drop-bytes_of : (n : ℕ) (words : List ℕ) → drop (4 * n) (bytes_of words) ≡ bytes_of (drop n words)
@@ -24,6 +24,17 @@ take-bytes_of (suc n) (word ∷ words) =
 pub length-bytes_of : (words : List ℕ) → length (bytes_of words) ≡ 4 * length words
 length-bytes_of [] = refl
 length-bytes_of (word ∷ words) = let rest = length-bytes_of words in omega arith
+
+-- a given number of bytes of words
+pub bytes_counted : (words : List ℕ) (from count : ℕ) → from + count ≤ 4 * length words → length (take count (drop from (bytes_of words))) ≡ count
+bytes_counted words from count h =
+    let all : length (bytes_of words) ≡ 4 * length words = length-bytes_of words in
+    let rest : count ≤ length (drop from (bytes_of words)) = omega (arith, length-drop from (bytes_of words)) in
+    grind (arith, common_steps)
+
+-- the values of a part of words are that part of the values
+pub values_within : (first many : ℕ) (words : List (ℕ × ℕ)) → values_of (take many (drop first words)) ≡ take many (drop first (values_of words))
+values_within first many words = sym (ap (take many) (drop-map (λ word. word.1) first words) ∙ take-map (λ word. word.1) many (drop first words))
 
 -- whole words are cut out, and then a part of their bytes
 pub bytes_within : (words : List ℕ) (first many lead count : ℕ) → first + many ≤ length words → lead + count ≤ 4 * many
