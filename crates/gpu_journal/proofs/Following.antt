@@ -3,7 +3,7 @@ use Rattle.std.proofs.Common.{◌≡◌, ◌≢◌, ℕ, zero, suc, ◌+◌, ◌
 use Rattle.std.specs.Prelude.{◌==◌, if◌then◌else◌, slice_get}
 use Rattle.std.proofs.lemmas.Bool.{cases_lt}
 use Rattle.std.proofs.lemmas.Bool.Decides.{nat_tests}
-use Rattle.std.proofs.lemmas.List.{take_more, reverse-append, take-append-drop, get_or-replicate, get_or_past, length-replicate, length-set}
+use Rattle.std.proofs.lemmas.List.{take_more, take_at, take-take, reverse-append, reverse-reverse, take-append-drop, get_or-take, get_or-replicate, get_or_past, length-take, length-drop, length-reverse, length-replicate, length-set}
 use Rattle.std.proofs.lemmas.Option.{get_or_from_slice_get}
 use Rattle.gpu_cmd.specs.Lawful.{IsLawfulAreas}
 use Rattle.gpu_store.specs.Images.{Pictures}
@@ -40,6 +40,14 @@ legal_past p events k legal =
 -- the event at hand obeys its rules
 pub legal_here : (p : PlansData) (events : List Event) (k : ℕ) (e : Event) → k < length events → e ≡ get_or events k e → IsLegal p (reverse events) → IsLegal p (e ∷ reverse (take k events))
 legal_here p events k e lt here legal = subst (IsLegal p) (past_more events k e e lt here) (legal_past p events (k + 1) legal)
+
+-- the first n events of a history, the newest first
+pub past_first : (h : List Event) (n : ℕ) → n ≤ length h → drop (length h - n) h ≡ reverse (take n (reverse h))
+past_first h n within =
+    let m = length h - n in
+    let parts : reverse h ≡ reverse (drop m h) ++ reverse (take m h) = sym (ap reverse (take-append-drop m h)) ∙ reverse-append (take m h) (drop m h) in
+    let long : length (reverse (drop m h)) ≡ n = omega (arith, length-reverse (drop m h), length-drop m h, within) in
+    sym (reverse-reverse (drop m h)) ∙ ap reverse (sym (ap (take n) parts ∙ take_at (reverse (drop m h)) (reverse (take m h)) n long))
 
 -- ---- the states
 
@@ -128,10 +136,14 @@ pub record Turn (p : PlansData) (h : List Event) (s : ℕ) (words : List (ℕ ×
   pub obeys : Obeys p h (Step s words)
   pub legal : IsLegal p h
 
-pub turn_of : (p : PlansData) (events : List Event) (k s : ℕ) (words : List (ℕ × ℕ)) (e : Event) → k < length events → e ≡ get_or events k e → e ≡ Step s words → IsLegal p (reverse events) → Turn p (reverse (take k events)) s words
-turn_of p events k s words e lt here step legal =
-    let now : IsLegal p (Step s words ∷ reverse (take k events)) = subst (λ (e : Event). IsLegal p (e ∷ reverse (take k events))) step (legal_here p events k e lt here legal) in
-    record { known = known_of_left p (reverse (take k events)) s now.1 now.0.rule_4; obeys = now.0; legal = now.1 }
+pub turn_of : (p : PlansData) (h : List Event) (n k s : ℕ) (words : List (ℕ × ℕ)) (e : Event) → k < n → n ≤ length h → e ≡ get_or (reverse h) k e → e ≡ Step s words → IsLegal p (drop (length h - n) h) → Turn p (reverse (take k (reverse h))) s words
+turn_of p h n k s words e lt within at step legal =
+    let first = take n (reverse h) in
+    let all : IsLegal p (reverse first) = subst (IsLegal p) (past_first h n within) legal in
+    let here = legal_here p first k e (omega (arith, length-take n (reverse h), length-reverse h, lt, within)) (at ∙ sym (get_or-take n (reverse h) k e lt)) all in
+    let now : IsLegal p (e ∷ reverse (take k (reverse h))) = subst (λ (xs : List Event). IsLegal p (e ∷ reverse xs)) (take-take k n (reverse h) (omega (arith, lt))) here in
+    let own : IsLegal p (Step s words ∷ reverse (take k (reverse h))) = subst (λ (e : Event). IsLegal p (e ∷ reverse (take k (reverse h)))) step now in
+    record { known = known_of_left p (reverse (take k (reverse h))) s own.1 own.0.rule_4; obeys = own.0; legal = own.1 }
 
 -- what the code finds at a stream's place is the stream's
 pub state_here : (states : List State) (s : ℕ) (x : State) → 1 ≤ s → s ≤ length states → x ≡ get_or states (s - 1) x → x ≡ state_in states s

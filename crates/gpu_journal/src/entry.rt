@@ -1,4 +1,5 @@
-ghost use Rattle.std.specs.Prelude.{◌≡◌, ◌≤◌, length, slice_range};
+ghost use Rattle.std.specs.Prelude.{◌≡◌, ◌+◌, ◌≤◌, ◌<◌, ◌^◌, ◌++◌, length, slice_range, vec_capacity};
+ghost use Rattle.gpu_journal.specs.Past.{event_words};
 ghost use Rattle.gpu_journal.specs.Entries.{event_of, LiesInWords};
 
 use crate::event::{Event, Why};
@@ -35,6 +36,60 @@ pub(crate) enum Entry {
     Close {
         stream: u32,
     },
+}
+
+// Appends words, in room that was made before, and gives the indices between which they stand.
+#[inline(always)]
+fn append(list: &mut Vec<(u32, u32)>, words: Words<'_>) -> (u32, u32)
+    requires room { length list.old.items + length words ≤ vec_capacity list.old }
+    requires few { length list.old.items + length words < 2 ^ 32 }
+    ensures list { list.new.items ≡ list.old.items ++ words.entry }
+    ensures from { result.0 ≡ length list.old.items }
+    ensures end { result.1 ≡ length list.old.items + length words.entry }
+{
+    let from = list.len() as u32;
+    match list.extend_from_slice(words.as_slice()) {
+        Ok(()) => {}
+        Err(_) => unreachable!(),
+    }
+    (from, list.len() as u32)
+}
+
+/// The entry of an event, whose words are appended to these, in room that was made before.
+#[inline(always)]
+pub(crate) fn keep(list: &mut Vec<(u32, u32)>, event: Event<'_>) -> Entry
+    requires room { length list.old.items + length (event_words event) ≤ vec_capacity list.old }
+    requires few { length list.old.items + length (event_words event) < 2 ^ 32 }
+    ensures list { list.new.items ≡ list.old.items ++ event_words event.entry }
+    ensures lies { LiesInWords list.new.items result }
+    ensures event { event_of list.new.items result ≡ event.entry }
+{
+    match event {
+        Event::Order {
+            stream,
+            order,
+            place,
+        } => Entry::Order {
+            stream,
+            order,
+            place,
+        },
+        Event::Step { stream, words } => {
+            let (from, end) = append(list, words);
+            Entry::Step { stream, from, end }
+        }
+        Event::Finish { stream, order } => Entry::Finish { stream, order },
+        Event::Lost { stream, why, words } => {
+            let (from, end) = append(list, words);
+            Entry::Lost {
+                stream,
+                why,
+                from,
+                end,
+            }
+        }
+        Event::Close { stream } => Entry::Close { stream },
+    }
 }
 
 // The words from one index up to another.

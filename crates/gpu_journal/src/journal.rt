@@ -1,9 +1,9 @@
-ghost use Rattle.std.specs.Prelude.{◌≡◌, ◌+◌, ◌≤◌, ◌<◌, ◌^◌, [], ◌∷◌, ◌++◌, length, reverse, slice_index_or, vec_capacity, OnOk, OnErr};
+ghost use Rattle.std.specs.Prelude.{◌≡◌, ◌+◌, ◌≤◌, ◌<◌, [], ◌∷◌, length, reverse, slice_index_or, OnOk, OnErr};
 ghost use Rattle.gpu_journal.specs.Past.{event_words};
 
-use crate::entry::{Entry, event_of};
+use crate::entry::{Entry, event_of, keep};
 use crate::event::Event;
-use gpu_word::{Memory, Words};
+use gpu_word::Memory;
 use std::alloc::Global;
 use std::marker::Model;
 
@@ -36,23 +36,6 @@ impl Model for Journal {
 
     ghost invariant = { λ journal. (length journal.words.items ≤ 4294967295)
         × All (LiesInWords journal.words.items) journal.entries.items };
-}
-
-// Appends words, in room that was made before, and gives the indices between which they stand.
-#[inline(always)]
-fn keep(list: &mut Vec<(u32, u32)>, words: Words<'_>) -> (u32, u32)
-    requires room { length list.old.items + length words ≤ vec_capacity list.old }
-    requires few { length list.old.items + length words < 2 ^ 32 }
-    ensures list { list.new.items ≡ list.old.items ++ words }
-    ensures from { result.0 ≡ length list.old.items }
-    ensures end { result.1 ≡ length list.new.items }
-{
-    let from = list.len() as u32;
-    match list.extend_from_slice(words.as_slice()) {
-        Ok(()) => {}
-        Err(_) => unreachable!(),
-    }
-    (from, list.len() as u32)
 }
 
 impl Journal {
@@ -97,35 +80,10 @@ impl Journal {
     pub fn push(&mut self, event: Event<'_>)
         requires spare { 0 < self.old.spare }
         requires room { length (event_words event) ≤ self.old.room }
-        ensures events { self.new.events ≡ event ∷ self.old.events }
+        ensures events { self.new.events ≡ event.entry ∷ self.old.events }
         ensures spare { self.new.spare + 1 ≡ self.old.spare }
     {
-        let entry = match event {
-            Event::Order {
-                stream,
-                order,
-                place,
-            } => Entry::Order {
-                stream,
-                order,
-                place,
-            },
-            Event::Step { stream, words } => {
-                let (from, end) = keep(&mut self.words, words);
-                Entry::Step { stream, from, end }
-            }
-            Event::Finish { stream, order } => Entry::Finish { stream, order },
-            Event::Lost { stream, why, words } => {
-                let (from, end) = keep(&mut self.words, words);
-                Entry::Lost {
-                    stream,
-                    why,
-                    from,
-                    end,
-                }
-            }
-            Event::Close { stream } => Entry::Close { stream },
-        };
+        let entry = keep(&mut self.words, event);
         self.entries.push_reserved(entry);
     }
 
@@ -136,7 +94,7 @@ impl Journal {
     /// `Memory`: the events are as before.
     #[inline(always)]
     pub fn add(&mut self, event: Event<'_>) -> Result<(), Memory>
-        ensures ok { OnOk result (self.new.events ≡ event ∷ self.old.events) }
+        ensures ok { OnOk result (self.new.events ≡ event.entry ∷ self.old.events) }
         ensures err { OnErr result (self.new.events ≡ self.old.events) }
     {
         self.reserve(1)?;

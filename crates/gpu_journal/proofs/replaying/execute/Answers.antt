@@ -7,13 +7,13 @@ use Rattle.gpu_word.specs.Header.{size_of}
 use Rattle.gpu_journal.proofs.Worlds.{few_errors}
 use Rattle.gpu_journal.proofs.replaying.execute.Goals as goal
 
-pub command_taken-requires-clause-some : goal.command_taken-requires-clause-some
-command_taken-requires-clause-some c =
+pub command_taken-command-requires-clause-some : goal.command_taken-command-requires-clause-some
+command_taken-command-requires-clause-some c =
     let found : Finds c.args.areas.now c.args.words.now c.args.state.now (command_in c.args.words.now) (size_of (header_in c.args.words.now)) = finds c.args.areas.now c.args.words.now c.args.state.now (command_in c.args.words.now) (size_of (header_in c.args.words.now)) c.requires.lawful c.requires.within.bounded c.requires.taken.accepted in
     omega (arith, found.some)
 
-pub command_taken-requires-clause-said : goal.command_taken-requires-clause-said
-command_taken-requires-clause-said c =
+pub command_taken-command-requires-clause-said : goal.command_taken-command-requires-clause-said
+command_taken-command-requires-clause-said c =
     (finds c.args.areas.now c.args.words.now c.args.state.now (command_in c.args.words.now) (size_of (header_in c.args.words.now)) c.requires.lawful c.requires.within.bounded c.requires.taken.accepted).said
 
 pub note-requires-clause-invalid_value : goal.note-requires-clause-invalid_value
