@@ -103,10 +103,10 @@ note_all-requires-clause-room g c =
     let S = g.P.ServiceSide in
     let b = (goal.at.note_all-requires-clause-room g c).After-step_batch-answer in
     let few = few_ops S.side S.mark g.N.Naming.plans (old g b) (new g b) (members g b) (none g b) c.step_batch-answer.result (did g b) in
-    let room : ViewHasRoom (length c.members.result.now) c.make_room.new.view = c.if-not-make_room.ensures.room refl in
-    let same = ap length c.members.ensures.value in
+    let room : ViewHasRoom c.count.result c.make_room.new.view = c.if-not-make_room.ensures.room refl in
+    let same = c.count.ensures.count in
     let many = length-map c.args.batch (λ (member : FetchedData). member.words) in
-    fewer (length (new g b).drawn) (length c.members.result.now) c.make_room.new.view (omega (arith, few, same, many)) room
+    fewer (length (new g b).drawn) c.count.result c.make_room.new.view (omega (arith, few, same, many)) room
 
 pub note_all-requires-clause-texels : goal.note_all-requires-clause-texels
 note_all-requires-clause-texels g c =
