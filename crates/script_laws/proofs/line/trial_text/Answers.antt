@@ -1,5 +1,4 @@
 use Rattle.std.proofs.Common.{refl}
-use Rattle.std.proofs.lemmas.List.{length-reverse}
 use Rattle.journal_text.specs.Digits as digits
 use Rattle.script_laws.specs.Trials.{is_loss, line_text}
 use Rattle.script_laws.proofs.Texts.{count_by-reverse}
@@ -17,14 +16,13 @@ returns c =
       c.in_ok-extend_from_slice.ensures.items,
       c.in_ok-push_count-5.ensures,
       c.in_ok-push_count-4.ensures,
-      c.count.ensures.count,
+      c.count-2.ensures.count,
       c.in_ok-push_count-3.ensures,
       c.loss_count.ensures,
       c.in_ok-push_count-2.ensures,
+      c.count.ensures,
       c.in_ok-push_number.ensures,
       c.in_ok-push_count.ensures,
       c.new-text.ensures.items,
-      c.events-events.ensures,
-      length-reverse h,
       count_by-reverse is_loss h,
     ) (refl {a = line_text c.args.size c.args.seed h c.args.images.now c.args.endings.now})
