@@ -3,7 +3,6 @@ ghost use Rattle.std.specs.Prelude.{◌≡◌, ◌↔◌, [], length, true, fals
 ghost use Rattle.gpu_plan.specs.Plans.{plan_of, is_closed};
 ghost use Rattle.sync_core.specs.Standing.{IsKnown, is_open};
 ghost use Rattle.gpu_journal.specs.declared.event.Event.TheVariants.{Lost, Close};
-ghost use Rattle.gpu_journal.specs.declared.event.Why.TheVariants.{Memory};
 ghost use Rattle.gpu_journal.specs.Waits.{standing_of, IsOpen};
 ghost use Rattle.gpu_journal.specs.Legal.{Obeys, MayClose};
 ghost use Rattle.house_core.specs.Core.{Stays, Grows};
@@ -86,7 +85,7 @@ impl Core {
     pub fn lose_client(&mut self, stream: u32)
         requires known { IsKnown (length self.old.plans.plans) stream }
         ensures event { is_open (standing_of self.old.plans self.old.past stream) ≡ true
-            → Grows self.old self.new (Lost stream Memory []) }
+            → Grows self.old self.new (Lost stream Why.Memory []) }
         ensures over { is_open (standing_of self.old.plans self.old.past stream) ≡ false
             → Stays self.old self.new }
         ensures outs { self.new.outs ≡ self.old.outs }

@@ -10,14 +10,15 @@ pub invariant_of-result : goal.invariant_of-result
 invariant_of-result c =
     let p = c.args.plans in
     let books = length-map c.args.books.items (λ (book : Booked). book.0) ∙ c.requires.books in
-    let past = sym (c.reserve.ensures.events ∙ c.make-journal.ensures) in
+    let past = sym (c.reserve_words.ensures.events ∙ c.reserve.ensures.events ∙ c.make-journal.ensures) in
     let owed = sym c.count-count.ensures.count in
     let seats = sym (c.in_ok-scheduler.ensures ∙ ap all_home (c.as_slice.ensures.value ∙ c.in_ok-ranks.ensures)) in
     let images = sym c.make-images.ensures in
     let desks = sym c.in_ok-desks.ensures in
-    let room : length p.plans ≤ c.reserve.new.self.spare = let most = c.in_ok-reserve.ensures.spare in let same = c.count-count.ensures.count in omega (arith, most, same) in
-    subst CoreInvariant (λ j. record { plans = p; past = past j; spare = c.reserve.new.self.spare; owed = owed j; sync = c.in_ok-sync.sync; seats = seats j; images = images j; desks = desks j })
-    (core_first p (names_of c.args.books.items) c.in_ok-sync.sync c.reserve.new.self.spare c.plans_are_lawful.ensures books (c.in_ok-sync.ensures.count ∙ c.count-count.ensures.count) c.in_ok-sync.ensures.stands room c.shows_room.ensures)
+    let spare = c.reserve_words.new.self.spare in
+    let room : length p.plans ≤ spare = let most = c.in_ok-reserve.ensures.spare in let kept = c.reserve_words.ensures.spare in let same = c.count-count.ensures.count in omega (arith, most, kept, same) in
+    subst CoreInvariant (λ j. record { plans = p; past = past j; spare = spare; owed = owed j; sync = c.in_ok-sync.sync; seats = seats j; images = images j; desks = desks j })
+    (core_first p (names_of c.args.books.items) c.in_ok-sync.sync spare c.plans_are_lawful.ensures books (c.in_ok-sync.ensures.count ∙ c.count-count.ensures.count) c.in_ok-sync.ensures.stands room c.shows_room.ensures)
 
 pub returns-clause-books : goal.returns-clause-books
 returns-clause-books c = ap books_of c.in_ok-desks.ensures ∙ books_first c.args.plans.plans (names_of c.args.books.items) (length-map c.args.books.items (λ (book : Booked). book.0) ∙ c.requires.books)
