@@ -10,7 +10,6 @@ pub mod Ensuing
 pub mod Ending
 pub mod Taking
 pub mod Firsts
-pub mod EventEnds
 pub mod Dumping
 pub mod Replacing
 pub mod Hearing
