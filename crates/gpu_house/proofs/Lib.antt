@@ -18,6 +18,7 @@ pub mod Least
 pub mod Counting
 pub mod Drawings
 pub mod Members
+pub mod Cuts
 pub mod Chains
 pub mod Quiet
 pub mod Committed

@@ -260,10 +260,6 @@ module _ {old between new : SideData} {first next : StreamFacts} {list longer : 
       subst EndsExactly (sym parts_are)
       (ends_exactly (parts_of list parts) last_member more.were.few more.were.goes_on (⊎_elim (λ e. inl e) (λ n. inr (omega (arith, long, same, n))) ends))
 
-  -- no room is found for it
-  pub parts_lost : FetchesInPart old new first
-  parts_lost = gathered_lost old between new first next (parts_of list parts) last_member more.were one_fetched
-
 -- ---- what a run keeps while a batch is fetched
 
 module _ {Side Note : Type 0} (side : Side → SideData) (table : Side → TableId) (mark : Note → ℕ) (note_of : Note → TableId → Type 0) (p : PlansData) (tables books : ℕ → TableId) (run : RunData) where

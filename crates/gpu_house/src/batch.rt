@@ -183,7 +183,8 @@ impl Batch {
     pub(crate) fn member(&self, index: usize, from: usize) -> Fetched<'_>
         requires within { index < length self.now }
         requires from { from ≡ length (batch_words (take index self.now)) }
-        ensures { result ≡ slice_index_or self.now index result }
+        ensures is { result ≡ slice_index_or self.now index result }
+        ensures end { from + length result.words < 2 ^ 64 }
     {
         let part = &self.parts[index];
         let words = &self.list[from..from + part.count];

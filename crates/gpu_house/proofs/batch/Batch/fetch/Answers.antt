@@ -1,18 +1,16 @@
 -- Each goal is a lemma of Members on the commands that were fetched so far.
-use Rattle.std.proofs.Common.{◌≡◌, ◌-◌, inl, inr, List, [], ◌∷◌, ◌++◌, ℕ, length, length-append, sym, ap, subst, ◌∙◌, arith}
+use Rattle.std.proofs.Common.{◌≡◌, ◌-◌, inl, inr, List, [], ◌∷◌, ◌++◌, ℕ, length, length-append, refl, sym, ap, ◌∙◌, arith, rules}
 use Rattle.std.specs.Prelude.{slice_range}
-use Rattle.std.specs.List.{All}
-use Rattle.gpu_fetch.specs.Side.{SideData, Fetches}
+use Rattle.gpu_fetch.specs.Side.{SideData}
 use Rattle.gpu_cmd.specs.declared.facts.StreamFacts.{StreamFacts}
-use Rattle.gpu_fetch.specs.declared.fetched_part.FetchedPart.{FetchedPart}
-use Rattle.gpu_fetch.specs.Fetched.{FetchedData, IsFetched, items_since}
-use Rattle.gpu_fetch.specs.Parts.{words_of_parts, parts_of}
+use Rattle.gpu_fetch.specs.Fetched.{items_since}
+use Rattle.gpu_fetch.specs.Parts.{parts_of}
 use Rattle.gpu_fetch.proofs.Parts.{added_read}
-use Rattle.gpu_house.specs.Batches.{facts_after, batch_words, ends_by, AreChained, EndsExactly}
-use Rattle.gpu_house.proofs.Members.{IsOneMore, parts_long, parts_whole, parts_copies, parts_chained, parts_fetched, parts_shown, parts_go_on, parts_end}
+use Rattle.gpu_house.specs.Batches.{facts_after, ends_by, EndsExactly, FetchesInPart}
+use Rattle.gpu_house.proofs.Members.{gathered_lost, IsOneMore, parts_long, parts_whole, parts_copies, parts_chained, parts_fetched, parts_shown, parts_go_on, parts_end}
 use Rattle.gpu_house.proofs.batch.Batch.fetch.Given.{Over}
 use Rattle.gpu_house.proofs.batch.Batch.fetch.Goals as goal
-use Rattle.gpu_house.proofs.batch.Batch.fetch.Goals.{After-deref, In_ok-members-in_default, in_default-via-in-Some+else-len-lt-MOST_MEMBERS, in_default-via-in_default}
+use Rattle.gpu_house.proofs.batch.Batch.fetch.Goals.{After-deref, In_default, In_ok-verdict, in_default-via-in-Some+else-len-lt-MOST_MEMBERS, in_default-via-in_default}
 
 -- ---- once a command is added after the others
 
@@ -65,58 +63,46 @@ loop-parts-preserved g c =
       table = e.table ∙ was.table;
     }
 
+-- ---- no room is found for it
+
+lost : (g : Over) (c : goal.In_ok-verdict g) → FetchesInPart (g.P.ServiceSide.side c.args.side.now) (g.P.ServiceSide.side c.fetch_onto.new.side) c.args.facts.now
+lost g c =
+    let e = c.in_ok-verdict.ensures in
+    let words = items_since c.loop-parts.list.items c.fetch_onto.new.list.items in
+    gathered_lost _ _ _ _ _ (parts_of c.loop-parts.list.items c.loop-parts.parts.items) (record { words = words; verdict = c.in_ok-verdict.verdict; facts = c.loop-parts.next }) c.loop-parts.invariant.gathered
+    record { facts = refl; fetches = e.fetches; copy = e.copy }
+
+pub returns-in_err-push-clause-some : goal.returns-in_err-push-clause-some
+returns-in_err-push-clause-some g c = let lost_here = lost g (goal.at.returns-in_err-push-clause-some g c).In_ok-verdict in search rules
+
 -- ---- where the batch ends
 
-pub share-requires-clause-whole : goal.share-requires-clause-whole
-share-requires-clause-whole g c = ap words_of_parts c.deref-in_default.ensures.value ∙ parts_whole (more g (goal.at.share-requires-clause-whole g c).After-deref)
-
-pub share-requires-clause-copies : goal.share-requires-clause-copies
-share-requires-clause-copies g c =
-    let told = (goal.at.share-requires-clause-copies g c).After-deref in
-    subst (λ (l : List FetchedPart). All IsFetched (parts_of (longer g told) l)) (sym c.deref-in_default.ensures.value) (parts_copies (more g told))
-
-module _ (g : Over) (c : goal.In_ok-members-in_default g) where
-  abbrev told : goal.After-deref g
-  told = (goal.at.In_ok-members-in_default g c).After-deref
-
-  -- the members are those that were reported
-  are : parts_of (longer g told) c.push.new.self.items ≡ c.in_ok-members-in_default.members.items
-  are = sym (c.in_ok-members-in_default.ensures.value ∙ ap (parts_of (longer g told)) c.deref-in_default.ensures.value)
-
-  copies : All IsFetched c.in_ok-members-in_default.members.items
-  copies = subst (All IsFetched) are (parts_copies (more g told))
-
-  end : EndsExactly c.in_ok-members-in_default.members.items
-  end =
-      let was = c.loop-parts.invariant in
-      let parts = c.loop-parts.parts.items in
-      subst EndsExactly are (parts_end (more g told)
-      (elim c.in_default.branch [
-        | in_default-via-in-Some+else-len-lt-MOST_MEMBERS w ↦ inr (let few = was.gathered.few in let long = parts_long (list g told) parts in let pushed = ap length c.in_ok-push.ensures.items ∙ length-append parts _ in omega (arith, few, long, pushed, w.len-in-Some-1.ensures, w.if-len-lt-MOST_MEMBERS.false))
-        | in_default-via-in_default w ↦ inl (ap (λ (l : List (ℕ × ℕ)). ends_by c.in_ok-verdict.verdict (facts_after c.loop-parts.next l)) (sym (read g told)) ∙ w.in_default.ensures.none)
-      ]))
+end : (g : Over) (c : goal.In_default g) → EndsExactly (parts_of c.fetch_onto.new.list.items c.push.new.self.items)
+end g c =
+    let told = (goal.at.In_default g c).After-deref in
+    parts_end (more g told)
+    (elim c.in_default.branch [
+      | in_default-via-in-Some+else-len-lt-MOST_MEMBERS w ↦ inr (let few = c.loop-parts.invariant.gathered.few in let long = parts_long (list g told) c.loop-parts.parts.items in let pushed = ap length c.in_ok-push.ensures.items ∙ length-append c.loop-parts.parts.items _ in omega (arith, few, long, pushed, w.len-in-Some-1.ensures, w.if-len-lt-MOST_MEMBERS.false))
+      | in_default-via-in_default w ↦ inl (ap (λ (l : List (ℕ × ℕ)). ends_by c.in_ok-verdict.verdict (facts_after c.loop-parts.next l)) (sym (read g told)) ∙ w.in_default.ensures.none)
+    ])
 
 pub invariant_of-result : goal.invariant_of-result
-invariant_of-result g c = (end g c, copies g c)
+invariant_of-result g c =
+    let told = (goal.at.invariant_of-result g c).After-deref in
+    (parts_whole (more g told), end g c, parts_copies (more g told))
 
 pub returns-in_default-clause-chained : goal.returns-in_default-clause-chained
-returns-in_default-clause-chained g c =
-    let m = (goal.at.returns-in_default-clause-chained g c).In_ok-members-in_default in
-    subst (AreChained c.args.facts.now) (are g m) (parts_chained (more g (told g m)))
+returns-in_default-clause-chained g c = parts_chained (more g (goal.at.returns-in_default-clause-chained g c).After-deref)
 
 pub returns-in_default-clause-copies : goal.returns-in_default-clause-copies
-returns-in_default-clause-copies g c = copies g (goal.at.returns-in_default-clause-copies g c).In_ok-members-in_default
+returns-in_default-clause-copies g c = parts_copies (more g (goal.at.returns-in_default-clause-copies g c).After-deref)
 
 pub returns-in_default-clause-end : goal.returns-in_default-clause-end
-returns-in_default-clause-end g c = end g (goal.at.returns-in_default-clause-end g c).In_ok-members-in_default
+returns-in_default-clause-end g c = end g c
 
 pub returns-in_default-clause-fetches : goal.returns-in_default-clause-fetches
-returns-in_default-clause-fetches g c =
-    let m = (goal.at.returns-in_default-clause-fetches g c).In_ok-members-in_default in
-    subst (λ (l : List FetchedData). Fetches (old g (told g m)) (new g (told g m)) (batch_words l)) (are g m) (parts_fetched (more g (told g m)))
+returns-in_default-clause-fetches g c = parts_fetched (more g (goal.at.returns-in_default-clause-fetches g c).After-deref)
 
 pub returns-in_default-clause-shows : goal.returns-in_default-clause-shows
 returns-in_default-clause-shows g c =
-    let m = (goal.at.returns-in_default-clause-shows g c).In_ok-members-in_default in
-    let S = g.P.ServiceSide.shows c.args.words.now in
-    subst (λ (l : List FetchedData). All S (batch_words l)) (are g m) (parts_shown (more g (told g m)) S c.loop-parts.invariant.shows c.in_ok-verdict.ensures.shows)
+    parts_shown (more g (goal.at.returns-in_default-clause-shows g c).After-deref) (g.P.ServiceSide.shows c.args.words.now) c.loop-parts.invariant.shows c.in_ok-verdict.ensures.shows

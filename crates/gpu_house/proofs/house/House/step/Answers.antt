@@ -48,15 +48,15 @@ pub step-requires-clause-may : goal.step-requires-clause-may
 step-requires-clause-may g c =
     let S = g.P.ServiceSide in
     let run = c.run.inside.carried in
-    let next : AreNext run.facts (S.side c.run.inside.side).fetched c.args.fetched.words = subst (λ (o : OutData g.row.P.Denot g.row.P-Note.Denot). AreNext o.run.facts (S.side o.side).fetched c.args.fetched.words) (sym c.run.view_is) c.requires.list in
-    subst (λ (q : PlansData). All (MayHavePut q run) c.args.fetched.words) (sym c.self.invariant.plans) (first_of_all (MayHavePut g.N.Naming.plans run) c.args.fetched.words next.rest (subst (All (MayHavePut g.N.Naming.plans run)) next.next c.run.invariant.may))
+    let next : AreNext run.facts (S.side c.run.inside.side).fetched c.args.fetched.now.words = subst (λ (o : OutData g.row.P.Denot g.row.P-Note.Denot). AreNext o.run.facts (S.side o.side).fetched c.args.fetched.now.words) (sym c.run.view_is) c.requires.list in
+    subst (λ (q : PlansData). All (MayHavePut q run) c.args.fetched.now.words) (sym c.self.invariant.plans) (first_of_all (MayHavePut g.N.Naming.plans run) c.args.fetched.now.words next.rest (subst (All (MayHavePut g.N.Naming.plans run)) next.next c.run.invariant.may))
 
 -- ---- what the core did
 
-refused : (g : Over) (c : goal.In-Invalid g) → answers.IsStepRefused c.self.inside.core c.step.new.self c.run.inside.carried c.step.new.run c.args.fetched.words c.in-Invalid.error
+refused : (g : Over) (c : goal.In-Invalid g) → answers.IsStepRefused c.self.inside.core c.step.new.self c.run.inside.carried c.step.new.run c.args.fetched.now.words c.in-Invalid.error
 refused g c = of_invalid _ _ _ _ _ c.in_ok-step.field-0 c.in_ok-step.ensures.steps c.in-Invalid.error c.in-Invalid.is
 
-made : (g : Over) (c : goal.In-Done g) → answers.IsStepDone c.self.inside.core c.step.new.self c.run.inside.carried c.step.new.run c.args.fetched.words c.in-Done.acted
+made : (g : Over) (c : goal.In-Done g) → answers.IsStepDone c.self.inside.core c.step.new.self c.run.inside.carried c.step.new.run c.args.fetched.now.words c.in-Done.acted
 made g c = of_done _ _ _ _ _ c.in_ok-step.field-0 c.in_ok-step.ensures.steps c.in-Done.acted c.in-Done.is
 
 -- what holds of the parts of the house and of the run holds of both as contracts see them
@@ -101,12 +101,12 @@ marked g c e grows few =
 pub follow-requires : goal.follow-requires
 follow-requires g c =
     let path = goal.at.follow-requires g c in
-    marked g path.In_ok-step (Lost c.run.inside.carried.stream (Error c.in-Invalid.error) c.args.fetched.words) (refused g path.In-Invalid).event (omega arith)
+    marked g path.In_ok-step (Lost c.run.inside.carried.stream (Error c.in-Invalid.error) c.args.fetched.now.words) (refused g path.In-Invalid).event (omega arith)
 
 pub follow-requires-2 : goal.follow-requires-2
 follow-requires-2 g c =
     let path = goal.at.follow-requires-2 g c in
-    let words = c.args.fetched.words in
+    let words = c.args.fetched.now.words in
     let s = c.run.inside.carried.stream in
     marked g path.In_ok-step (Step s words) (made g path.In-Done).stepped.event (step_makes g.N.Naming.plans c.self.inside.core.past s words)
 
@@ -146,7 +146,7 @@ invariant_of-self-in-Invalid g c =
     let now = c.step.new.self in
     let s = c.run.inside.carried.stream in
     let why = Error c.in-Invalid.error in
-    let words = c.args.fetched.words in
+    let words = c.args.fetched.now.words in
     let results = c.self.inside.results.items in
     let was = c.self.invariant in
     let is = refused g (goal.at.invariant_of-self-in-Invalid g c).In-Invalid in
@@ -166,7 +166,7 @@ invariant_of-self-2 g c =
     let t = c.stream-stream.result in
     let path = goal.at.invariant_of-self-2 g c in
     let there = path.After-stream-stream in
-    let words = c.args.fetched.words in
+    let words = c.args.fetched.now.words in
     let results = c.self.inside.results.items in
     let was = c.self.invariant in
     let is = made g path.In-Done in
@@ -208,7 +208,7 @@ invariant_of-run-2 g c =
     let core = c.self.inside.core in
     let now = c.step.new.self in
     let run = c.run.inside.carried in
-    let words = c.args.fetched.words in
+    let words = c.args.fetched.now.words in
     let was = c.self.invariant in
     let is = made g (goal.at.invariant_of-run-2 g c).In-Done in
     let own = is.stepped in
@@ -279,7 +279,7 @@ module _ (g : Over) (c : goal.After-drawn_of g) where
   abbrev left : OutData g.row.P.Denot g.row.P-Note.Denot
   left = record { run = c.step.new.run; side = c.tell.new.side; note = c.meet-2.new.note }
 
-  done : IsRunStepDone g.P.ServiceSide.side g.P.ServiceSide.mark g.N.Naming.plans c.args.self.now house c.args.run.now left c.args.fetched.words c.in-Done.acted.kept
+  done : IsRunStepDone g.P.ServiceSide.side g.P.ServiceSide.mark g.N.Naming.plans c.args.self.now house c.args.run.now left c.args.fetched.now.words c.in-Done.acted.kept
   done =
       let path = goal.at.After-drawn_of g c in
       let core = c.self.inside.core in
@@ -289,7 +289,7 @@ module _ (g : Over) (c : goal.After-drawn_of g) where
       let acted = c.in-Done.acted in
       let is = made g path.In-Done in
       let own = is.stepped in
-      seen g path.After-step (λ q h o. IsRunStepDone side g.P.ServiceSide.mark q h house o left c.args.fetched.words acted.kept) record {
+      seen g path.After-step (λ q h o. IsRunStepDone side g.P.ServiceSide.mark q h house o left c.args.fetched.now.words acted.kept) record {
         still_open = is.still_open;
         valid = is.valid;
         kept = own.acted.kept ∙ ap (step_keeps core.plans core.past run.stream) own.acted.effect;
@@ -301,10 +301,10 @@ module _ (g : Over) (c : goal.After-drawn_of g) where
         met = c.meet-2.ensures.met;
       }
 
-  executed : WasExecuted g.N.Naming.plans c.args.self.now.core.past c.args.run.now.run.stream c.args.fetched.words c.in-Done.acted
+  executed : WasExecuted g.N.Naming.plans c.args.self.now.core.past c.args.run.now.run.stream c.args.fetched.now.words c.in-Done.acted
   executed =
       let path = goal.at.After-drawn_of g c in
-      seen g path.After-step (λ q h o. WasExecuted q h.core.past o.run.stream c.args.fetched.words c.in-Done.acted) (made g path.In-Done).stepped.acted
+      seen g path.After-step (λ q h o. WasExecuted q h.core.past o.run.stream c.args.fetched.now.words c.in-Done.acted) (made g path.In-Done).stepped.acted
 
 pub returns-clause-steps : goal.returns-clause-steps
 returns-clause-steps g c =
@@ -313,7 +313,7 @@ returns-clause-steps g c =
     let p = g.N.Naming.plans in
     let h = c.args.self.now.core.past in
     let s = c.args.run.now.run.stream in
-    let words = c.args.fetched.words in
+    let words = c.args.fetched.now.words in
     let next = c.next_of.result in
     let acted = c.in-Done.acted in
     let drawn = c.drawn_of.result in
@@ -335,7 +335,7 @@ returns-in-Invalid-clause-steps g c =
     let mark = g.P.ServiceSide.mark in
     let p = g.N.Naming.plans in
     let s = c.run.inside.carried.stream in
-    let words = c.args.fetched.words in
+    let words = c.args.fetched.now.words in
     let error = c.in-Invalid.error in
     let path = goal.at.returns-in-Invalid-clause-steps g c in
     let is = refused g path.In-Invalid in
