@@ -1,8 +1,10 @@
 -- What checks 1 to 5 leave for those that follow.
-use Rattle.std.proofs.Common.{◌≡◌, ℕ, ◌+◌, ◌-◌, ◌<◌, ◌≤◌, ◌^◌, Bool, true, false, Option, Some, None, Result, Ok, List, length, refl, arith, IsTrue, IsSomeAnd, IsOkAnd, IfSome}
+use Rattle.std.proofs.Common.{◌≡◌, ℕ, ◌+◌, ◌-◌, ◌<◌, ◌≤◌, ◌^◌, Bool, true, false, Option, Some, None, Result, Ok, List, length, refl, ap, ◌∙◌, arith, IsTrue, IsSomeAnd, IsOkAnd, IfSome}
 use Rattle.std.specs.Prelude.{◌==◌, nat_le, nat_lt, if◌then◌else◌, slice_index}
 use Rattle.std.proofs.lemmas.Bool.Decides.{nat_tests}
+use Rattle.std.proofs.lemmas.List.{length-map}
 use Rattle.gpu_word.specs.Header.{size_of, id_of}
+use Rattle.gpu_word.specs.Bytes.{values_of}
 use Rattle.gpu_cmd.specs.declared.command.Command.{Command}
 use Rattle.gpu_cmd.specs.declared.error.CmdError.{CmdError}
 use Rattle.gpu_cmd.specs.declared.error.CmdError.TheVariants.{InvalidSize, OutOfBounds, UnknownCommand, InvalidArguments, Quota}
@@ -85,9 +87,11 @@ by_row None words command facts h e = absurd h
 by_row (Some row) words command facts h e = rw e refl
 
 -- what the decoder says, by the command of the row
-pub decoded_by_row : (id : ℕ) (words : List ℕ) (command : Command) (facts : StreamFacts) → id ≡ id_of (slice_index words 0) → IsSomeAnd (row_of id) (λ row. IsTrue (fits row (length words))) → IfSome (row_of id) (λ row. command ≡ row.command (argument words)) → decoded words facts ≡ checked (length words) command facts
+pub decoded_by_row : (id : ℕ) (words : List (ℕ × ℕ)) (command : Command) (facts : StreamFacts) → id ≡ id_of (slice_index (values_of words) 0) → IsSomeAnd (row_of id) (λ row. IsTrue (fits row (length words))) → IfSome (row_of id) (λ row. command ≡ row.command (argument (values_of words))) → decoded (values_of words) facts ≡ checked (length words) command facts
 unfolding decoded
-decoded_by_row id words command facts e h k = rw (← e) (by_row (row_of id) words command facts h k)
+decoded_by_row id words command facts e h k =
+    let long : length (values_of words) ≡ length words = length-map words (λ word. word.1) in
+    rw (← e) (by_row (row_of id) (values_of words) command facts (rw long h) k ∙ ap (λ n. checked n command facts) long)
 
 words_by_id : (b : Bool) (size : ℕ) → IsTrue (nat_le 1 size) → (if b then 1 else size) ≤ size
 words_by_id true size h = grind (arith, nat_tests)
