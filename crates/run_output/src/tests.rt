@@ -35,7 +35,7 @@ fn a_front_stands_after_a_failed_write(rt: HostRuntime) -> Result<(), Fail> {
 }
 
 // Three closes, whose lines have eight bytes each.
-#[tactic(auto, using(crate::proofs::Closing::close_pushed))]
+#[tactic(auto, using(crate::proofs::Closing::close_added))]
 fn closes(alloc: Global) -> Result<Journal, Fail>
     ensures { IfOk result (λ journal. All LineHasRoom (reverse journal.events)) }
 {
