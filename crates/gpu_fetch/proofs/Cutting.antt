@@ -1,15 +1,10 @@
 -- Commands whose words stand in one list, one after the other.
-use Rattle.std.proofs.Common.{◌≡◌, ℕ, zero, suc, ◌+◌, ◌-◌, ◌<◌, ◌≤◌, List, [], ◌∷◌, ◌++◌, length, take, drop, get_or, refl, sym, ap, ◌∙◌, subst, arith, length-append}
-use Rattle.std.specs.Prelude.{slice_range}
-use Rattle.std.specs.List.{All}
+use Rattle.std.proofs.Common.{◌≡◌, ℕ, ◌+◌, ◌-◌, ◌≤◌, List, [], ◌∷◌, ◌++◌, length, take, drop, refl, ap, ◌∙◌, arith, length-append}
 use Rattle.std.proofs.Math.Seq.{take-length}
-use Rattle.std.proofs.lemmas.List.{take-append-le, drop-append-le, drop-drop, length-drop}
-use Rattle.std.proofs.lemmas.List.Elements.{All-head, All-tail}
+use Rattle.std.proofs.lemmas.List.{take-append-le, drop-append-le, length-drop}
 use Rattle.gpu_fetch.specs.declared.fetched_part.FetchedPart.{FetchedPart}
-use Rattle.gpu_fetch.specs.Fetched.{FetchedData, IsFetched, items_since}
+use Rattle.gpu_fetch.specs.Fetched.{FetchedData, items_since}
 use Rattle.gpu_fetch.specs.Parts.{words_of_parts, parts_of}
-
--- ---- one command more
 
 pub words_more : (parts : List FetchedPart) (part : FetchedPart) → words_of_parts (parts ++ part ∷ []) ≡ words_of_parts parts + part.count
 words_more [] part = omega arith
@@ -47,33 +42,3 @@ words_whole list longer parts part all grows count =
     let long : length longer ≡ length list + length (items_since list longer) = ap length grows ∙ length-append list (items_since list longer) in
     let more = words_more parts part in
     omega (arith, long, all, count, more)
-
--- ---- one command after the other
-
--- the commands from an index on are the one at the index and those after it
-pub part_next : (list : List (ℕ × ℕ)) (from : ℕ) (parts rest : List FetchedPart) (part : FetchedPart) → parts ≡ part ∷ rest
-    → parts_of (drop from list) parts ≡ record { words = take part.count (drop from list); verdict = part.verdict; facts = part.facts.facts } ∷ parts_of (drop (from + part.count) list) rest
-part_next list from parts rest part are =
-    ap (parts_of (drop from list)) are
-    ∙ ap (λ (l : List (ℕ × ℕ)). record { words = take part.count (drop from list); verdict = part.verdict; facts = part.facts.facts } ∷ parts_of l rest) (drop-drop part.count from list)
-
-from_index : {X : Type 0} (i : ℕ) (xs : List X) (d : X) → i < length xs → drop i xs ≡ get_or xs i d ∷ drop (suc i) xs
-from_index i [] d within = absurd (omega (arith, within))
-from_index zero (x ∷ xs) d within = refl
-from_index (suc i) (x ∷ xs) d within = from_index i xs d (omega (arith, within))
-
-one_holds : {X : Type 0} (P : X → Type 0) (xs ys : List X) (x : X) → All P (xs ++ x ∷ ys) → P x
-one_holds P [] ys x all = All-head P x ys all
-one_holds P (y ∷ xs) ys x all = one_holds P xs ys x (All-tail P y (xs ++ x ∷ ys) all)
-
--- the command at an index, whose words are cut from the list
-pub copy_at : (list shared : List (ℕ × ℕ)) (parts : List FetchedPart) (made : List FetchedData) (from i : ℕ) (d : FetchedPart) (words : List (ℕ × ℕ)) → parts_of list parts ≡ made ++ parts_of (drop from list) (drop i parts) → i < length parts → shared ≡ list
-    → words ≡ slice_range shared from (from + (get_or parts i d).count) → All IsFetched (parts_of list parts) → IsFetched (record { words = words; verdict = (get_or parts i d).verdict; facts = (get_or parts i d).facts.facts })
-copy_at list shared parts made from i d words all within is cut copies =
-    let part = get_or parts i d in
-    let rest = drop (suc i) parts in
-    let next = part_next list from (drop i parts) rest part (from_index i parts d within) in
-    let found : FetchedData = record { words = take part.count (drop from list); verdict = part.verdict; facts = part.facts.facts } in
-    let one : IsFetched found = one_holds IsFetched made (parts_of (drop (from + part.count) list) rest) found (subst (All IsFetched) (all ∙ ap (λ (l : List FetchedData). made ++ l) next) copies) in
-    let same : take part.count (drop from list) ≡ words = ap (λ (n : ℕ). take n (drop from list)) {x = part.count} {y = from + part.count - from} (omega arith) ∙ ap (λ (l : List (ℕ × ℕ)). slice_range l from (from + part.count)) (sym is) ∙ sym cut in
-    subst (λ (l : List (ℕ × ℕ)). IsFetched (record { words = l; verdict = part.verdict; facts = part.facts.facts })) same one

@@ -2,7 +2,8 @@
 use Rattle.std.proofs.Common.{◌≡◌, ℕ, zero, suc, ◌+◌, ◌-◌, ◌<◌, ◌≤◌, Result, Ok, Err, inl, inr, List, [], ◌∷◌, ◌++◌, length, drop, map, refl, sym, ap, ◌∙◌, subst, arith, append_assoc, IsOkAnd}
 use Rattle.std.specs.Prelude.{slice_index, slice_range}
 use Rattle.std.specs.List.{range_with_len}
-use Rattle.std.proofs.lemmas.List.{map-append, append-nil, length-drop, take_all}
+use Rattle.std.proofs.lemmas.List.{map-append, append-nil, length-drop, length-map, take_all}
+use Rattle.gpu_word.specs.Bytes.{values_of}
 use Rattle.gpu_cmd.specs.declared.error.CmdError.{CmdError}
 use Rattle.gpu_cmd.specs.declared.error.CmdError.TheVariants.{OutOfBounds}
 use Rattle.gpu_cmd.specs.declared.facts.StreamFacts.{StreamFacts}
@@ -18,7 +19,7 @@ use Rattle.gpu_fetch.proofs.Fetching.{fetches_one, fetches_then, row_behind}
 -- ---- words at places in a row
 
 -- the values of a row
-pub values_listed : (place : ℕ) (values : List ℕ) → map (λ word. word.1) (words_at place values) ≡ values
+pub values_listed : (place : ℕ) (values : List ℕ) → values_of (words_at place values) ≡ values
 values_listed place [] = refl
 values_listed place (value ∷ values) = ap (λ rest. value ∷ rest) (values_listed (place + 1) values)
 
@@ -108,28 +109,24 @@ pub added_read : (were list longer : List (ℕ × ℕ)) (from : ℕ) → list �
 added_read were list longer from same at =
     take_all (length list - from) (drop from list) (let long = length-drop from list in omega (arith, long)) ∙ ap (λ (n : ℕ). drop n list) at ∙ ap (drop (length were)) same
 
--- the entries that the decoder is given
-pub ring_entries : (s t : SideData) (facts : StreamFacts) (entry : ℕ) (shape : Shape) (list : List (ℕ × ℕ)) (entries : List ℕ) (ring : RingFetched s t facts entry shape list) → entries ≡ map (λ word. word.1) list → entries ≡ entry ∷ ring.values
-ring_entries s t facts entry shape list entries ring are = are ∙ ap (map (λ word. word.1)) ring.listed ∙ values_listed facts.get (entry ∷ ring.values)
+-- the values of the words that the decoder is given
+pub ring_entries : (s t : SideData) (facts : StreamFacts) (entry : ℕ) (shape : Shape) (list given : List (ℕ × ℕ)) (ring : RingFetched s t facts entry shape list) → given ≡ list → values_of given ≡ entry ∷ ring.values
+ring_entries s t facts entry shape list given ring are = ap values_of (are ∙ ring.listed) ∙ values_listed facts.get (entry ∷ ring.values)
 
-pub ring_headed : (s t : SideData) (facts : StreamFacts) (entry : ℕ) (shape : Shape) (list : List (ℕ × ℕ)) (entries : List ℕ) → RingFetched s t facts entry shape list → entries ≡ map (λ word. word.1) list → headed entry facts ≡ Ok shape → IsOkAnd (headed (slice_index entries 0) facts) (λ found. length entries ≡ found.ring_words)
-ring_headed s t facts entry shape list entries ring are head =
-    let same = ring_entries s t facts entry shape list entries ring are in
-    rw same (rw head ring.all)
-
-pub ring_some : (s t u : SideData) (facts : StreamFacts) (entry : ℕ) (shape : Shape) (list : List (ℕ × ℕ)) → RingFetched s t facts entry shape list → u ≡ t → facts.put < facts.areas.ring → headed entry facts ≡ Ok shape → FetchesSome s u facts
-ring_some s t u facts entry shape list ring same put head =
-    let all = ring.all in
-    some_ring s u facts shape entry ring.values put head (omega arith) (subst (λ (x : SideData). Fetches s x (words_at facts.get (entry ∷ ring.values))) (sym same) ring.fetches)
+pub ring_headed : (s t : SideData) (facts : StreamFacts) (entry : ℕ) (shape : Shape) (list given : List (ℕ × ℕ)) → RingFetched s t facts entry shape list → given ≡ list → headed entry facts ≡ Ok shape → IsOkAnd (headed (slice_index (values_of given) 0) facts) (λ found. length given ≡ found.ring_words)
+ring_headed s t facts entry shape list given ring are head =
+    let same = ring_entries s t facts entry shape list given ring are in
+    let all : length given ≡ shape.ring_words = sym (length-map given (λ word. word.1)) ∙ ap length same ∙ ring.all in
+    rw same (rw head all)
 
 pub ring_part_some : (s m t : SideData) (facts : StreamFacts) (entry : ℕ) (shape : Shape) → Fetches s m ((facts.get, entry) ∷ []) → 1 ≤ shape.ring_words → FetchesRowInPart m t (facts.get + 1) (shape.ring_words - 1) → facts.put < facts.areas.ring → headed entry facts ≡ Ok shape → FetchesSome s t facts
 ring_part_some s m t facts entry shape header some part put head =
     let few = part.some in
     some_ring s t facts shape entry part.values put head (omega arith) (fetches_then s m t ((facts.get, entry) ∷ []) (words_at (facts.get + 1) part.values) header part.fetches)
 
-pub ring_refused : (s t : SideData) (facts : StreamFacts) (entry : ℕ) (shape : Shape) (list : List (ℕ × ℕ)) (entries : List ℕ) (error : CmdError) → RingFetched s t facts entry shape list → entries ≡ map (λ word. word.1) list → facts.put < facts.areas.ring → headed entry facts ≡ Ok shape → decoded entries facts ≡ Err error → IsCopy list facts (Err error)
-ring_refused s t facts entry shape list entries error ring are put head decoding =
-    let same = ring_entries s t facts entry shape list entries ring are in
+pub ring_refused : (s t : SideData) (facts : StreamFacts) (entry : ℕ) (shape : Shape) (list given : List (ℕ × ℕ)) (error : CmdError) → RingFetched s t facts entry shape list → given ≡ list → facts.put < facts.areas.ring → headed entry facts ≡ Ok shape → decoded (values_of given) facts ≡ Err error → IsCopy list facts (Err error)
+ring_refused s t facts entry shape list given error ring are put head decoding =
+    let same = ring_entries s t facts entry shape list given ring are in
     rw ring.listed (entries_refused facts shape (entry ∷ ring.values) error put head ring.all (ap (λ values. decoded values facts) (sym same) ∙ decoding))
 
 -- the header alone
@@ -173,15 +170,15 @@ command_fetched s t u facts entry shape list longer found ring row =
     let whole : longer ≡ ringed ++ words_at found.from row.values = row.appended ∙ ap (λ (l : List (ℕ × ℕ)). l ++ words_at found.from row.values) ring.listed in
     subst (λ (l : List (ℕ × ℕ)). Fetches s u l) (sym whole) (fetches_then s t u ringed (words_at found.from row.values) ring.fetches row.fetches)
 
-pub command_accepted : (s t u : SideData) (facts : StreamFacts) (entry : ℕ) (shape : Shape) (list longer : List (ℕ × ℕ)) (entries : List ℕ) (found : Decoded) → RingFetched s t facts entry shape list → entries ≡ map (λ word. word.1) list → FetchesRow t u found.from found.count list longer → facts.put < facts.areas.ring → headed entry facts ≡ Ok shape → decoded entries facts ≡ Ok found → IsCopy longer facts (Ok found.command)
-command_accepted s t u facts entry shape list longer entries found ring are row put head decoding =
-    let same = ring_entries s t facts entry shape list entries ring are in
+pub command_accepted : (s t u : SideData) (facts : StreamFacts) (entry : ℕ) (shape : Shape) (list longer given : List (ℕ × ℕ)) (found : Decoded) → RingFetched s t facts entry shape list → given ≡ list → FetchesRow t u found.from found.count list longer → facts.put < facts.areas.ring → headed entry facts ≡ Ok shape → decoded (values_of given) facts ≡ Ok found → IsCopy longer facts (Ok found.command)
+command_accepted s t u facts entry shape list longer given found ring are row put head decoding =
+    let same = ring_entries s t facts entry shape list given ring are in
     let whole : longer ≡ words_at facts.get (entry ∷ ring.values) ++ words_at found.from row.values = row.appended ∙ ap (λ (l : List (ℕ × ℕ)). l ++ words_at found.from row.values) ring.listed in
     rw whole (command_copied facts shape (entry ∷ ring.values) found row.values put head ring.all (ap (λ values. decoded values facts) (sym same) ∙ decoding) row.all)
 
-pub transfer_some : (s t u : SideData) (facts : StreamFacts) (entry : ℕ) (shape : Shape) (list : List (ℕ × ℕ)) (entries : List ℕ) (found : Decoded) → RingFetched s t facts entry shape list → entries ≡ map (λ word. word.1) list → FetchesRowInPart t u found.from found.count → facts.put < facts.areas.ring → headed entry facts ≡ Ok shape → decoded entries facts ≡ Ok found → FetchesSome s u facts
-transfer_some s t u facts entry shape list entries found ring are part put head decoding =
-    let same = ring_entries s t facts entry shape list entries ring are in
+pub transfer_some : (s t u : SideData) (facts : StreamFacts) (entry : ℕ) (shape : Shape) (list given : List (ℕ × ℕ)) (found : Decoded) → RingFetched s t facts entry shape list → given ≡ list → FetchesRowInPart t u found.from found.count → facts.put < facts.areas.ring → headed entry facts ≡ Ok shape → decoded (values_of given) facts ≡ Ok found → FetchesSome s u facts
+transfer_some s t u facts entry shape list given found ring are part put head decoding =
+    let same = ring_entries s t facts entry shape list given ring are in
     some_transfer s u facts shape entry ring.values found part.values put head ring.all (ap (λ values. decoded values facts) (sym same) ∙ decoding) part.some (fetches_then s t u (words_at facts.get (entry ∷ ring.values)) (words_at found.from part.values) ring.fetches part.fetches)
 
 pub nothing_fetched : (facts : StreamFacts) (list : List (ℕ × ℕ)) → list ≡ [] → facts.areas.ring ≤ facts.put → IsCopy list facts (Err OutOfBounds)

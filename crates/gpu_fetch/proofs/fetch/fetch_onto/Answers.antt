@@ -1,18 +1,18 @@
 -- Each goal is a lemma of Parts on the words that were fetched so far.
-use Rattle.std.proofs.Common.{◌≡◌, ℕ, ◌+◌, ◌-◌, ◌++◌, ◌∷◌, [], List, map, Ok, inl, inr, ⊎_elim, refl, sym, ap, ◌∙◌, subst, arith}
+use Rattle.std.proofs.Common.{◌≡◌, ℕ, ◌+◌, ◌-◌, ◌++◌, ◌∷◌, [], List, length, Ok, inl, inr, ⊎_elim, sym, subst, arith}
 use Rattle.std.proofs.lemmas.Result.{MatchResult-from_err}
 use Rattle.std.proofs.lemmas.List.{append-nil}
 use Rattle.std.proofs.lemmas.List.Elements.{All-nil, All-cons}
-use Rattle.std.specs.List.{All}
+use Rattle.std.specs.List.{All, slice_range}
 use Rattle.gpu_cmd.specs.declared.facts.StreamFacts.{StreamFacts}
 use Rattle.gpu_cmd.specs.Checks.{headed}
 use Rattle.gpu_fetch.specs.Side.{SideData, Fetches}
-use Rattle.gpu_fetch.specs.Fetched.{items_since, FetchesSome, FetchesRow, FetchesRows}
+use Rattle.gpu_fetch.specs.Fetched.{items_since, FetchesRow, FetchesRows}
 use Rattle.gpu_fetch.proofs.Fetching.{fetches_one, added_is, row_behind, row_appends, row_shown}
-use Rattle.gpu_fetch.proofs.Parts.{RingFetched, nothing_fetched, header_fetched, header_some, header_onto, rows_header, ring_onto, added_read, some_ring, ring_headed, ring_some, ring_part_some, ring_refused, command_fetched, command_accepted, transfer_some, rows_ring}
+use Rattle.gpu_fetch.proofs.Parts.{RingFetched, nothing_fetched, header_fetched, header_some, header_onto, rows_header, ring_onto, added_read, some_ring, ring_headed, ring_part_some, ring_refused, command_fetched, command_accepted, transfer_some, rows_ring}
 use Rattle.gpu_fetch.proofs.fetch.fetch_onto.Given.{Over}
 use Rattle.gpu_fetch.proofs.fetch.fetch_onto.Goals as goal
-use Rattle.gpu_fetch.proofs.fetch.fetch_onto.Goals.{After-deref-2, In_ok-entry, After-push_reserved, In_ok-fetch_row, In_ok-fetch_row-in-Ok-decode}
+use Rattle.gpu_fetch.proofs.fetch.fetch_onto.Goals.{After-deref, In_ok-entry, After-push_reserved, In_ok-fetch_row, In_ok-fetch_row-in-Ok-decode}
 
 -- ---- before all ring words are fetched
 
@@ -103,51 +103,27 @@ module _ (g : Over) (c : goal.In_ok-fetch_row g) where
       row_shown S begun ringed (facts.get + 1) (c.in-Ok.shape.ring_words - 1) were ((facts.get, c.in_ok-entry.entry) ∷ []) c.push_reserved.new.self.items c.fetch_row.new.list.items (pushed g (goal.at.In_ok-fetch_row g c).After-push_reserved) c.in_ok-fetch_row.ensures.row header c.in_ok-fetch_row.ensures.shows
 
   -- where the fetching stops here
-  stops_some : FetchesSome old ringed facts
-  stops_some = ring_some old ringed ringed facts c.in_ok-entry.entry c.in-Ok.shape own ring refl c.if-facts.false passed
-
   stops_rows : (last : SideData) → last ≡ ringed → FetchesRows old last facts
   stops_rows last same = rows_ring old ringed last facts c.in_ok-entry.entry c.in-Ok.shape own ring same passed
 
-pub returns-in_err-reserve-2-clause-some : goal.returns-in_err-reserve-2-clause-some
-returns-in_err-reserve-2-clause-some g c =
-    let here = stops_some g (goal.at.returns-in_err-reserve-2-clause-some g c).In_ok-fetch_row in
-    MatchResult-from_err c.from_residual-in_err-reserve-2.result _ _ c.from_residual-in_err-reserve-2.ensures.0 (λ _. here)
-
-pub returns-in_err-reserve-2-clause-rows : goal.returns-in_err-reserve-2-clause-rows
-returns-in_err-reserve-2-clause-rows g c =
-    let here = stops_rows g (goal.at.returns-in_err-reserve-2-clause-rows g c).In_ok-fetch_row (g.P.ServiceSide.side c.fetch_row.new.side) refl in
-    MatchResult-from_err c.from_residual-in_err-reserve-2.result _ _ c.from_residual-in_err-reserve-2.ensures.0 (λ _. inr here)
-
-pub returns-in_err-copy_values-clause-some : goal.returns-in_err-copy_values-clause-some
-returns-in_err-copy_values-clause-some g c =
-    let here = stops_some g (goal.at.returns-in_err-copy_values-clause-some g c).In_ok-fetch_row in
-    MatchResult-from_err c.from_residual-in_err-copy_values.result _ _ c.from_residual-in_err-copy_values.ensures.0 (λ _. here)
-
-pub returns-in_err-copy_values-clause-rows : goal.returns-in_err-copy_values-clause-rows
-returns-in_err-copy_values-clause-rows g c =
-    let here = stops_rows g (goal.at.returns-in_err-copy_values-clause-rows g c).In_ok-fetch_row (g.P.ServiceSide.side c.fetch_row.new.side) refl in
-    MatchResult-from_err c.from_residual-in_err-copy_values.result _ _ c.from_residual-in_err-copy_values.ensures.0 (λ _. inr here)
-
 -- ---- once they are decoded
 
--- the entries that the decoder is given are the values of the ring words
-are : (g : Over) (c : goal.After-deref-2 g) → c.deref-2.result.now ≡ map (λ word. word.1) (own g (goal.at.After-deref-2 g c).In_ok-fetch_row)
-are g c =
-    let were = c.args.list.now.items in
-    c.deref-2.ensures.value ∙ c.in_ok-copy_values.ensures ∙ ap (map (λ word. word.1)) (added_read were c.deref.result.now c.fetch_row.new.list.items c.len-from.result c.deref.ensures.value (omega (arith, c.len-from.ensures)))
+-- the decoder is given the ring words
+are : (g : Over) (c : goal.After-deref g) → slice_range c.deref.result.now c.len-from.result (length c.deref.result.now) ≡ own g (goal.at.After-deref g c).In_ok-fetch_row
+are g c = added_read c.args.list.now.items c.deref.result.now c.fetch_row.new.list.items c.len-from.result c.deref.ensures.value (omega (arith, c.len-from.ensures))
 
 pub decode-requires-clause-head : goal.decode-requires-clause-head
 decode-requires-clause-head g c =
-    let r = (goal.at.decode-requires-clause-head g c).In_ok-fetch_row in
-    ring_headed (old g r) (ringed g r) (facts g r) c.in_ok-entry.entry c.in-Ok.shape (own g r) c.deref-2.result.now (ring g r) (are g c) (passed g r)
+    let path = goal.at.decode-requires-clause-head g c in
+    let r = path.In_ok-fetch_row in
+    ring_headed (old g r) (ringed g r) (facts g r) c.in_ok-entry.entry c.in-Ok.shape (own g r) _ (ring g r) (are g path.After-deref) (passed g r)
 
 pub returns-in_err-fetch_row-in-Ok-decode-clause-some : goal.returns-in_err-fetch_row-in-Ok-decode-clause-some
 returns-in_err-fetch_row-in-Ok-decode-clause-some g c =
     let path = goal.at.returns-in_err-fetch_row-in-Ok-decode-clause-some g c in
     let r = path.In_ok-fetch_row in
     let u = g.P.ServiceSide.side c.fetch_row-in-Ok-decode.new.side in
-    let here = transfer_some (old g r) (ringed g r) u (facts g r) c.in_ok-entry.entry c.in-Ok.shape (own g r) c.deref-2.result.now c.in-Ok-decode.found (ring g r) (are g path.After-deref-2) c.in_err-fetch_row-in-Ok-decode.ensures.part c.if-facts.false (passed g r) (sym c.in-Ok-decode.ensures.verdict) in
+    let here = transfer_some (old g r) (ringed g r) u (facts g r) c.in_ok-entry.entry c.in-Ok.shape (own g r) _ c.in-Ok-decode.found (ring g r) (are g path.After-deref) c.in_err-fetch_row-in-Ok-decode.ensures.part c.if-facts.false (passed g r) (sym c.in-Ok-decode.ensures.verdict) in
     MatchResult-from_err c.from_residual-in_err-fetch_row-in-Ok-decode.result _ _ c.from_residual-in_err-fetch_row-in-Ok-decode.ensures.0 (λ _. here)
 
 pub returns-in_err-fetch_row-in-Ok-decode-clause-rows : goal.returns-in_err-fetch_row-in-Ok-decode-clause-rows
@@ -186,8 +162,8 @@ returns-in_ok-fetch_row-in-Ok-decode-clause-shows g c =
 pub returns-in_ok-fetch_row-in-Ok-decode-clause-copy : goal.returns-in_ok-fetch_row-in-Ok-decode-clause-copy
 returns-in_ok-fetch_row-in-Ok-decode-clause-copy g c =
     let r = rung g c in
-    let decoded = (goal.at.returns-in_ok-fetch_row-in-Ok-decode-clause-copy g c).After-deref-2 in
-    command_accepted (old g r) (ringed g r) (last g c) (facts g r) c.in_ok-entry.entry c.in-Ok.shape (own g r) (all g c) c.deref-2.result.now c.in-Ok-decode.found (ring g r) (are g decoded) (row g c) c.if-facts.false (passed g r) (sym c.in-Ok-decode.ensures.verdict)
+    let decoded = (goal.at.returns-in_ok-fetch_row-in-Ok-decode-clause-copy g c).After-deref in
+    command_accepted (old g r) (ringed g r) (last g c) (facts g r) c.in_ok-entry.entry c.in-Ok.shape (own g r) (all g c) _ c.in-Ok-decode.found (ring g r) (are g decoded) (row g c) c.if-facts.false (passed g r) (sym c.in-Ok-decode.ensures.verdict)
 
 -- ---- where the decoder refused
 
@@ -203,4 +179,4 @@ pub returns-in-Err-decode-clause-copy : goal.returns-in-Err-decode-clause-copy
 returns-in-Err-decode-clause-copy g c =
     let path = goal.at.returns-in-Err-decode-clause-copy g c in
     let r = path.In_ok-fetch_row in
-    ring_refused (old g r) (ringed g r) (facts g r) c.in_ok-entry.entry c.in-Ok.shape (own g r) c.deref-2.result.now c.in-Err-decode.error (ring g r) (are g path.After-deref-2) c.if-facts.false (passed g r) (sym c.in-Err-decode.ensures.verdict)
+    ring_refused (old g r) (ringed g r) (facts g r) c.in_ok-entry.entry c.in-Ok.shape (own g r) _ c.in-Err-decode.error (ring g r) (are g path.After-deref) c.if-facts.false (passed g r) (sym c.in-Err-decode.ensures.verdict)
