@@ -4,3 +4,4 @@ pub mod Lookups
 pub mod Counting
 pub mod Steps
 pub mod Totals
+pub mod Words
