@@ -5,7 +5,7 @@ use Rattle.std.specs.List.{All}
 use Rattle.gpu_cmd.specs.declared.facts.StreamFacts.{StreamFacts}
 use Rattle.gpu_cmd.specs.declared.command.Command.{Command}
 use Rattle.gpu_cmd.specs.declared.error.CmdError.{CmdError}
-use Rattle.gpu_cmd.specs.Copied.{fetched_places, places_listed, IsCopy}
+use Rattle.gpu_cmd.specs.Copied.{IsCopy}
 use Rattle.std.specs.Prelude.{Result}
 use Rattle.gpu_plan.specs.Plans.{PlansData}
 use Rattle.gpu_fetch.specs.Side.{SideData}
@@ -90,15 +90,12 @@ has_finished p house new clients run w lawful played out runs its_words ends eve
 
 -- ---- a fetch
 
-pub fetched_with : (p : PlansData) (house : PlainHouse) (clients : List RunClientData) (run new : OutData SideData ℕ) (words list : List (ℕ × ℕ)) (facts : StreamFacts) (verdict : Result Command CmdError) (w : PlainData) → IsOut p house clients run → done_at clients run.run.stream ≡ count p house.core.past run.run.stream
-    → w ≡ (client_of_stream clients run.run.stream).words → run.run.facts.get ≢ run.run.facts.put → HasMetNote IsBeside IsNoteBeside w run new → new.side.fetched ≡ run.side.fetched ++ words → All (IsValueOfPlace w) words → list ≡ words → facts ≡ run.run.facts → IsCopy list facts verdict
-    → HasFetched p house clients new words
-fetched_with p house clients run new words list facts verdict w out there is more has grows held listed its_facts copy =
+pub fetched_with : (p : PlansData) (house : PlainHouse) (clients : List RunClientData) (run new : OutData SideData ℕ) (words : List (ℕ × ℕ)) (verdict : Result Command CmdError) (w : PlainData) → IsOut p house clients run → done_at clients run.run.stream ≡ count p house.core.past run.run.stream
+    → w ≡ (client_of_stream clients run.run.stream).words → run.run.facts.get ≢ run.run.facts.put → HasMetNote IsBeside IsNoteBeside w run new → new.side.fetched ≡ run.side.fetched ++ words → All (IsValueOfPlace w) words → IsCopy words run.run.facts verdict → HasFetched p house clients new words
+fetched_with p house clients run new words verdict w out there is more has grows held copy =
     let mine = (client_of_stream clients run.run.stream).words in
     let still : StillBelongs IsBeside IsNoteBeside mine run.side new.side = subst (λ (v : PlainData). StillBelongs IsBeside IsNoteBeside v run.side new.side) is has.still in
-    has_fetched p house clients run new words out there more has.run has.met grows (subst (λ (v : PlainData). All (IsValueOfPlace v) words) is held)
-    (subst (λ (f : StreamFacts). places_listed words ≡ fetched_places words f) its_facts (subst (λ (l : List (ℕ × ℕ)). places_listed l ≡ fetched_places l facts) listed copy.places))
-    still.beside still.notes
+    has_fetched p house clients run new words out there more has.run has.met grows (subst (λ (v : PlainData). All (IsValueOfPlace v) words) is held) copy.places still.beside still.notes
 
 -- the note that a fetch has met is met after the step
 pub stays_met : (side : SideData → SideData) (mark : ℕ → ℕ) (p : PlansData) (house new : PlainHouse) (run now : OutData SideData ℕ) (words : List (ℕ × ℕ)) (next : Next) → run.note ≡ None → Steps side mark p house new run now words next → now.note ≡ run.note

@@ -1,6 +1,8 @@
-use Rattle.std.proofs.Common.{◌≡◌, Bool, true, false, refl, sym, ap, ◌∙◌}
+use Rattle.std.proofs.Common.{◌≡◌, Bool, true, false, sym, ap, subst, ◌∙◌}
+use Rattle.gpu_fetch.specs.Fetched.{FetchedData}
 use Rattle.gpu_house.proofs.Going.{goes_further, stops}
 use Rattle.gpu_run.specs.Turning.{HasTakenNext}
+use Rattle.gpu_run.proofs.Stepping.{HasFetched}
 use Rattle.gpu_run.proofs.RunTurns.{words_are, fetched_with, stepped_with}
 use Rattle.gpu_run.proofs.running.turn.Given.{Over}
 use Rattle.gpu_run.proofs.running.turn.Goals.{In_ok-step}
@@ -13,11 +15,15 @@ stepped g c more answer =
     let run = c.args.run.now in
     let w = c.words-words.result.now in
     let q = c.requires in
-    let e = c.in_ok-fetched.ensures in
+    let e = c.in_ok-verdict.ensures in
     let t = c.in_ok-step.ensures in
+    let list = c.fetch.new.list.items in
+    let found = c.of-fetched.result.words in
+    let same : list ≡ found = sym (ap (λ (f : FetchedData). f.words) c.of-fetched.ensures.is ∙ c.deref.ensures.value) in
     let its_words = words_are p c.args.clients.now run.run.stream c.stream.result c.index-clients-stream.result w q.out.is_known q.out.many.as_clients c.stream.ensures c.index-clients-stream.is c.words-words.ensures in
-    let has = fetched_with p c.args.house.now c.args.clients.now run c.fetch.new.self c.in_ok-fetched.fetched.words c.in_ok-fetched.fetched.words c.in_ok-fetched.fetched.facts c.in_ok-fetched.fetched.verdict w q.out q.there its_words q.more e.keeps e.fetches.grows e.fetches.found refl e.facts c.shows_copy.ensures.copy in
-    stepped_with p c.args.house.now c.step.new.self c.args.clients.now run c.fetch.new.self c.step.new.run c.in_ok-fetched.fetched.words w c.in_ok-step.field-0.next more q.lawful q.played q.runs has e.keeps.run e.keeps.met its_words _ _ t.steps.steps t.keeps.slots t.keeps.still t.keeps.list answer
+    let has = fetched_with p c.args.house.now c.args.clients.now run c.fetch.new.self list c.in_ok-verdict.verdict w q.out q.there its_words q.more e.keeps e.fetches.grows e.fetches.found e.copy in
+    stepped_with p c.args.house.now c.step.new.self c.args.clients.now run c.fetch.new.self c.step.new.run found w c.in_ok-step.field-0.next more q.lawful q.played q.runs (subst (HasFetched p c.args.house.now c.args.clients.now c.fetch.new.self) same has) e.keeps.run e.keeps.met its_words _ _ t.steps.steps t.keeps.slots t.keeps.still
+    t.keeps.list answer
 
 pub returns-in-More : goal.returns-in-More
 returns-in-More g c = stepped g (goal.at.returns-in-More g c).In_ok-step true (sym (ap goes_further (sym c.into_next.ensures ∙ c.in-More.is)))
