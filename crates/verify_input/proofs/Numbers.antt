@@ -105,6 +105,62 @@ own_number_there n small = rw (numeral_decimal n (omega arith)) (rw (no_lead) (n
           | inr pos ↦ let first = first_decimal n pos (omega arith) in grind (arith, nat_tests)
         ]
 
+-- ---- one digit or two
+
+not_digits : (word : List ℕ) → list_all (λ c. is_digit c 10) word ≡ false → decimal_of word ≡ None
+not_digits word other = by (decimal_of word) refl
+  where
+    by : (o : Option ℕ) → decimal_of word ≡ o → decimal_of word ≡ None
+    by None e = e
+    by (Some n) e = let all = (number_told 10 10 (2 ^ 32) word n e).digits in absurd (cc)
+
+pub digit_said : (c : ℕ) → decimal_of (c ∷ []) ≡ cond (is_digit c 10) (Some (digit_value c)) None
+digit_said c = by (is_digit c 10) refl
+  where
+    by : (b : Bool) → is_digit c 10 ≡ b → decimal_of (c ∷ []) ≡ cond b (Some (digit_value c)) None
+    by true test =
+        let low : digit_value c < 10 = ltb-true _ _ test in
+        number_there 10 10 (2 ^ 32) (c ∷ []) (digit_value c) (record { some = omega arith; short = omega arith; digits = and_from _ _ test refl; small = omega arith; is = omega arith })
+    by false other = not_digits (c ∷ []) (ap (λ b. b && true) other)
+
+pub digit_few : (c n : ℕ) → decimal_of (c ∷ []) ≡ Some n → n < 10
+digit_few c n e =
+    let is = number_told 10 10 (2 ^ 32) (c ∷ []) n e in
+    let low : digit_value c < 10 = ltb-true _ _ (and_parts _ _ is.digits).0 in
+    let same : 0 * 10 + digit_value c ≡ n = is.is in
+    omega arith
+
+-- what two digits say, the first of which is no zero
+abbrev pub of_two : Option ℕ → Option ℕ → Option ℕ
+of_two None one = None
+of_two (Some ten) None = None
+of_two (Some ten) (Some one) = cond (eqb ten 0) None (Some (10 * ten + one))
+
+both_said : (a b : ℕ) → own_number (a ∷ b ∷ []) ≡ of_two (decimal_of (a ∷ [])) (decimal_of (b ∷ []))
+unfolding own_number
+both_said a b = (by (is_digit a 10) (is_digit b 10) (eqb a 48) refl refl refl) ∙ (λ i. of_two (sym (digit_said a) i) (sym (digit_said b) i))
+  where
+    by : (x y zero : Bool) → is_digit a 10 ≡ x → is_digit b 10 ≡ y → eqb a 48 ≡ zero → cond zero None (decimal_of (a ∷ b ∷ [])) ≡ of_two (cond x (Some (digit_value a)) None) (cond y (Some (digit_value b)) None)
+    by true true true ea eb ez =
+        let none : digit_value a ≡ 0 = grind (arith, nat_tests) in
+        rw (none) refl
+    by true true false ea eb ez =
+        let ten : digit_value a < 10 = ltb-true _ _ ea in
+        let one : digit_value b < 10 = ltb-true _ _ eb in
+        let some : eqb (digit_value a) 0 ≡ false = grind (arith, nat_tests) in
+        number_there 10 10 (2 ^ 32) (a ∷ b ∷ []) (10 * digit_value a + digit_value b) (record { some = omega arith; short = omega arith; digits = and_from _ _ ea (and_from _ _ eb refl); small = omega arith; is = omega arith })
+        ∙ rw (some) refl
+    by true false true ea eb ez = refl
+    by true false false ea eb ez = not_digits (a ∷ b ∷ []) (rw (ea, eb) refl)
+    by false y true ea eb ez = refl
+    by false y false ea eb ez = not_digits (a ∷ b ∷ []) (ap (λ t. t && (is_digit b 10 && true)) ea)
+
+pub two_said : (word : List ℕ) → length word ≡ 2 → own_number word ≡ of_two (decimal_of (get_or word 0 0 ∷ [])) (decimal_of (get_or word 1 0 ∷ []))
+two_said [] two = absurd (omega arith)
+two_said (x ∷ []) two = absurd (omega arith)
+two_said (x ∷ y ∷ []) two = both_said x y
+two_said (x ∷ y ∷ z ∷ more) two = absurd (omega arith)
+
 -- ---- hexadecimal values
 
 digit_again : (c : ℕ) → digit_value c < 16 → is_small c ≡ true → digit_char (digit_value c) ≡ c

@@ -1,11 +1,9 @@
 -- The lines of dumps and of looks: what is read at its place decides whether a line may stand there.
-use Rattle.std.proofs.Common.{◌≡◌, ℕ, ◌+◌, ◌-◌, ◌^◌, ◌<◌, ◌≤◌, Bool, true, false, Result, Ok, Err, List, [], ◌∷◌, ◌++◌, length, length-append, take, drop, reverse, refl, sym, ap, subst, ◌∙◌, append_assoc, arith}
+use Rattle.std.proofs.Common.{◌≡◌, ℕ, ◌+◌, ◌^◌, ◌<◌, ◌≤◌, Bool, true, false, Result, Ok, Err, List, [], ◌∷◌, ◌++◌, length, length-append, refl, sym, ap, subst, ◌∙◌, append_assoc, arith}
 use Rattle.std.specs.List.{concat}
-use Rattle.std.proofs.lemmas.List.{take-append-drop, drop_at, reverse-append, length-reverse, length-drop}
 use Rattle.gpu_store.specs.Sums.{texel_sum}
 use Rattle.gpu_plan.specs.Plans.{PlansData}
 use Rattle.gpu_journal.specs.declared.event.Event.{Event}
-use Rattle.gpu_journal.specs.World.{replay}
 use Rattle.gpu_journal.specs.Dumps.{MayDump}
 use Rattle.journal_text.specs.Digits.{hex8}
 use Rattle.journal_text.specs.Lines.{dump_text, view_text}
@@ -125,16 +123,3 @@ module _ {p : PlansData} {h : List Event} {viewer all m : ℕ} {old : Rest} (is 
   pub last_bad : {bad : Bad} → IsBad p h (Look viewer ∷ []) all old bad → IsBad p h (LastLook viewer ∷ []) m old bad
   last_bad {bad} off =
       bad_as p h (Look viewer) (LastLook viewer) all m old bad refl (λ line lines then first may. (length h, (omega (arith, is), omega arith, may.0))) off
-
--- the sum after some first events, by the images that these leave
-pub sum_before : (p : PlansData) (events : List Event) (count : ℕ) → count ≤ length events → texel_sum (replay p (reverse (take count events))) ≡ sum_after p (reverse events) count
-sum_before p events count few =
-    let parts : reverse events ≡ reverse (drop count events) ++ reverse (take count events) =
-    ap reverse (sym (take-append-drop count events)) ∙ reverse-append (take count events) (drop count events) in
-    let one = length-reverse (drop count events) in
-    let two = length-drop count events in
-    let three = length-reverse events in
-    let left : length (reverse (drop count events)) ≡ length (reverse events) - count = omega (arith, one, two, three) in
-    let past : drop (length (reverse events) - count) (reverse events) ≡ reverse (take count events) =
-    ap (drop (length (reverse events) - count)) parts ∙ drop_at (reverse (drop count events)) (reverse (take count events)) (length (reverse events) - count) left in
-    ap (λ (h : List Event). texel_sum (replay p h)) (sym past)

@@ -87,7 +87,7 @@ fn finish<'a>(mut pieces: Pieces<'_>) -> Option<Event<'a>>
 
 // A loss with these words: one as out of memory has none.
 fn lost_with<'a>(stream: u32, why: Why, words: Words<'a>) -> Option<Event<'a>>
-    ensures { result ≡ lost_with stream why words }
+    ensures { result ≡ lost_with stream why words.entry }
 {
     match why {
         Why::Error(_) => {}

@@ -1,4 +1,5 @@
-use Rattle.std.proofs.Common.{◌+◌, [], List, ℕ, ◌++◌, length, subst, ap, ◌∙◌, arith}
+use Rattle.std.proofs.Common.{◌+◌, [], List, ℕ, ◌++◌, length, reverse, subst, ap, ◌∙◌, arith}
+use Rattle.std.proofs.lemmas.List.{length-reverse}
 use Rattle.verify_input.specs.Reading.{IsFault, whole_lines}
 use Rattle.verify_input.specs.Found.{head_of}
 use Rattle.verify_input.proofs.Heads.{bad_early, bad_behind_head}
@@ -39,8 +40,9 @@ pub returns-in-Ok-read_journal-clause-few : goal.returns-in-Ok-read_journal-clau
 returns-in-Ok-read_journal-clause-few c =
     let rest = c.take_names.new.rest in
     let short = rest.short in
-    let few = few_told rest.text.now c.in-Ok-read_journal.events.items c.in-Ok-read_journal.ensures.ok in
-    omega (arith, short, few)
+    let events = c.in-Ok-read_journal.journal.events in
+    let few = few_told rest.text.now (reverse events) c.in-Ok-read_journal.ensures.ok in
+    omega (arith, short, few, length-reverse events)
 
 pub returns-in-Err-Refused-clause-err : goal.returns-in-Err-Refused-clause-err
 returns-in-Err-Refused-clause-err c =

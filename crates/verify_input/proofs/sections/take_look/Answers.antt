@@ -1,5 +1,4 @@
-use Rattle.std.proofs.Common.{◌∷◌, [], subst, sym, ◌∙◌, arith}
-use Rattle.std.proofs.lemmas.List.{length-reverse}
+use Rattle.std.proofs.Common.{◌∷◌, [], subst, sym, ◌∙◌}
 use Rattle.std.proofs.lemmas.Result.{err_from_is_err_and}
 use Rattle.verify_input.specs.Cuts.{IsLine}
 use Rattle.verify_input.specs.Due.{Look}
@@ -14,7 +13,7 @@ use Rattle.verify_input.proofs.sections.take_look.Goals as goal
 read : (c : After-first_look-look) → Seen c.args.history.plans.now (past_of c.args.history) c.args.viewer c.args.rest.now c.first_look-look.result
 read c = record {
   known = c.ranges.viewer.fits;
-  few = (let few = c.requires.history.few in omega (arith, few, length-reverse c.args.history.events.now));
+  few = c.requires.history.few;
   reads = c.first_look-look.ensures;
 }
 

@@ -1,10 +1,8 @@
-use Rattle.std.proofs.Common.{◌≡◌, ◌-◌, ℕ, List, [], length, drop, refl, inl, sym, subst, ap, ◌∙◌, arith}
-use Rattle.std.specs.Prelude.{IfOk}
-use Rattle.gpu_journal.specs.declared.event.Event.{Event}
+use Rattle.std.proofs.Common.{◌≡◌, ℕ, List, [], length, drop, reverse, refl, inl, sym, subst, ap, ◌∙◌, arith}
+use Rattle.std.proofs.lemmas.List.{length-reverse}
 use Rattle.verify_input.specs.Reading.{IsFault, IsFirstBad, whole_lines}
 use Rattle.verify_input.specs.Parts.{before}
 use Rattle.verify_input.specs.Due.{heads_due, IsOff}
-use Rattle.verify_input.specs.Whole.{FindsAll}
 use Rattle.verify_input.specs.declared.border.Border.TheVariants.{Journal}
 use Rattle.verify_input.proofs.Heads.{bad_early}
 use Rattle.verify_input.proofs.Counts.{few_told}
@@ -60,10 +58,10 @@ after_part-after-requires c =
 pub judge_all-requires : goal.judge_all-requires
 judge_all-requires c =
     let short = c.take_names.new.rest.short in
-    let events = few_told c.cut_at_border-cut.result.part.now c.in-Ok-read_journal.events.items c.in-Ok-read_journal.ensures.ok in
+    let past = c.in-Ok-read_journal.journal.events in
+    let events = few_told c.cut_at_border-cut.result.part.now (reverse past) c.in-Ok-read_journal.ensures.ok in
     let shorter = c.cut_at_border-cut.ensures.shorter in
-    let slice = ap length c.as_slice.ensures.value in
-    omega (arith, short, events, shorter, slice)
+    omega (arith, short, events, shorter, length-reverse past)
 
 pub returns : goal.returns
 returns c =
@@ -74,8 +72,8 @@ returns c =
     let cut = c.cut_at_border-cut.ensures in
     let after = c.after_part-after.result in
     let others : whole_lines after.text.now ≡ drop (length (before Journal lines)) lines = ap whole_lines c.after_part-after.ensures.text ∙ cut.after in
-    let events = c.in-Ok-read_journal.events.items in
+    let events = reverse c.in-Ok-read_journal.journal.events in
     let start = c.after_part-after.ensures.line ∙ begins_at taken after.text.now c.args.lines c.cut_at_border-cut.result.lines refl cut.lines (omega (arith, before_few Journal lines, cut.lines)) others in
     found_rest p c.args.base c.args.lines after.line (whole_lines c.args.text.now) (whole_lines after.text.now) events c.judge_all.result start
     (told_all taken part after.text.now events cut.before c.in-Ok-read_journal.ensures.ok others)
-    (subst (λ (es : List Event). IfOk c.judge_all.result (λ finding. FindsAll p c.args.base es (whole_lines after.text.now) after.line finding)) c.as_slice.ensures.value c.judge_all.ensures)
+    c.judge_all.ensures
