@@ -1,9 +1,6 @@
 -- How many bytes and texels are made.
-use Rattle.std.proofs.Common.{◌≡◌, ℕ, ◌+◌, ◌*◌, ◌/◌, ◌≤◌, Some, List, length, take, drop, refl, ap, ◌∙◌, arith, length-drop}
-use Rattle.std.proofs.lemmas.Grind.{common_steps}
+use Rattle.std.proofs.Common.{◌≡◌, ℕ, ◌+◌, ◌*◌, ◌/◌, ◌≤◌, Some, List, length, drop, refl, ap, ◌∙◌, arith}
 use Rattle.std.proofs.lemmas.List.FromFn.{length-map-range_with_len}
-use Rattle.gpu_word.specs.Bytes.{bytes_of}
-use Rattle.gpu_word.proofs.Parts.{length-bytes_of}
 use Rattle.gpu_word.specs.declared.format.Format.{Format}
 use Rattle.gpu_word.specs.declared.format.Format.TheVariants.{Rgba8, Rgb565, Rgba4444, L8}
 use Rattle.gpu_word.specs.Formats.{format_of, format_bytes}
@@ -13,13 +10,6 @@ use Rattle.gpu_cmd.specs.Spans.{span_at, words_in}
 use Rattle.gpu_cmd.specs.Lawful.{IsLawfulAreas}
 use Rattle.gpu_cmd.specs.Ranges.{texel_bytes}
 use Rattle.gpu_store.specs.Conversion.{texel_of, texels_of, first_texels}
-
--- a given number of bytes of words
-pub bytes_counted : (words : List ℕ) (from count : ℕ) → from + count ≤ 4 * length words → length (take count (drop from (bytes_of words))) ≡ count
-bytes_counted words from count h =
-    let all : length (bytes_of words) ≡ 4 * length words = length-bytes_of words in
-    let rest : count ≤ length (drop from (bytes_of words)) = omega (arith, length-drop from (bytes_of words)) in
-    grind (arith, common_steps)
 
 texels_counted : (format : Format) (bytes : List ℕ) (count : ℕ) → length bytes ≡ count * format_bytes format → length (texels_of format bytes) ≡ count
 unfolding first_texels

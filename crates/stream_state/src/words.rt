@@ -1,5 +1,6 @@
 //! The words of a step: its ring words, the header first, and then its transfer words.
 ghost use Rattle.std.specs.Prelude.{◌≡◌, ◌-◌, ◌*◌, ◌%◌, ◌≤◌, ◌<◌, length, IfOk};
+ghost use Rattle.gpu_word.specs.declared.format.Format.TheVariants.{Rgba8};
 ghost use Rattle.gpu_store.specs.Conversion.{texels_of};
 ghost use Rattle.stream_state.specs.Accepted.{HasTransfer};
 ghost use Rattle.stream_state.specs.Steps.{ring_words_in, transfer_bytes, immediate_bytes};
@@ -57,7 +58,7 @@ pub fn transfer_texels(alloc: Global, words: &[(u32, u32)], count: u128) -> Resu
     requires transfer { HasTransfer words.now 0 count }
     requires whole { count % 4 ≡ 0 }
     ensures texels { IfOk result
-        (λ texels. texels ≡ texels_of Format.Rgba8 (transfer_bytes words.now 0 count)) }
+        (λ texels. texels ≡ texels_of Rgba8 (transfer_bytes words.now 0 count)) }
     ensures count { IfOk result (λ texels. 4 * length texels ≡ count) }
 {
     if count == 0 {
