@@ -22,6 +22,7 @@ pub struct Decoded {
 
 // Checks 6 to 10 on a command with a given number of ring words.
 #[tactic(auto, unfolding(crate::specs::Checks::checked))]
+#[inline(always)]
 fn checked(ring_words: usize, command: Command, facts: &StreamFacts) -> Result<Decoded, CmdError>
     requires lawful { IsLawfulFacts facts.now }
     requires few { ring_words < 2 ^ 21 }
@@ -57,6 +58,7 @@ fn checked(ring_words: usize, command: Command, facts: &StreamFacts) -> Result<D
 /// - its data and its offsets into result memories are
 /// - its memories hold what it reads and writes
 /// - the stream's quota holds with its transfer words too
+#[inline(always)]
 pub fn decode(words: &[(u32, u32)], facts: &StreamFacts) -> Result<Decoded, CmdError>
     requires lawful { IsLawfulFacts facts.now }
     requires head { IsOkAnd (headed (slice_index (values_of words.now) 0) facts.now)

@@ -22,6 +22,7 @@ pub struct Shape {
 /// The checks on a header alone, in order: that the size is not 0, that it fits the room, that a command has the id,
 /// that the size fits the id, and that the stream's quota holds with the command's ring words.
 #[tactic(auto, unfolding(crate::specs::Checks::headed))]
+#[inline(always)]
 pub fn head(entry: u32, facts: &StreamFacts) -> Result<Shape, CmdError>
     requires lawful { IsLawfulFacts facts.now }
     requires put { facts.now.put < facts.now.areas.ring }

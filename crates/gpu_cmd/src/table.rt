@@ -9,6 +9,7 @@ use gpu_word::split;
 
 // Whether a command of this id may have a given number of entries, or `None` where no command has this id.
 #[tactic(auto, unfolding(crate::specs::Table::row_of))]
+#[inline(always)]
 pub(crate) fn fits(id: u32, size: u32) -> Option<bool>
     ensures { result ≡ option_map (λ row. fits row size) (row_of id) }
 {
@@ -47,6 +48,7 @@ pub(crate) fn ring_words(id: u32, size: u32) -> u32
 
 // The command of an id that a command has, by its ring words.
 #[tactic(auto, unfolding(crate::specs::Table::row_of))]
+#[inline(always)]
 pub(crate) fn command(id: u32, words: &[(u32, u32)]) -> Command
     requires { IsSomeAnd (row_of id) (λ row. IsTrue (fits row (length words.now))) }
     ensures { IfSome (row_of id) (λ row. result ≡ row.command (argument (values_of words.now))) }

@@ -10,6 +10,7 @@ use gpu_cmd::{CmdError, Command, StreamFacts, decode, head};
 use gpu_word::Memory;
 
 // Fetches the words of a given number of places that follow one another, in rising order, and appends them to a list.
+#[inline(always)]
 fn fetch_row<P: ServiceSide>(
     side: &mut P,
     words: &P::Words,

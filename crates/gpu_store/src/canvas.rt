@@ -81,6 +81,7 @@ impl Canvas {
     }
 
     /// Writes one texel into a rectangle.
+    #[inline(always)]
     pub(crate) fn fill(&mut self, width: usize, rect: Rect, texel: u32)
         requires columns { rect.x + rect.w ≤ width }
         requires rows { (rect.y + rect.h) * width ≤ length self.old }
@@ -93,6 +94,7 @@ impl Canvas {
     /// Writes into a rectangle the texels of a rectangle of as many columns and rows of other texels.
     ///
     /// The other rectangle begins in column `sx` of row `sy` of rows that are `source_width` long.
+    #[inline(always)]
     pub(crate) fn put(
         &mut self,
         width: usize,

@@ -57,6 +57,7 @@ fn move_row(texels: &mut [u32], from: usize, count: usize, to: usize)
 }
 
 /// Writes one texel into a rectangle.
+#[inline(always)]
 pub fn fill(texels: &mut [u32], width: usize, rect: Rect, texel: u32)
     requires columns { rect.x + rect.w ≤ width }
     requires rows { (rect.y + rect.h) * width ≤ length texels.old }
@@ -72,6 +73,7 @@ pub fn fill(texels: &mut [u32], width: usize, rect: Rect, texel: u32)
 /// Writes into a rectangle the texels of a rectangle of as many columns and rows of other texels.
 ///
 /// The other rectangle begins in column `sx` of row `sy` of rows that are `source_width` long.
+#[inline(always)]
 pub fn put(
     texels: &mut [u32],
     width: usize,
