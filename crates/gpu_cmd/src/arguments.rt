@@ -82,7 +82,8 @@ pub fn insert_fence(words: &[(u32, u32)]) -> Command
 
 pub fn wait_token(words: &[(u32, u32)]) -> Command
     requires { 3 < length words.now }
-    ensures { let a = argument (values_of words.now) in result ≡ Command.WaitToken (a 1) (a 2) (a 3) }
+    ensures { let a = argument (values_of words.now) in
+        result ≡ Command.WaitToken (a 1) (a 2) (a 3) }
 {
     Command::WaitToken {
         stream: words[1].1,
@@ -93,7 +94,8 @@ pub fn wait_token(words: &[(u32, u32)]) -> Command
 
 pub fn create_image(words: &[(u32, u32)]) -> Command
     requires { 3 < length words.now }
-    ensures { let a = argument (values_of words.now) in result ≡ Command.CreateImage (a 1) (a 2) (a 3) }
+    ensures { let a = argument (values_of words.now) in
+        result ≡ Command.CreateImage (a 1) (a 2) (a 3) }
 {
     Command::CreateImage {
         image: words[1].1,
