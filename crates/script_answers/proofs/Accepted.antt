@@ -32,7 +32,7 @@ use Rattle.verify_input.specs.declared.finding.Finding.TheVariants.{Yes}
 use Rattle.verify_input.proofs.Wholly.{output_lines}
 use Rattle.verify_input.proofs.Feeds.{view_line}
 use Rattle.verify_input.proofs.Labels.{Ends, IsView, view_ends, view_own, all_lines}
-use Rattle.verify_input.proofs.Offered.{Offered, offered_none, offered_both, all_dumps_offered, whole_concat, events_text, event_lines, tells_of, heads_are, all_due, all_are, all_stop, all_viewers}
+use Rattle.verify_input.proofs.Offered.{Offered, stops_all, offered_none, offered_both, all_dumps_offered, whole_concat, events_text, event_lines, tells_of, heads_are, all_due, all_are, all_stop, all_viewers}
 use Rattle.live_view.specs.declared.look.Look as look
 use Rattle.gpu_hall.specs.Looks.{IsLookOf, AreViewerLooks}
 use Rattle.run_output.specs.Parts.{look_text}
@@ -68,7 +68,7 @@ module _ (p : PlansData) (h : List Event) where
     own = map (look_text v) looks;
     are = sym (concat-map (look_text v) looks);
     lines = all_lines IsLine (look_text v) (λ own. view_line v own.events own.sum) looks;
-    ends = all_lines Ends (look_text v) (λ own. view_ends v own.events own.sum) looks;
+    stops = λ behind. stops_all (map (look_text v) looks) behind (all_lines Ends (look_text v) (λ own. view_ends v own.events own.sum) looks);
     seen = all_lines (IsView true) (look_text v) (λ own. view_own v own.events own.sum) looks;
     count = length-map looks (look_text v) ∙ are.count;
     taken = λ rest. looks_off v 16 0 looks rest are.count are.each (λ j d lt. omega arith) are.rising are.last;

@@ -1,6 +1,6 @@
 -- Lines that are due, one part after the other.
 use Rattle.std.proofs.Common.{◌≡◌, ℕ, zero, suc, ◌+◌, ◌<◌, List, map, [], ◌∷◌, ◌++◌, length, drop, get_or, refl, ap, subst, append_assoc, Result, Ok, Err, arith, Bool, true, false, cond, eqb, sym, ◌∙◌, ◌≤◌}
-use Rattle.std.specs.Prelude.{OnOk, IfErr, ◌==◌, if◌then◌else◌}
+use Rattle.std.specs.Prelude.{◌≢◌, ◌==◌, if◌then◌else◌}
 use Rattle.std.specs.List.{concat, flat_map, range_with_len}
 use Rattle.std.proofs.lemmas.Bool.{ne_eqb}
 use Rattle.std.proofs.lemmas.List.{append-nil, drop_more, drop_all}
@@ -90,7 +90,7 @@ module _ (p : PlansData) (h : List Event) where
   pub bad_as : (a b : Due) (l m : ℕ) (old : Rest) (bad : Bad) → what_of a ≡ what_of b
       → ((line : List ℕ) (lines : List (List ℕ)) (last : ℕ) → whole_lines old.text.now ≡ line ∷ lines → MayStand p h b m line last → (other : ℕ) × MayStand p h a l line other)
       → IsBad p h (a ∷ []) l old bad → IsBad p h (b ∷ []) m old bad
-  bad_as a b l m old bad same back here = record { off = λ line part e. let off = here.off line part e in (off.0, off.1, by (whole_lines old.text.now) refl off.0 part off.2) }
+  bad_as a b l m old bad same back here = record { off = λ line part e. let off = here.off line part e in (off.0, off.1, by (whole_lines old.text.now) refl off.0 part off.2, off.3) }
     where
       by : (lines : List (List ℕ)) → whole_lines old.text.now ≡ lines → (k : ℕ) (part : What) → IsOff p h (a ∷ []) l lines k part → IsOff p h (b ∷ []) m lines k part
       by [] is k part off = off
@@ -99,16 +99,20 @@ module _ (p : PlansData) (h : List Event) where
       by (line ∷ lines) is (suc k) part off = absurd off.2
 
   -- no line of this kind stands there
-  pub due_bad : (due : Due) (part : What) (l : ℕ) (old : Rest) → part ≡ what_of due → ((line : List ℕ) (lines : List (List ℕ)) (last : ℕ) → whole_lines old.text.now ≡ line ∷ lines → MayStand p h due l line last → ⊥)
+  pub due_bad : (due : Due) (part : What) (l : ℕ) (old : Rest) → part ≡ what_of due → part ≢ what.More → ((line : List ℕ) (lines : List (List ℕ)) (last : ℕ) → whole_lines old.text.now ≡ line ∷ lines → MayStand p h due l line last → ⊥)
       → IsBad p h (due ∷ []) l old (off_of old part)
-  due_bad due part l old same not = record {
+  due_bad due part l old same one not = record {
     off = λ line told e.
         let same : Off old.line (if length old.text.now == 0 then what.Missing else part) ≡ Off line told = e in
         let first : line ≡ old.line = cc in
         let is : (if length old.text.now == 0 then what.Missing else part) ≡ told = cc in
-        (0, omega (arith, first), subst (λ (part : What). IsOff p h (due ∷ []) l (whole_lines old.text.now) 0 part) is (by (whole_lines old.text.now) refl));
+        (0, omega (arith, first), subst (λ (part : What). IsOff p h (due ∷ []) l (whole_lines old.text.now) 0 part) is (by (whole_lines old.text.now) refl), subst (λ (part : What). part ≢ what.More) is (other (length old.text.now == 0)));
   }
     where
+      other : (b : Bool) → (if b then what.Missing else part) ≢ what.More
+      other true = λ e. cc
+      other false = one
+
       by : (lines : List (List ℕ)) → whole_lines old.text.now ≡ lines → IsOff p h (due ∷ []) l (whole_lines old.text.now) 0 (if length old.text.now == 0 then what.Missing else part)
       by [] none =
           let zero : eqb (length old.text.now) 0 ≡ true = (let e = no_lines old.text.now none in grind (arith, nat_tests, e)) in
@@ -118,8 +122,8 @@ module _ (p : PlansData) (h : List Event) where
           subst (λ (ls : List (List ℕ)). IsOff p h (due ∷ []) l ls 0 (if length old.text.now == 0 then what.Missing else part)) (sym some) (ap (λ (b : Bool). cond b what.Missing part) more ∙ same, λ last may. not line lines last some may)
 
   -- not this line
-  pub line_bad : (part : What) (due : List ℕ) (old : Rest) → IsFirstOther (due ∷ []) (whole_lines old.text.now) 0 → IsBad p h (same_lines part (due ∷ [])) 0 old (off_of old part)
-  line_bad part due old other = due_bad (Same part due) part 0 old refl (λ line lines last first may. (subst (λ (ls : List (List ℕ)). IsFirstOther (due ∷ []) ls 0) first other) may.0)
+  pub line_bad : (part : What) (due : List ℕ) (old : Rest) → part ≢ what.More → IsFirstOther (due ∷ []) (whole_lines old.text.now) 0 → IsBad p h (same_lines part (due ∷ [])) 0 old (off_of old part)
+  line_bad part due old one other = due_bad (Same part due) part 0 old refl one (λ line lines last first may. (subst (λ (ls : List (List ℕ)). IsFirstOther (due ∷ []) ls 0) first other) may.0)
 
 -- ---- a part of all that is due
 
@@ -150,7 +154,7 @@ module _ {p : PlansData} {h : List Event} {all : List Due} {old : Rest} where
         let k = length on.done + off.0 in
         let first = off_first p h xs left m (whole_lines mid.text.now) off.0 what off.2 in
         let later = off_later p h on.done (xs ++ left) 0 (whole_lines old.text.now) m (whole_lines mid.text.now) off.0 what on.taken.taken first in
-        (k, omega (arith, one, two), subst (λ (ds : List Due). IsOff p h ds 0 (whole_lines old.text.now) k what) (sym (on.is ∙ ap (λ (ds : List Due). on.done ++ ds) begins.is)) later);
+        (k, omega (arith, one, two), subst (λ (ds : List Due). IsOff p h ds 0 (whole_lines old.text.now) k what) (sym (on.is ∙ ap (λ (ds : List Due). on.done ++ ds) begins.is)) later, off.3);
   }
 
   -- how a judge of all ends: where all is taken, and at the exit of a `?` where a part is not
@@ -165,12 +169,6 @@ module _ {p : PlansData} {h : List Event} {all : List Due} {old : Rest} where
       → Judges p h all old new r
   judged_exit {new = new} exit begins on here =
       subst (λ r. Judges p h all old new r) (sym (exit.1 ∙ ap Err exit.2)) (record { ok = tt; err = taking_bad begins on here })
-
-  -- the last part of all ends as all does
-  pub judged_last : {T : Type 0} {xs more : List Due} {m : ℕ} {mid new : Rest} (r : Result T Bad) → Begins more xs [] → IsTaking p h all more old mid m → OnOk r ((l : ℕ) → HasTaken p h xs l mid new 0) → IfErr r (λ bad. (l : ℕ) → IsBad p h xs l mid bad)
-      → Judges p h all old new r
-  judged_last {m = m} (Ok done) begins on ok err = record { ok = taking_all refl (taking_more begins on (ok m)); err = tt }
-  judged_last {m = m} (Err bad) begins on ok err = record { ok = tt; err = taking_bad begins on (err m) }
 
 -- ---- what is at hand is the next
 

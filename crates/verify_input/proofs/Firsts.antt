@@ -1,8 +1,9 @@
 -- Lines that end no part, by the bytes that they begin with.
-use Rattle.std.proofs.Common.{◌≡◌, ℕ, ◌<◌, false, not, List, [], ◌∷◌, length, get_or, refl, sym, subst, ◌∙◌, arith}
+use Rattle.std.proofs.Common.{◌≡◌, ℕ, ◌<◌, Bool, false, not, List, [], ◌∷◌, length, get_or, refl, sym, ap, subst, ◌∙◌, arith}
 use Rattle.std.specs.Prelude.{filter}
 use Rattle.std.specs.List.{onto_first, slice_split}
 use Rattle.std.proofs.lemmas.Bool.{ne_eqb}
+use Rattle.std.proofs.lemmas.List.Splits.{slice_split-cons_no}
 use Rattle.script_lines.specs.Text.{is_blank, is_empty, words_of}
 use Rattle.verify_input.specs.Parts.{is_journal, begins_part}
 
@@ -12,6 +13,17 @@ words_in pieces = filter (λ run. not (is_empty run)) pieces
 
 is_filled : (b : ℕ) (piece : List ℕ) → is_empty (b ∷ piece) ≡ false
 is_filled b piece = ne_eqb (length (b ∷ piece)) 0 (λ e. omega arith)
+
+-- a line that begins with a letter, by what holds of words of which the first does
+letter_line : (f : List (List ℕ) → Bool) (b : ℕ) → is_blank b ≡ false → ((word : List ℕ) (words : List (List ℕ)) → f ((b ∷ word) ∷ words) ≡ false) → (line : List ℕ) → 0 < length line → get_or line 0 0 ≡ b → f (words_of line) ≡ false
+unfolding words_of
+letter_line f b black each [] some e = absurd (omega arith)
+letter_line f b black each (first ∷ more) some e =
+    subst (λ (first : ℕ). f (words_of (first ∷ more)) ≡ false) (sym e) (ap (λ (pieces : List (List ℕ)). f (words_in pieces)) (slice_split-cons_no is_blank b more black) ∙ by (slice_split is_blank more))
+  where
+    by : (pieces : List (List ℕ)) → f (words_in (onto_first b pieces)) ≡ false
+    by [] = each [] []
+    by (piece ∷ pieces) = rw (is_filled b piece) (each piece (words_in pieces))
 
 -- ---- lines of a script: the codes of `p` and `f` are 112 and 102
 
@@ -23,29 +35,11 @@ no_journal_f : (word : List ℕ) (words : List (List ℕ)) → is_journal ((102 
 no_journal_f word [] = refl
 no_journal_f word (next ∷ words) = refl
 
-p_on : (more : List ℕ) → is_journal (words_of (112 ∷ more)) ≡ false
-unfolding words_of
-p_on more = by (slice_split is_blank more)
-  where
-    by : (pieces : List (List ℕ)) → is_journal (words_in (onto_first 112 pieces)) ≡ false
-    by [] = refl
-    by (piece ∷ pieces) = rw (is_filled 112 piece) (no_journal_p piece (words_in pieces))
-
-f_on : (more : List ℕ) → is_journal (words_of (102 ∷ more)) ≡ false
-unfolding words_of
-f_on more = by (slice_split is_blank more)
-  where
-    by : (pieces : List (List ℕ)) → is_journal (words_in (onto_first 102 pieces)) ≡ false
-    by [] = refl
-    by (piece ∷ pieces) = rw (is_filled 102 piece) (no_journal_f piece (words_in pieces))
-
 pub p_line : (line : List ℕ) → 0 < length line → get_or line 0 0 ≡ 112 → is_journal (words_of line) ≡ false
-p_line [] some e = absurd (omega arith)
-p_line (b ∷ more) some e = subst (λ (b : ℕ). is_journal (words_of (b ∷ more)) ≡ false) (sym e) (p_on more)
+p_line line some e = letter_line is_journal 112 refl no_journal_p line some e
 
 pub f_line : (line : List ℕ) → 0 < length line → get_or line 0 0 ≡ 102 → is_journal (words_of line) ≡ false
-f_line [] some e = absurd (omega arith)
-f_line (b ∷ more) some e = subst (λ (b : ℕ). is_journal (words_of (b ∷ more)) ≡ false) (sym e) (f_on more)
+f_line line some e = letter_line is_journal 102 refl no_journal_f line some e
 
 -- ---- lines of a journal text: the codes of `s`, `t`, `e` and `o` are 115, 116, 101 and 111
 
@@ -57,22 +51,6 @@ step_on more = by (slice_split is_blank more)
     by [] = refl
     by (piece ∷ pieces) = rw (is_filled 115 (116 ∷ 101 ∷ piece)) refl
 
-o_on : (more : List ℕ) → begins_part (words_of (111 ∷ more)) ≡ false
-unfolding words_of
-o_on more = by (slice_split is_blank more)
-  where
-    by : (pieces : List (List ℕ)) → begins_part (words_in (onto_first 111 pieces)) ≡ false
-    by [] = refl
-    by (piece ∷ pieces) = rw (is_filled 111 piece) refl
-
-finish_on : (more : List ℕ) → begins_part (words_of (102 ∷ more)) ≡ false
-unfolding words_of
-finish_on more = by (slice_split is_blank more)
-  where
-    by : (pieces : List (List ℕ)) → begins_part (words_in (onto_first 102 pieces)) ≡ false
-    by [] = refl
-    by (piece ∷ pieces) = rw (is_filled 102 piece) refl
-
 pub step_line : (line : List ℕ) → 2 < length line → get_or line 0 0 ≡ 115 → get_or line 1 0 ≡ 116 → get_or line 2 0 ≡ 101 → begins_part (words_of line) ≡ false
 step_line [] some ea eb ec = absurd (omega arith)
 step_line (a ∷ []) some ea eb ec = absurd (omega arith)
@@ -80,9 +58,7 @@ step_line (a ∷ b ∷ []) some ea eb ec = absurd (omega arith)
 step_line (a ∷ b ∷ c ∷ more) some ea eb ec = (λ i. begins_part (words_of (ea i ∷ eb i ∷ ec i ∷ more))) ∙ step_on more
 
 pub order_line : (line : List ℕ) → 2 < length line → get_or line 0 0 ≡ 111 → begins_part (words_of line) ≡ false
-order_line [] some e = absurd (omega arith)
-order_line (b ∷ more) some e = subst (λ (b : ℕ). begins_part (words_of (b ∷ more)) ≡ false) (sym e) (o_on more)
+order_line line some e = letter_line begins_part 111 refl (λ word words. refl) line (omega arith) e
 
 pub finish_line : (line : List ℕ) → 2 < length line → get_or line 0 0 ≡ 102 → begins_part (words_of line) ≡ false
-finish_line [] some e = absurd (omega arith)
-finish_line (b ∷ more) some e = subst (λ (b : ℕ). begins_part (words_of (b ∷ more)) ≡ false) (sym e) (finish_on more)
+finish_line line some e = letter_line begins_part 102 refl (λ word words. refl) line (omega arith) e

@@ -4,7 +4,6 @@ use Rattle.std.specs.Prelude.{codes, option_map, slice_get}
 use Rattle.std.specs.List.{list_all, concat}
 use Rattle.std.proofs.lemmas.Bool.{and_parts, not-true}
 use Rattle.std.proofs.lemmas.Bool.Decides.{nat_tests}
-use Rattle.std.proofs.lemmas.List.{append-nil}
 use Rattle.std.proofs.lemmas.List.Elements.{All-nil, All-cons, All-append}
 use Rattle.gpu_cmd.specs.declared.name.Name.{Name}
 use Rattle.script_lines.specs.Text.{ends_line}
@@ -23,11 +22,18 @@ use Rattle.verify_input.proofs.Wholes.{concat_whole, few_whole, line_first}
 abbrev IsOther : ℕ → Type 0
 IsOther byte = ends_line byte ≡ false
 
-pub no_feed_letters : (text : List ℕ) → list_all (λ byte. not (ends_line byte)) text ≡ true → HasNoFeed text
-no_feed_letters [] e = All-nil IsOther
-no_feed_letters (byte ∷ text) e =
-    let both = and_parts (not (ends_line byte)) (list_all (λ byte. not (ends_line byte)) text) e in
-    All-cons IsOther byte text (not-true (ends_line byte) both.0) (no_feed_letters text both.1)
+-- no byte of the text is a line feed
+pub record Plain (text : List ℕ) : Type 0 where
+  pub none : HasNoFeed text
+
+pub letters : (text : List ℕ) → list_all (λ byte. not (ends_line byte)) text ≡ true → Plain text
+letters [] e = record { none = All-nil IsOther }
+letters (byte ∷ text) e =
+    let parts = and_parts (not (ends_line byte)) (list_all (λ byte. not (ends_line byte)) text) e in
+    record { none = All-cons IsOther byte text (not-true (ends_line byte) parts.0) (letters text parts.1).none }
+
+pub both : {a b : List ℕ} → Plain a → Plain b → Plain (a ++ b)
+both {a} {b} one other = record { none = All-append IsOther a b one.none other.none }
 
 digit_other : (digit : ℕ) → ends_line (48 + digit) ≡ false
 digit_other digit = grind (arith, nat_tests)
@@ -41,25 +47,20 @@ no_feed_digits : (count number : ℕ) → HasNoFeed (digits_within count number)
 no_feed_digits zero number = All-nil IsOther
 no_feed_digits (suc count) number = no_feed_next (ltb number 10) (digits_within count (number / 10)) number (number % 10) (no_feed_digits count (number / 10))
 
-pub no_feed_number : (number : ℕ) → HasNoFeed (number_text number)
+-- a number after a text
+pub number : {a : List ℕ} → Plain a → (n : ℕ) → Plain (a ++ number_text n)
 unfolding numeral
-no_feed_number number = All-cons IsOther 32 (digits_within (suc number) number) refl (no_feed_digits (suc number) number)
+number {a} front n = both {a = a} {b = number_text n} front (record { none = All-cons IsOther 32 (digits_within (suc n) n) refl (no_feed_digits (suc n) n) })
+
+pub line : {own text : List ℕ} → Plain own → text ≡ own ++ 10 ∷ [] → IsLine text
+line {own} plain e = record { line = own; none = plain.none; is = e }
 
 pub head_line : IsLine journal_head
-head_line = record { line = codes "gpu-journal 2"; none = no_feed_letters (codes "gpu-journal 2") refl; is = refl }
+head_line = line (letters (codes "gpu-journal 2") refl) refl
 
 pub name_line : (stream : ℕ) (name : Name) → IsLine (name_text stream name)
 unfolding name_text
-name_line stream name = record {
-  line = codes "name" ++ number_text stream ++ number_text name.namespace ++ number_text name.id;
-  none =
-      All-append IsOther (codes "name" ++ number_text stream ++ number_text name.namespace) (number_text name.id)
-      (All-append IsOther (codes "name" ++ number_text stream) (number_text name.namespace)
-      (All-append IsOther (codes "name") (number_text stream) (no_feed_letters (codes "name") refl) (no_feed_number stream))
-      (no_feed_number name.namespace))
-      (no_feed_number name.id);
-  is = refl;
-}
+name_line stream name = line (number (number (number (letters (codes "name") refl) stream) name.namespace) name.id) refl
 
 -- ---- a text that begins with a line, or does not
 
@@ -78,12 +79,11 @@ stripped text line (Some behind) one is = ap whole_lines is ∙ line_first line 
 
 -- ---- the first line that is another
 
--- the same lines before
-other_behind : (done heads lines : List (List ℕ)) (k : ℕ) → IsFirstOther heads lines k → IsFirstOther (done ++ heads) (done ++ lines) (length done + k)
-other_behind [] heads lines k other = let same : 0 + k ≡ k = omega arith in subst (λ k. IsFirstOther heads lines k) (sym same) other
-other_behind (line ∷ done) heads lines k other =
-    let next : suc (length done) + k ≡ suc (length done + k) = omega arith in
-    subst (λ k. IsFirstOther (line ∷ (done ++ heads)) (line ∷ (done ++ lines)) k) (sym next) (refl, other_behind done heads lines k other)
+bad_behind : (heads lines : List (List ℕ)) (k : ℕ) → IsFirstBad lines k → IsFirstOther heads (heads ++ lines) (length heads + k)
+bad_behind [] lines k bad = let same : 0 + k ≡ k = omega arith in subst (λ k. IsFirstOther [] lines k) (sym same) bad
+bad_behind (head ∷ heads) lines k bad =
+    let next : suc (length heads) + k ≡ suc (length heads + k) = omega arith in
+    subst (λ k. IsFirstOther (head ∷ heads) (head ∷ (heads ++ lines)) k) (sym next) (refl, bad_behind heads lines k bad)
 
 bad_within : (lines : List (List ℕ)) (k : ℕ) → IsFirstBad lines k → k < length lines
 bad_within [] k bad = absurd bad
@@ -122,6 +122,4 @@ name_here p s name some e = by (slice_get p.plans (s - 1)) refl e
 -- after the head
 pub bad_behind_head : (p : PlansData) (text rest : List ℕ) (k : ℕ) → whole_lines text ≡ head_of p ++ whole_lines rest → IsFirstBad (whole_lines rest) k → IsFirstOther (head_of p) (whole_lines text) (length (head_of p) + k)
 bad_behind_head p text rest k lines bad =
-    let all = other_behind (head_of p) [] (whole_lines rest) k bad in
-    subst (λ (lines : List (List ℕ)). IsFirstOther (head_of p) lines (length (head_of p) + k)) (sym lines)
-    (subst (λ (heads : List (List ℕ)). IsFirstOther heads (head_of p ++ whole_lines rest) (length (head_of p) + k)) (append-nil (head_of p)) all)
+    subst (λ (lines : List (List ℕ)). IsFirstOther (head_of p) lines (length (head_of p) + k)) (sym lines) (bad_behind (head_of p) (whole_lines rest) k bad)

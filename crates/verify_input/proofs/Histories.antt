@@ -3,10 +3,7 @@ use Rattle.std.proofs.Common.{◌≡◌, ℕ, ◌+◌, ◌<◌, List, [], ◌∷
 use Rattle.std.proofs.lemmas.List.FromFn.{length-map-range_with_len, get_or-map-range_with_len}
 use Rattle.stream_state.specs.State.{State}
 use Rattle.gpu_journal.specs.declared.end.End.{End}
-use Rattle.gpu_journal.specs.World.{replay}
 use Rattle.journal_text.specs.Text.{tally_of, stream_text}
-use Rattle.sync_core.specs.Pending.{endings}
-use Rattle.gpu_journal.specs.Waits.{endings_in, sync_of}
 use Rattle.gpu_journal.specs.Ended.{end_of}
 use Rattle.journal_verify.specs.Faults.{kept_state}
 use Rattle.verify_input.specs.Taking.{past_of, IsHistory}
@@ -35,9 +32,3 @@ module _ (history : History) (is : IsHistory history) where
   stream_next index state other lt kept line =
       lines_next what.Stream (end_at history.plans.now (past_of history)) (at_range 1 (length history.plans.now.plans) index (index + 1) lt (omega arith))
       (line ∙ (λ i. stream_text (index + 1) (tally_of ((kept ∙ is.followed.follows.shows.each (index + 1)) i)) (end_there index (index + 1) other lt refl i)))
-
-  pub images_there : history.followed.now.judge.images ≡ replay history.plans.now (past_of history)
-  images_there = is.followed.follows.shows.drawn
-
-  pub endings_there : history.followed.now.judge.core.endings ≡ endings_in history.plans.now (past_of history)
-  endings_there = is.followed.follows.sync.endings ∙ ap (λ n. endings n (sync_of history.plans.now (past_of history))) is.followed.follows.fits.core

@@ -187,11 +187,13 @@ none_bad [] k are bad = bad
 none_bad (event ∷ events) zero are bad = bad event (All-head HasNumbersOfWords event events are, refl)
 none_bad (event ∷ events) (suc k) are bad = none_bad events k (All-tail HasNumbersOfWords event events are) bad.1
 
-pub refused_is_no_journal : RefusedIsNoJournal
+-- the lines of a journal text are those of its events
+pub told_lines : (text : List ℕ) (events : List Event) → IsJournal text events → whole_lines text ≡ map event_text events
 unfolding journal_text
-refused_is_no_journal text k events bad is =
-    let lines : whole_lines text ≡ map event_text events = ap whole_lines (is.is ∙ sym (append-nil (flat_map event_text events))) ∙ journal_lines events [] is.written ∙ append-nil (map event_text events) in
-    none_bad events k is.written (subst (λ (lines : List (List ℕ)). IsFirstBad lines k) lines bad)
+told_lines text events is = ap whole_lines (is.is ∙ sym (append-nil (flat_map event_text events))) ∙ journal_lines events [] is.written ∙ append-nil (map event_text events)
+
+pub refused_is_no_journal : RefusedIsNoJournal
+refused_is_no_journal text k events bad is = none_bad events k is.written (subst (λ (lines : List (List ℕ)). IsFirstBad lines k) (told_lines text events is) bad)
 
 has_words : (event : Event) → HasNumbersOfWords event → HasWords event
 has_words (Order stream order place) is = All-nil (λ word. word.1 < 2 ^ 32)
@@ -237,15 +239,17 @@ read_bad text events rest front behind read cut none said =
     let lines = ap whole_lines read.is ∙ journal_lines events rest read.written ∙ ap (λ (rest : List (List ℕ)). map event_text events ++ rest) (ap whole_lines cut ∙ lines_first front behind none) in
     subst (λ (lines : List (List ℕ)). IsFirstBad lines (length events)) (sym lines) (bad_behind events (front ++ 10 ∷ []) (whole_lines behind) read.written (λ event is. let told = line_there front event is in absurd (cc)))
 
--- a line without a line feed is no event's
-no_event : (line : List ℕ) (event : Event) → HasNoFeed line → IsLineOf line event → ⊥
-no_event line event none is =
-    let front = join_with_byte 32 (event_pieces event) in
-    let whole : HasNoFeed (front ++ 10 ∷ []) = subst HasNoFeed (is.1 ∙ event_joined event) none in
-    let at = All-get_or (λ byte. ends_line byte ≡ false) (front ++ 10 ∷ []) (length front) 0 (omega (arith, length-append front (10 ∷ []))) whole in
+-- a text with a line feed behind it has one
+pub feed_there : (front : List ℕ) → HasNoFeed (front ++ 10 ∷ []) → ⊥
+feed_there front none =
+    let at = All-get_or (λ byte. ends_line byte ≡ false) (front ++ 10 ∷ []) (length front) 0 (omega (arith, length-append front (10 ∷ []))) none in
     let byte : get_or (front ++ 10 ∷ []) (length front) 0 ≡ 10 = get_or_at front 10 [] 0 (length front) refl in
     let feed : ends_line 10 ≡ false = subst (λ byte. ends_line byte ≡ false) byte at in
     absurd (cc)
+
+-- a line without a line feed is no event's
+no_event : (line : List ℕ) (event : Event) → HasNoFeed line → IsLineOf line event → ⊥
+no_event line event none is = feed_there (join_with_byte 32 (event_pieces event)) (subst HasNoFeed (is.1 ∙ event_joined event) none)
 
 pub read_open : (text : List ℕ) (events : List Event) (rest : List ℕ) → IsRead text events rest → 0 < length rest → HasNoFeed rest → IsFirstBad (whole_lines text) (length events)
 read_open text events [] read some none = absurd (omega arith)

@@ -1,10 +1,8 @@
 -- What is read at its place in the line of a dump or of a look is what the line names.
-use Rattle.std.proofs.Common.{◌≡◌, ℕ, ◌+◌, ◌-◌, ◌^◌, ◌<◌, ◌≤◌, false, Some, get_or, List, [], ◌∷◌, ◌++◌, length, length-append, take, drop, inl, inr, refl, sym, ap, subst, ◌∙◌, append_assoc, arith}
+use Rattle.std.proofs.Common.{◌≡◌, ℕ, ◌-◌, ◌^◌, ◌<◌, ◌≤◌, Some, List, [], ◌∷◌, ◌++◌, length, length-append, take, drop, inl, inr, refl, sym, ap, subst, ◌∙◌, append_assoc, arith}
 use Rattle.std.specs.Prelude.{codes, unwrap_or}
 use Rattle.std.specs.List.{slice_split, join_with_byte}
-use Rattle.std.proofs.lemmas.List.{take_at, drop_at, append_cancel_right, get_or_at}
-use Rattle.std.proofs.lemmas.List.Elements.{All-get_or}
-use Rattle.script_lines.specs.Text.{ends_line}
+use Rattle.std.proofs.lemmas.List.{take_at, drop_at, append_cancel_right}
 use Rattle.journal_text.specs.Digits.{numeral, hex8}
 use Rattle.journal_text.specs.Lines.{view_text}
 use Rattle.journal_text.proofs.Lengths.{length-hex8}
@@ -13,7 +11,7 @@ use Rattle.verify_input.specs.Reading.{HasNoFeed, whole_lines}
 use Rattle.verify_input.specs.Cuts.{IsFirstLine, IsLine}
 use Rattle.verify_input.specs.Looks.{EndsWith, look_said, BeginsWithLook}
 use Rattle.verify_input.proofs.Numbers.{own_number_there, own_value_there}
-use Rattle.verify_input.proofs.Lines.{AreInk, ink_letters, ink_number, ink_value, split_joined, regroup, lines_first}
+use Rattle.verify_input.proofs.Lines.{feed_there, AreInk, ink_letters, ink_number, ink_value, split_joined, regroup, lines_first}
 use Rattle.verify_input.proofs.Wholes.{last_whole}
 use Rattle.verify_input.proofs.Feeds.{view_line}
 
@@ -57,15 +55,6 @@ look_there viewer events sum line known few small is =
     ap (λ (pieces : List (List ℕ)). look_said (drop 1 pieces)) split
     ∙ (λ i. (unwrap_or (own_number_there events few i) 0, unwrap_or (own_value_there sum small i) 0))
 
--- a line with its line feed has one
-no_feed_line : (own : List ℕ) → HasNoFeed own → IsLine own → ⊥
-no_feed_line own none one =
-    let whole : HasNoFeed (one.line ++ 10 ∷ []) = subst HasNoFeed one.is none in
-    let at = All-get_or (λ byte. ends_line byte ≡ false) (one.line ++ 10 ∷ []) (length one.line) 0 (omega (arith, length-append one.line (10 ∷ []))) whole in
-    let byte : get_or (one.line ++ 10 ∷ []) (length one.line) 0 ≡ 10 = get_or_at one.line 10 [] 0 (length one.line) refl in
-    let feed : ends_line 10 ≡ false = subst (λ byte. ends_line byte ≡ false) byte at in
-    absurd (cc)
-
 -- the first line of a text that begins with one that has a line feed
 first_is : (text line rest own : List ℕ) (lines : List (List ℕ)) → IsFirstLine text line rest → IsLine own → whole_lines text ≡ own ∷ lines → line ++ 10 ∷ [] ≡ own
 first_is text line rest own lines (none, inl e) one is =
@@ -74,7 +63,7 @@ first_is text line rest own lines (none, inl e) one is =
 first_is text line rest own lines (none, inr last) one is =
     let first : whole_lines text ≡ line ∷ [] = ap whole_lines last.0 ∙ last_whole line last.2 none in
     let same : line ≡ own = cc in
-    absurd (no_feed_line own (subst HasNoFeed same none) one)
+    absurd (feed_there one.line (subst HasNoFeed (same ∙ one.is) none))
 
 pub look_first : (text line rest : List ℕ) (look : ℕ × ℕ) → IsFirstLine text line rest → BeginsWithLook text look → look_said (pieces_of line) ≡ look
 look_first text line rest look cut begins =

@@ -180,18 +180,6 @@ digits_more k n (c ∷ cs) are small =
     ∙ digits_more (suc k) (n * 16 + value) cs are.1 both.1
     ∙ rw (front, last, digit_again c low both.0) (append_assoc (hex_digits k n) (c ∷ []) cs)
 
-pub value_told_own : (word : List ℕ) (v : ℕ) → length word ≡ 8 → own_value word ≡ Some v → (word ≡ hex8 v) × (v < 2 ^ 32)
-unfolding own_value hex8
-value_told_own word v eight e = by (list_all is_small word) refl e
-  where
-    by : (b : Bool) → list_all is_small word ≡ b → cond b (hex_of word) None ≡ Some v → (word ≡ hex8 v) × (v < 2 ^ 32)
-    by false small e = absurd (cc)
-    by true small e =
-        let is = number_told 16 8 (2 ^ 32) word v e in
-        let more = digits_more 0 0 word (all_digits 16 word is.digits) small in
-        let count : length word + 0 ≡ 8 = omega arith in
-        (sym (ap (hex_digits 8) (sym is.is) ∙ ap (λ n. hex_digits n (digits_value 16 word)) (sym count) ∙ more), subst (λ m. m < 2 ^ 32) is.is is.small)
-
 -- what a word has that says a value
 record IsValue (word : List ℕ) (v : ℕ) : Type 0 where
   pub small : list_all is_small word ≡ true
@@ -204,6 +192,15 @@ value_told word v e = by (list_all is_small word) refl e
     by : (b : Bool) → list_all is_small word ≡ b → cond b (hex_of word) None ≡ Some v → IsValue word v
     by false small e = absurd (cc)
     by true small e = record { small = small; number = number_told 16 8 (2 ^ 32) word v e }
+
+pub value_told_own : (word : List ℕ) (v : ℕ) → length word ≡ 8 → own_value word ≡ Some v → (word ≡ hex8 v) × (v < 2 ^ 32)
+unfolding hex8
+value_told_own word v eight e =
+    let told = value_told word v e in
+    let is = told.number in
+    let more = digits_more 0 0 word (all_digits 16 word is.digits) told.small in
+    let count : length word + 0 ≡ 8 = omega arith in
+    (sym (ap (hex_digits 8) (sym is.is) ∙ ap (λ n. hex_digits n (digits_value 16 word)) (sym count) ∙ more), subst (λ m. m < 2 ^ 32) is.is is.small)
 
 no_value : (word : List ℕ) → ((v : ℕ) → IsValue word v → ⊥) → own_value word ≡ None
 no_value word not = by (own_value word) refl

@@ -2,7 +2,7 @@
 use Rattle.std.proofs.Common.{◌≡◌, ℕ, zero, suc, ◌+◌, ◌*◌, ◌≤◌, Bool, true, false, cond, List, [], ◌∷◌, ◌++◌, map, drop, length, length-append, refl, sym, ap, subst, ◌∙◌, append_assoc, arith}
 use Rattle.std.specs.Prelude.{◌==◌}
 use Rattle.std.specs.List.{All, concat, flat_map, join_with_byte, range_with_len}
-use Rattle.std.proofs.lemmas.List.{append-nil, drop_at}
+use Rattle.std.proofs.lemmas.List.{append-nil, drop_at, length-map}
 use Rattle.std.proofs.lemmas.List.Elements.{All-nil, All-cons, All-head, All-tail, All-append}
 use Rattle.std.proofs.lemmas.List.Folds.{concat-append}
 use Rattle.gpu_store.specs.Picture.{texel_row}
@@ -14,28 +14,29 @@ use Rattle.gpu_journal.specs.World.{state_of, replay}
 use Rattle.gpu_journal.specs.Waits.{endings_in}
 use Rattle.gpu_journal.specs.Ended.{streams_of, end_of}
 use Rattle.gpu_journal.specs.Dumps.{dumps_of}
-use Rattle.journal_text.specs.Text.{event_text, journal_text, tally_of, stream_text}
+use Rattle.journal_text.specs.Text.{event_text, journal_text, tally_of}
 use Rattle.journal_text.specs.Picture.{head_text, row_text}
-use Rattle.journal_text.specs.Lines.{journal_head, name_text, mark_text, dump_text}
+use Rattle.journal_text.specs.Lines.{journal_head, name_text, dump_text}
 use Rattle.journal_text.specs.Output.{AreDumps, AreDumpsOf}
 use Rattle.verify_input.specs.Reading.{HasNumbersOfWords, whole_lines}
 use Rattle.verify_input.specs.Cuts.{IsLine}
 use Rattle.verify_input.specs.Parts.{before}
 use Rattle.verify_input.specs.Found.{head_of}
-use Rattle.verify_input.specs.Due.{Due, Dump, same_lines, lines_of_image, picture_lines, end_lines, ending_lines, dumps_due, looks_due, dues, AreTakenOff, AreDue, viewers_in}
+use Rattle.verify_input.specs.Due.{Due, Same, Dump, same_lines, lines_of_image, picture_lines, end_lines, ending_lines, dumps_due, looks_due, images_due, streams_due, marks_due, all_dumps_due, viewers_due, dues, AreTakenOff, AreDue, viewers_in}
 use Rattle.verify_input.specs.Whole.{TellsAll}
 use Rattle.verify_input.specs.declared.what.What.{What}
 use Rattle.verify_input.specs.declared.what.What.TheVariants as what
 use Rattle.verify_input.specs.declared.border.Border.TheVariants.{Journal}
 use Rattle.verify_input.proofs.Events.{event_pieces}
-use Rattle.verify_input.proofs.Lines.{event_joined, event_no_feed}
+use Rattle.verify_input.proofs.Lines.{event_joined, event_no_feed, told_lines}
 use Rattle.verify_input.proofs.Wholes.{line_first}
 use Rattle.verify_input.proofs.Heads.{head_line, name_line}
 use Rattle.verify_input.proofs.Feeds.{image_line, row_line, stream_line, mark_line, dump_line}
-use Rattle.verify_input.proofs.Labels.{Ends, Goes, IsView, image_ends, stream_ends, mark_ends, dump_ends, event_goes, stream_other, mark_other, dump_other, images_other, others_seen, looks_seen, all_lines}
+use Rattle.verify_input.proofs.Labels.{Ends, Goes, IsView, image_part, stream_part, mark_part, dump_part, event_goes, images_other, others_seen, looks_seen, all_lines}
 use Rattle.verify_input.proofs.Viewers.{views_in}
 use Rattle.verify_input.proofs.Dues.{taken_both}
-use Rattle.verify_input.proofs.Ending.{dues_are}
+use Rattle.verify_input.proofs.Lefts.{end_at, mark_at}
+use Rattle.verify_input.proofs.Ending.{joined, parts, dues_parts}
 
 -- the lines of a text that is lines
 pub whole_concat : (lines : List (List ℕ)) → All IsLine lines → whole_lines (concat lines) ≡ lines
@@ -89,7 +90,7 @@ pub tells_of : (p : PlansData) (events : List Event) (others : List (List ℕ)) 
 tells_of p events others are stops =
     let front = map event_text events in
     let front_is : before Journal (front ++ others) ≡ front = before_front front others (all_lines Goes event_text event_goes events) stops in
-    let journal : whole_lines (journal_text events) ≡ front = ap whole_lines (sym (events_text events)) ∙ whole_concat front (event_lines events are) in
+    let journal : whole_lines (journal_text events) ≡ front = told_lines (journal_text events) events (record { is = refl; written = are }) in
     record {
       rest = front ++ others;
       headed = refl;
@@ -100,13 +101,13 @@ tells_of p events others are stops =
 
 -- ---- lines of the other parts end it
 
-stops_all : (lines behind : List (List ℕ)) → All Ends lines → Stops behind → Stops (lines ++ behind)
+pub stops_all : (lines behind : List (List ℕ)) → All Ends lines → Stops behind → Stops (lines ++ behind)
 stops_all [] behind ends stops = stops
 stops_all (line ∷ lines) behind ends stops = All-head Ends line lines ends
 
 images_stop : (images : Pictures) (behind : List (List ℕ)) → Stops behind → Stops (flat_map lines_of_image images ++ behind)
 images_stop [] behind stops = stops
-images_stop (entry ∷ images) behind stops = image_ends entry.0 entry.1.width entry.1.height
+images_stop (entry ∷ images) behind stops = (image_part entry.0 entry.1.width entry.1.height).0
 
 -- ---- a text of lines that are due, one after the other
 
@@ -115,21 +116,21 @@ pub record Offered (p : PlansData) (h : List Event) (dues : List Due) (text : Li
   pub own : List (List ℕ)
   pub are : text ≡ concat own
   pub lines : All IsLine own
-  pub ends : All Ends own
+  pub stops : (behind : List (List ℕ)) → Stops behind → Stops (own ++ behind)
   pub seen : All (IsView view) own
   pub count : length own ≡ length dues
   pub taken : (rest : List (List ℕ)) → AreTakenOff p h dues 0 (own ++ rest) 0 rest
 
 module _ (p : PlansData) (h : List Event) where
   pub offered_none : (view : Bool) → Offered p h [] [] view
-  offered_none view = record { own = []; are = refl; lines = All-nil IsLine; ends = All-nil Ends; seen = All-nil (IsView view); count = refl; taken = λ rest. (refl, refl) }
+  offered_none view = record { own = []; are = refl; lines = All-nil IsLine; stops = λ behind stop. stop; seen = All-nil (IsView view); count = refl; taken = λ rest. (refl, refl) }
 
   pub offered_both : (xs ys : List Due) (text other : List ℕ) (view : Bool) → Offered p h xs text view → Offered p h ys other view → Offered p h (xs ++ ys) (text ++ other) view
   offered_both xs ys text other view a b = record {
     own = a.own ++ b.own;
     are = (λ i. a.are i ++ b.are i) ∙ sym (concat-append a.own b.own);
     lines = All-append IsLine a.own b.own a.lines b.lines;
-    ends = All-append Ends a.own b.own a.ends b.ends;
+    stops = λ behind stop. subst Stops (sym (append_assoc a.own b.own behind)) (a.stops (b.own ++ behind) (b.stops behind stop));
     seen = All-append (IsView view) a.own b.own a.seen b.seen;
     count = (let one = a.count in let two = b.count in omega (arith, one, two, length-append a.own b.own, length-append xs ys));
     taken = λ rest. subst (λ (ls : List (List ℕ)). AreTakenOff p h (xs ++ ys) 0 ls 0 rest) (sym (append_assoc a.own b.own rest))
@@ -139,6 +140,14 @@ module _ (p : PlansData) (h : List Event) where
   pub same_offered : (part : What) (ls rest : List (List ℕ)) → AreTakenOff p h (same_lines part ls) 0 (ls ++ rest) 0 rest
   same_offered part [] rest = (refl, refl)
   same_offered part (line ∷ ls) rest = (0, (refl, refl), same_offered part ls rest)
+
+  given_offered : (part : What) (ls : List (List ℕ)) → All IsLine ls → ((behind : List (List ℕ)) → Stops behind → Stops (ls ++ behind)) → All (IsView false) ls → Offered p h (same_lines part ls) (concat ls) false
+  given_offered part ls lines stops seen = record { own = ls; are = refl; lines = lines; stops = stops; seen = seen; count = sym (length-map ls (Same part)); taken = same_offered part ls }
+
+  -- the line of each of some items
+  each_offered : {A : Type 0} (part : What) (f : A → List ℕ) → ((x : A) → IsLine (f x)) → ((x : A) → Ends (f x) × IsView false (f x)) → (xs : List A) → Offered p h (same_lines part (map f xs)) (concat (map f xs)) false
+  each_offered part f line ends xs =
+      given_offered part (map f xs) (all_lines IsLine f line xs) (λ behind. stops_all (map f xs) behind (all_lines Ends f (λ x. (ends x).0) xs)) (all_lines (IsView false) f (λ x. (ends x).1) xs)
 
   dumps_offered : (s : ℕ) (dumps : List (ℕ × ℕ)) (text : List ℕ) → AreDumps p h s dumps text → Offered p h (map (λ dump. Dump s dump) dumps) text false
   dumps_offered s [] text are = subst (λ (t : List ℕ). Offered p h [] t false) (sym are) (offered_none false)
@@ -150,8 +159,8 @@ module _ (p : PlansData) (h : List Event) where
         own = line ∷ more.own;
         are = are.3 ∙ ap (λ (t : List ℕ). line ++ t) more.are;
         lines = All-cons IsLine line more.own (dump_line s dump.0 dump.1 value) more.lines;
-        ends = All-cons Ends line more.own (dump_ends s dump.0 dump.1 value) more.ends;
-        seen = All-cons (IsView false) line more.own (dump_other s dump.0 dump.1 value) more.seen;
+        stops = λ behind stop. (dump_part s dump.0 dump.1 value).0;
+        seen = All-cons (IsView false) line more.own (dump_part s dump.0 dump.1 value).1 more.seen;
         count = ap suc more.count;
         taken = λ rest. (0, (value, are.2, refl, refl), more.taken rest);
       }
@@ -171,51 +180,37 @@ length_looks v (suc n) =
     omega (arith, own, length-append (looks_due v) (flat_map looks_due (range_with_len (v + 1) n)), length_looks (v + 1) n)
 
 module _ (p : PlansData) (base : ℕ) (h : List Event) (viewers : ℕ) (dumps views : List ℕ) (d : Offered p h (flat_map (dumps_due p h) (streams_of p)) dumps false) (v : Offered p h (flat_map looks_due (range_with_len 1 viewers)) views true) where
+  -- all that is due but the looks
+  abbrev front_due : List Due
+  front_due = images_due p h ++ (streams_due p h ++ (marks_due p base h ++ all_dumps_due p h))
+
+  front : Offered p h front_due (concat (picture_lines p h) ++ (concat (end_lines p h) ++ (concat (ending_lines p base h) ++ dumps))) false
+  front =
+      offered_both p h _ _ _ _ false (given_offered p h what.Image (picture_lines p h) (images_are (replay p h)) (images_stop (replay p h)) (images_other (replay p h)))
+      (offered_both p h _ _ _ _ false (each_offered p h what.Stream (end_at p h) (λ s. stream_line s (tally_of (state_of p h s)) (end_of h s)) (λ s. stream_part s (tally_of (state_of p h s)) (end_of h s)) (streams_of p))
+      (offered_both p h _ _ _ _ false (each_offered p h what.Mark (mark_at base) (λ ending. mark_line ending (mark base ending)) (λ ending. mark_part ending (mark base ending)) (endings_in p h)) d))
+
+  whole : front.own ++ v.own ≡ picture_lines p h ++ (end_lines p h ++ (ending_lines p base h ++ (d.own ++ v.own)))
+  unfolding front offered_both given_offered each_offered
+  whole = simp append_assoc
+
   pub all_due : AreDue p h (dues p base h viewers) (picture_lines p h ++ (end_lines p h ++ (ending_lines p base h ++ (d.own ++ v.own))))
   all_due =
-      let a = same_lines what.Image (picture_lines p h) in
-      let b = same_lines what.Stream (end_lines p h) in
-      let m = same_lines what.Mark (ending_lines p base h) in
-      let ds = flat_map (dumps_due p h) (streams_of p) in
-      let vs = flat_map looks_due (range_with_len 1 viewers) in
-      let three = d.own ++ v.own in
-      let two = ending_lines p base h ++ three in
-      let one = end_lines p h ++ two in
-      let all = picture_lines p h ++ one in
-      let looks : AreTakenOff p h vs 0 v.own 0 [] = subst (λ (ls : List (List ℕ)). AreTakenOff p h vs 0 ls 0 []) (append-nil v.own) (v.taken []) in
-      let ab = taken_both p h a b 0 all 0 one 0 two (same_offered p h what.Image (picture_lines p h) one) (same_offered p h what.Stream (end_lines p h) two) in
-      let abm = taken_both p h (a ++ b) m 0 all 0 two 0 three ab (same_offered p h what.Mark (ending_lines p base h) three) in
-      let abmd = taken_both p h (a ++ b ++ m) ds 0 all 0 three 0 v.own abm (d.taken v.own) in
-      let taken = taken_both p h (a ++ b ++ m ++ ds) vs 0 all 0 v.own 0 [] abmd looks in
-      (0, subst (λ (own : List Due). AreTakenOff p h own 0 all 0 []) (sym (dues_are p base h viewers)) taken)
+      let looks : AreTakenOff p h (viewers_due viewers) 0 v.own 0 [] = subst (λ (ls : List (List ℕ)). AreTakenOff p h (viewers_due viewers) 0 ls 0 []) (append-nil v.own) (v.taken []) in
+      let taken = taken_both p h front_due (viewers_due viewers) 0 (front.own ++ v.own) 0 v.own 0 [] (front.taken v.own) looks in
+      let all : front_due ++ viewers_due viewers ≡ joined (parts p base h viewers) = simp (append_assoc, append-nil) in
+      let same : front_due ++ viewers_due viewers ≡ dues p base h viewers = all ∙ sym (dues_parts p base h viewers) in
+      (0, subst (λ (ls : List (List ℕ)). AreTakenOff p h (dues p base h viewers) 0 ls 0 []) whole (subst (λ (ds : List Due). AreTakenOff p h ds 0 (front.own ++ v.own) 0 []) same taken))
 
   pub all_are : All IsLine (picture_lines p h ++ (end_lines p h ++ (ending_lines p base h ++ (d.own ++ v.own))))
-  all_are =
-      let ends = all_lines IsLine (λ s. stream_text s (tally_of (state_of p h s)) (end_of h s)) (λ s. stream_line s (tally_of (state_of p h s)) (end_of h s)) (streams_of p) in
-      let marks = all_lines IsLine (λ ending. mark_text ending (mark base ending)) (λ ending. mark_line ending (mark base ending)) (endings_in p h) in
-      All-append IsLine (picture_lines p h) (end_lines p h ++ (ending_lines p base h ++ (d.own ++ v.own))) (images_are (replay p h))
-      (All-append IsLine (end_lines p h) (ending_lines p base h ++ (d.own ++ v.own)) ends
-      (All-append IsLine (ending_lines p base h) (d.own ++ v.own) marks (All-append IsLine d.own v.own d.lines v.lines)))
+  all_are = subst (All IsLine) whole (All-append IsLine front.own v.own front.lines v.lines)
 
   pub all_stop : Stops (picture_lines p h ++ (end_lines p h ++ (ending_lines p base h ++ (d.own ++ v.own))))
-  all_stop =
-      images_stop (replay p h) (end_lines p h ++ (ending_lines p base h ++ (d.own ++ v.own)))
-      (stops_all (end_lines p h) (ending_lines p base h ++ (d.own ++ v.own)) (all_lines Ends (λ s. stream_text s (tally_of (state_of p h s)) (end_of h s)) (λ s. stream_ends s (tally_of (state_of p h s)) (end_of h s)) (streams_of p))
-      (stops_all (ending_lines p base h) (d.own ++ v.own) (all_lines Ends (λ ending. mark_text ending (mark base ending)) (λ ending. mark_ends ending (mark base ending)) (endings_in p h))
-      (stops_all d.own v.own d.ends (last v.own v.ends))))
-    where
-      last : (lines : List (List ℕ)) → All Ends lines → Stops lines
-      last [] ends = tt
-      last (line ∷ lines) ends = All-head Ends line lines ends
+  all_stop = subst Stops whole (front.stops v.own (subst Stops (append-nil v.own) (v.stops [] tt)))
 
   pub all_viewers : viewers ≤ 4 → viewers_in (picture_lines p h ++ (end_lines p h ++ (ending_lines p base h ++ (d.own ++ v.own)))) ≡ viewers
   all_viewers few =
-      let others = picture_lines p h ++ (end_lines p h ++ (ending_lines p base h ++ (d.own ++ v.own))) in
-      let views : views_in others ≡ length v.own =
-      others_seen (picture_lines p h) (end_lines p h ++ (ending_lines p base h ++ (d.own ++ v.own))) (images_other (replay p h))
-      ∙ others_seen (end_lines p h) (ending_lines p base h ++ (d.own ++ v.own)) (all_lines (IsView false) (λ s. stream_text s (tally_of (state_of p h s)) (end_of h s)) (λ s. stream_other s (tally_of (state_of p h s)) (end_of h s)) (streams_of p))
-      ∙ others_seen (ending_lines p base h) (d.own ++ v.own) (all_lines (IsView false) (λ ending. mark_text ending (mark base ending)) (λ ending. mark_other ending (mark base ending)) (endings_in p h))
-      ∙ others_seen d.own v.own d.seen
-      ∙ looks_seen v.own v.seen in
+      let views : views_in (front.own ++ v.own) ≡ length v.own = others_seen front.own v.own front.seen ∙ looks_seen v.own v.seen in
+      let same = ap views_in whole in
       let count = v.count in
-      omega (arith, few, views, count, length_looks 1 viewers)
+      omega (arith, few, views, same, count, length_looks 1 viewers)

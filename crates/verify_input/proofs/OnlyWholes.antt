@@ -1,5 +1,5 @@
 -- One finding alone is that of an input with an output.
-use Rattle.std.proofs.Common.{◌≡◌, ◌⊎◌, inl, inr, ℕ, ◌+◌, ◌-◌, List, [], ◌++◌, length, drop, reverse, Option, Some, None, Result, Ok, Err, refl, sym, ap, subst, ◌∙◌, arith}
+use Rattle.std.proofs.Common.{◌≡◌, ◌⊎◌, inl, inr, ℕ, ◌+◌, ◌-◌, List, [], ◌++◌, length, drop, reverse, Option, Some, None, Result, Ok, refl, sym, ap, subst, ◌∙◌, arith}
 use Rattle.std.specs.List.{All, concat}
 use Rattle.std.proofs.lemmas.List.{append_cancel_left}
 use Rattle.script_lines.specs.declared.fault.Kind.{Kind}
@@ -10,7 +10,9 @@ use Rattle.journal_verify.proofs.Firsts.{wrong_is_illegal}
 use Rattle.verify_input.specs.Reading.{HasNumbersOfWords, IsFirstBad, whole_lines}
 use Rattle.verify_input.specs.Parts.{before, script_part}
 use Rattle.verify_input.specs.Found.{script_in, head_of}
-use Rattle.verify_input.specs.Due.{dues, heads_due, IsOff, viewers_in}
+use Rattle.verify_input.specs.Due.{dues, heads_due, IsOff, AreDue, IsFirstOff, viewers_in}
+use Rattle.verify_input.specs.Steps.{FindsOf}
+use Rattle.journal_verify.specs.Answers.{IsWholeHistory}
 use Rattle.verify_input.specs.Whole.{output_part, HasOutput, AreHeaded, TellsAll, LacksEvent, FindsAll, FindsWhole}
 use Rattle.verify_input.specs.Laws.{WholeFindingIsOne}
 use Rattle.verify_input.specs.declared.border.Border.TheVariants.{Journal}
@@ -21,44 +23,46 @@ use Rattle.verify_input.specs.declared.finding.Finding.TheVariants.{Refused, NoJ
 use Rattle.verify_input.proofs.Lines.{refused_is_no_journal, journal_is_one}
 use Rattle.verify_input.proofs.Wholes.{concat_whole}
 use Rattle.verify_input.proofs.Offered.{same_offered}
-use Rattle.verify_input.proofs.Onlys.{bad_is_one, wrong_is_one}
+use Rattle.verify_input.proofs.Onlys.{bad_is_one, events_are_one, IsOf, is_one, of_plans, of_lines}
 use Rattle.verify_input.proofs.Alone.{off_not_taken, off_is_one, first_off_is_one, off_not_due}
 
 -- ---- one finding alone is that of events and of the lines after them
 
-all_is_one : (p : PlansData) (base : ℕ) (events : List Event) (others : List (List ℕ)) (start : ℕ) (one other : Finding) → FindsAll p base events others start one → FindsAll p base events others start other → one ≡ other
-all_is_one p base events others start (Refused line kind) other one two = absurd one
-all_is_one p base events others start one (Refused line kind) a two = absurd two
-all_is_one p base events others start (NoJournal line) other one two = absurd one
-all_is_one p base events others start one (NoJournal line) a two = absurd two
-all_is_one p base events others start (No event rule) (No other another) one two = wrong_is_one p events event other rule another one two
-all_is_one p base events others start (No event rule) (Differs line what) one two = absurd (wrong_is_illegal p events event rule one two.0.legal)
-all_is_one p base events others start (No event rule) NotComplete one two = absurd (wrong_is_illegal p events event rule one two.legal)
-all_is_one p base events others start (No event rule) (Yes images count) one two = absurd (wrong_is_illegal p events event rule one two.0.legal)
-all_is_one p base events others start (Differs line what) (No event rule) one two = absurd (wrong_is_illegal p events event rule two one.0.legal)
-all_is_one p base events others start (Differs line what) (Differs other part) one two =
-    let h = reverse events in
-    let same = first_off_is_one p h (dues p base h (viewers_in others)) others one.1 two.1 what part one.3 two.3 in
-    let at : line ≡ other = one.2 ∙ ap (λ (k : ℕ). start + k) same.0 ∙ sym two.2 in
-    let is : what ≡ part = same.1 in
-    (λ i. Differs (at i) (is i))
-all_is_one p base events others start (Differs line what) NotComplete one two = absurd (two.unfinished one.0.complete)
-all_is_one p base events others start (Differs line what) (Yes images count) one two =
-    let h = reverse events in
-    absurd (off_not_due p h (dues p base h (viewers_in others)) others one.1 what one.3 two.1)
-all_is_one p base events others start NotComplete (No event rule) one two = absurd (wrong_is_illegal p events event rule two one.legal)
-all_is_one p base events others start NotComplete (Differs line what) one two = absurd (one.unfinished two.0.complete)
-all_is_one p base events others start NotComplete NotComplete one two = refl
-all_is_one p base events others start NotComplete (Yes images count) one two = absurd (one.unfinished two.0.complete)
-all_is_one p base events others start (Yes images count) (No event rule) one two = absurd (wrong_is_illegal p events event rule two one.0.legal)
-all_is_one p base events others start (Yes images count) (Differs line what) one two =
-    let h = reverse events in
-    absurd (off_not_due p h (dues p base h (viewers_in others)) others two.1 what two.3 one.1)
-all_is_one p base events others start (Yes images count) NotComplete one two = absurd (two.unfinished one.0.complete)
-all_is_one p base events others start (Yes images count) (Yes more number) one two =
-    let left : images ≡ more = one.2 ∙ sym two.2 in
-    let counted : count ≡ number = one.3 ∙ sym two.3 in
-    (λ i. Yes (left i) (counted i))
+module _ (p : PlansData) (base : ℕ) (events : List Event) (others : List (List ℕ)) (start : ℕ) where
+  -- the finding is that a line of a whole history is off
+  record IsOfOff (finding : Finding) : Type 0 where
+    k : ℕ
+    what : What
+    whole : IsWholeHistory p (reverse events)
+    off : IsFirstOff p (reverse events) (dues p base (reverse events) (viewers_in others)) others k what
+    is : finding ≡ Differs (start + k) what
+
+  -- or it is that of the events, and lines of a whole history are due
+  record IsOfDue (finding : Finding) : Type 0 where
+    found : FindsOf p events finding
+    due : IsWholeHistory p (reverse events) → AreDue p (reverse events) (dues p base (reverse events) (viewers_in others)) others
+
+  off_or_due : (finding : Finding) → FindsAll p base events others start finding → IsOfOff finding ⊎ IsOfDue finding
+  off_or_due (Refused line kind) found = absurd found
+  off_or_due (NoJournal line) found = absurd found
+  off_or_due (Differs line what) found = inl (record { k = found.1; what = what; whole = found.0; off = found.3; is = ap (λ (l : ℕ). Differs l what) found.2 })
+  off_or_due (No event rule) found = inr (record { found = found; due = λ whole. absurd (wrong_is_illegal p events event rule found whole.legal) })
+  off_or_due NotComplete found = inr (record { found = found; due = λ whole. absurd (found.unfinished whole.complete) })
+  off_or_due (Yes images count) found = inr (record { found = (found.0, found.2, found.3); due = λ whole. found.1 })
+
+  all_is_one : (one other : Finding) → FindsAll p base events others start one → FindsAll p base events others start other → one ≡ other
+  all_is_one one other a b = by (off_or_due one a) (off_or_due other b)
+    where
+      by : IsOfOff one ⊎ IsOfDue one → IsOfOff other ⊎ IsOfDue other → one ≡ other
+      by (inl a) (inl b) =
+          let same = first_off_is_one p (reverse events) (dues p base (reverse events) (viewers_in others)) others a.k b.k a.what b.what a.off b.off in
+          let at : a.k ≡ b.k = same.0 in
+          let part : a.what ≡ b.what = same.1 in
+          let all : Differs (start + a.k) a.what ≡ Differs (start + b.k) b.what = (λ i. Differs (start + at i) (part i)) in
+          a.is ∙ all ∙ sym b.is
+      by (inl a) (inr b) = absurd (off_not_due p (reverse events) (dues p base (reverse events) (viewers_in others)) others a.k a.what a.off (b.due a.whole))
+      by (inr a) (inl b) = absurd (off_not_due p (reverse events) (dues p base (reverse events) (viewers_in others)) others b.k b.what b.off (a.due b.whole))
+      by (inr a) (inr b) = events_are_one p events one other a.found b.found
 
 -- ---- a finding by what is read, part by part, after a script of a given number of lines
 
@@ -86,15 +90,9 @@ abbrev IsOfRest : PlansData → ℕ → ℕ → ℕ → List (List ℕ) → Find
 IsOfRest p base count total rest finding = IsOfLine p count rest finding ⊎ IsOfEvents p base total rest finding
 
 -- the finding is that of the lines of an output
-abbrev IsOfLines : PlansData → ℕ → ℕ → ℕ → List (List ℕ) → Finding → Type 0
-IsOfLines p base count total lines finding =
+abbrev IsOfLines : ℕ → ℕ → ℕ → PlansData → List (List ℕ) → Finding → Type 0
+IsOfLines base count total p lines finding =
     IsOfHead p count lines finding ⊎ ((rest : List (List ℕ)) × AreHeaded p lines rest × IsOfRest p base count total rest finding)
-
--- the finding is that of what the script says, and of the lines of the output, if there is one
-abbrev IsOf : ℕ → ℕ → ℕ → Result PlansData (ℕ × Kind) → Option (List (List ℕ)) → Finding → Type 0
-IsOf base count total (Err fault) lines finding = finding ≡ Refused fault.0 fault.1
-IsOf base count total (Ok p) None finding = finding ≡ NoJournal (count + 1)
-IsOf base count total (Ok p) (Some lines) finding = IsOfLines p base count total lines finding
 
 -- ---- one finding alone is that of what is read
 
@@ -110,8 +108,8 @@ head_not_off p lines rest k part headed off =
     (subst (λ (ls : List (List ℕ)). IsOff p [] (heads_due p) 0 ls k part) headed off)
     (same_offered p [] Name (head_of p) rest)
 
-events_are_one : (p : PlansData) (base total : ℕ) (rest : List (List ℕ)) (one other : Finding) → IsOfEvents p base total rest one → IsOfEvents p base total rest other → one ≡ other
-events_are_one p base total rest one other a b =
+told_are_one : (p : PlansData) (base total : ℕ) (rest : List (List ℕ)) (one other : Finding) → IsOfEvents p base total rest one → IsOfEvents p base total rest other → one ≡ other
+told_are_one p base total rest one other a b =
     let lines = sym a.told ∙ b.told in
     let is : journal_text a.events ≡ journal_text b.events = sym (concat_whole (journal_text a.events)) ∙ ap concat lines ∙ concat_whole (journal_text b.events) in
     let events : a.events ≡ b.events = journal_is_one (journal_text a.events) a.events b.events (record { is = refl; written = a.written }) (record { is = is; written = b.written }) in
@@ -126,60 +124,50 @@ rest_is_one p base count total rest one other (inl a) (inl b) =
     a.2 ∙ ap (λ (k : ℕ). NoJournal (count + 1 + length (head_of p) + (k + 1))) (bad_is_one (before Journal rest) a.0 b.0 a.1 b.1) ∙ sym b.2
 rest_is_one p base count total rest one other (inl a) (inr b) = absurd (line_not_told rest a.0 b.events a.1 b.told b.written)
 rest_is_one p base count total rest one other (inr a) (inl b) = absurd (line_not_told rest b.0 a.events b.1 a.told a.written)
-rest_is_one p base count total rest one other (inr a) (inr b) = events_are_one p base total rest one other a b
+rest_is_one p base count total rest one other (inr a) (inr b) = told_are_one p base total rest one other a b
 
-lines_are_one : (p : PlansData) (base count total : ℕ) (lines : List (List ℕ)) (one other : Finding) → IsOfLines p base count total lines one → IsOfLines p base count total lines other → one ≡ other
-lines_are_one p base count total lines one other (inl a) (inl b) =
+lines_are_one : (base count total : ℕ) (p : PlansData) (lines : List (List ℕ)) (one other : Finding) → IsOfLines base count total p lines one → IsOfLines base count total p lines other → one ≡ other
+lines_are_one base count total p lines one other (inl a) (inl b) =
     let same = off_is_one p [] (heads_due p) 0 lines a.0 b.0 a.1 b.1 a.2 b.2 in
     let at : a.0 ≡ b.0 = same.0 in
     let is : a.1 ≡ b.1 = same.1 in
     let all : Differs (count + 1 + (a.0 + 1)) a.1 ≡ Differs (count + 1 + (b.0 + 1)) b.1 = (λ i. Differs (count + 1 + (at i + 1)) (is i)) in
     a.3 ∙ all ∙ sym b.3
-lines_are_one p base count total lines one other (inl a) (inr b) = absurd (head_not_off p lines b.0 a.0 a.1 b.1 a.2)
-lines_are_one p base count total lines one other (inr a) (inl b) = absurd (head_not_off p lines a.0 b.0 b.1 a.1 b.2)
-lines_are_one p base count total lines one other (inr a) (inr b) =
+lines_are_one base count total p lines one other (inl a) (inr b) = absurd (head_not_off p lines b.0 a.0 a.1 b.1 a.2)
+lines_are_one base count total p lines one other (inr a) (inl b) = absurd (head_not_off p lines a.0 b.0 b.1 a.1 b.2)
+lines_are_one base count total p lines one other (inr a) (inr b) =
     let same = append_cancel_left (head_of p) a.0 b.0 (sym a.1 ∙ b.1) in
     rest_is_one p base count total b.0 one other (subst (λ (rest : List (List ℕ)). IsOfRest p base count total rest one) same a.2) b.2
 
-is_one : (base count total : ℕ) (script : Result PlansData (ℕ × Kind)) (lines : Option (List (List ℕ))) (one other : Finding) → IsOf base count total script lines one → IsOf base count total script lines other → one ≡ other
-is_one base count total (Err fault) lines one other a b = a ∙ sym b
-is_one base count total (Ok p) None one other a b = a ∙ sym b
-is_one base count total (Ok p) (Some lines) one other a b = lines_are_one p base count total lines one other a b
-
 -- ---- each finding of an input is that of what is read
 
--- the finding is that of what the input says
-abbrev IsOfInput : ℕ → List ℕ → Finding → Type 0
-IsOfInput base input finding = IsOf base (length (script_part input)) (length (whole_lines input)) (script_in input) (output_part input) finding
-
-of_lack : (p : PlansData) (base count total line : ℕ) (lines : Option (List (List ℕ))) → LacksEvent p count lines line → IsOf base count total (Ok p) lines (NoJournal line)
+of_lack : (p : PlansData) (base count total line : ℕ) (lines : Option (List (List ℕ))) → LacksEvent p count lines line → IsOf (IsOfLines base count total) count (Ok p) lines (NoJournal line)
 of_lack p base count total line None lacks = ap NoJournal lacks
 of_lack p base count total line (Some lines) lacks = inr (lacks.0, lacks.1, inl (lacks.2, lacks.4, ap NoJournal lacks.3))
 
 module _ (base : ℕ) (input : List ℕ) where
-  of_script : (p : PlansData) (finding : Finding) → script_in input ≡ Ok p → IsOf base (length (script_part input)) (length (whole_lines input)) (Ok p) (output_part input) finding → IsOfInput base input finding
-  of_script p finding script found =
-      subst (λ (s : Result PlansData (ℕ × Kind)). IsOf base (length (script_part input)) (length (whole_lines input)) s (output_part input) finding) (sym script) found
+  abbrev Found : PlansData → List (List ℕ) → Finding → Type 0
+  Found = IsOfLines base (length (script_part input)) (length (whole_lines input))
 
-  of_lines : (p : PlansData) (lines : List (List ℕ)) (finding : Finding) → HasOutput input p lines → IsOfLines p base (length (script_part input)) (length (whole_lines input)) lines finding → IsOfInput base input finding
-  of_lines p lines finding has found =
-      of_script p finding has.script
-      (subst (λ (o : Option (List (List ℕ))). IsOf base (length (script_part input)) (length (whole_lines input)) (Ok p) o finding) (sym has.there) found)
+  abbrev IsOfInput : Finding → Type 0
+  IsOfInput finding = IsOf Found (length (script_part input)) (script_in input) (output_part input) finding
+
+  of_output : (p : PlansData) (lines : List (List ℕ)) (finding : Finding) → HasOutput input p lines → Found p lines finding → IsOfInput finding
+  of_output p lines finding has found = of_lines Found (length (script_part input)) (script_in input) (output_part input) p lines finding has.script has.there found
 
   of_events : (p : PlansData) (lines : List (List ℕ)) (events : List Event) (others : List (List ℕ)) (finding : Finding) → HasOutput input p lines → TellsAll p lines events others
-      → FindsAll p base events others (length (whole_lines input) - length others + 1) finding → IsOfInput base input finding
+      → FindsAll p base events others (length (whole_lines input) - length others + 1) finding → IsOfInput finding
   of_events p lines events others finding has all found =
-      of_lines p lines finding has
+      of_output p lines finding has
       (inr (all.rest, all.headed, inr (record { events = events; others = others; told = all.told; written = all.written; left = all.left; found = found })))
 
-  of_all : (finding : Finding) → FindsWhole base input finding → IsOfInput base input finding
-  of_all (Refused line kind) found =
-      subst (λ (s : Result PlansData (ℕ × Kind)). IsOf base (length (script_part input)) (length (whole_lines input)) s (output_part input) (Refused line kind)) (sym found) refl
+  of_all : (finding : Finding) → FindsWhole base input finding → IsOfInput finding
+  of_all (Refused line kind) found = subst (λ (s : Result PlansData (ℕ × Kind)). IsOf Found (length (script_part input)) s (output_part input) (Refused line kind)) (sym found) refl
   of_all (NoJournal line) found =
-      of_script found.0 (NoJournal line) found.1 (of_lack found.0 base (length (script_part input)) (length (whole_lines input)) line (output_part input) found.2)
+      of_plans Found (length (script_part input)) (script_in input) (output_part input) found.0 (NoJournal line) found.1 (of_lack found.0 base (length (script_part input)) (length (whole_lines input)) line (output_part input) found.2)
   of_all (No event rule) found = of_events found.0 found.1 found.3 found.4 (No event rule) found.2 found.5 found.6
   of_all (Differs line what) (inl found) =
-      of_lines found.0 found.1 (Differs line what) found.2 (inl (found.3, what, found.5, ap (λ (l : ℕ). Differs l what) found.4))
+      of_output found.0 found.1 (Differs line what) found.2 (inl (found.3, what, found.5, ap (λ (l : ℕ). Differs l what) found.4))
   of_all (Differs line what) (inr found) =
       let at = found.5 in
       of_events found.0 found.3.lines found.1 found.2 (Differs line what) found.3.there found.3.told (found.3.whole, found.4, omega (arith, at), found.6)
@@ -189,4 +177,5 @@ module _ (base : ℕ) (input : List ℕ) where
 
 pub whole_finding_is_one : WholeFindingIsOne
 whole_finding_is_one base input one other a b =
-    is_one base (length (script_part input)) (length (whole_lines input)) (script_in input) (output_part input) one other (of_all base input one a) (of_all base input other b)
+    is_one (IsOfLines base (length (script_part input)) (length (whole_lines input))) (lines_are_one base (length (script_part input)) (length (whole_lines input))) (length (script_part input)) (script_in input) (output_part input) one other
+    (of_all base input one a) (of_all base input other b)

@@ -1,25 +1,24 @@
 -- One finding alone is that of an input.
-use Rattle.std.proofs.Common.{◌≡◌, ℕ, ◌+◌, ◌-◌, ◌<◌, zero, suc, inl, inr, List, [], ◌∷◌, ◌++◌, length, take, reverse, Option, Some, None, Result, Ok, Err, refl, sym, ap, subst, ◌∙◌, arith}
+use Rattle.std.proofs.Common.{◌≡◌, ℕ, ◌+◌, ◌-◌, ◌<◌, zero, suc, ◌⊎◌, inl, inr, List, [], ◌∷◌, ◌++◌, length, take, reverse, Option, Some, None, Result, Ok, Err, refl, sym, ap, subst, ◌∙◌, arith}
 use Rattle.std.specs.Prelude.{slice_get}
 use Rattle.std.specs.List.{concat}
 use Rattle.std.proofs.lemmas.Bool.{cases_order}
 use Rattle.std.proofs.lemmas.List.{take-take, append_cancel_left}
-use Rattle.gpu_store.specs.Images.{Pictures}
 use Rattle.script_lines.specs.declared.fault.Kind.{Kind}
 use Rattle.gpu_plan.specs.Plans.{PlansData}
 use Rattle.gpu_journal.specs.declared.event.Event.{Event}
-use Rattle.gpu_journal.specs.World.{replay}
 use Rattle.gpu_journal.specs.Legal.{IsLegal}
 use Rattle.journal_text.specs.Text.{journal_text}
 use Rattle.verify_input.specs.Reading.{IsFirstBad, whole_lines}
 use Rattle.verify_input.proofs.Lines.{refused_is_no_journal, journal_is_one}
 use Rattle.journal_verify.specs.Rules.{BreaksFirst}
-use Rattle.journal_verify.specs.Answers.{IsFirstWrong, IsWholeHistory, IsUnfinished}
+use Rattle.journal_verify.specs.Answers.{IsFirstWrong}
 use Rattle.journal_verify.proofs.Firsts.{wrong_is_illegal, rule_is_one}
 use Rattle.verify_input.specs.declared.finding.Finding.{Finding}
 use Rattle.verify_input.specs.declared.finding.Finding.TheVariants.{Refused, NoJournal, No, Differs, NotComplete, Yes}
 use Rattle.verify_input.specs.Parts.{script_part, journal_part}
-use Rattle.verify_input.specs.Found.{script_in, head_of, TellsBehind, Records, IsFirstOther, LacksText, HasNoJournal, BreaksRule, IsCutShort, IsRight, Finds}
+use Rattle.verify_input.specs.Found.{script_in, head_of, TellsBehind, Records, IsFirstOther, LacksText, Finds}
+use Rattle.verify_input.specs.Steps.{FindsOf}
 use Rattle.verify_input.specs.Laws.{FindingIsOne}
 use Rattle.verify_input.proofs.Wholes.{concat_whole}
 
@@ -53,32 +52,13 @@ not_told heads text k events other told =
     let bad = none_other heads (whole_lines (journal_text events)) k (subst (λ (text : List (List ℕ)). IsFirstOther heads text k) told.lines other) in
     refused_is_no_journal (journal_text events) bad.0 events bad.1 (record { is = refl; written = told.written })
 
--- ---- one list of events alone is known
-
-same_plans : (input : List ℕ) (p q : PlansData) → script_in input ≡ Ok p → script_in input ≡ Ok q → p ≡ q
-same_plans input p q one other = cc
-
-same_text : (text other : List (List ℕ)) (found : Option (List (List ℕ))) → found ≡ Some text → found ≡ Some other → text ≡ other
-same_text text other found one two = cc
+-- ---- one list of events alone is told
 
 told_is_one : (heads text : List (List ℕ)) (g h : List Event) → TellsBehind heads text g → TellsBehind heads text h → g ≡ h
 told_is_one heads text g h one other =
     let same = append_cancel_left heads (whole_lines (journal_text g)) (whole_lines (journal_text h)) (sym one.lines ∙ other.lines) in
     let is : journal_text g ≡ journal_text h = sym (concat_whole (journal_text g)) ∙ ap concat same ∙ concat_whole (journal_text h) in
     journal_is_one (journal_text g) g h (record { is = refl; written = one.written }) (record { is = is; written = other.written })
-
-same_events : (input : List ℕ) (p q : PlansData) (g h : List Event) → Records input p g → Records input q h → g ≡ h
-same_events input p q g h one other =
-    let plans = same_plans input p q one.script other.script in
-    let text = same_text one.text other.text (journal_part input) one.there other.there in
-    told_is_one (head_of q) other.text g h
-    (subst (λ (text : List (List ℕ)). TellsBehind (head_of q) text g) text (subst (λ (p : PlansData). TellsBehind (head_of p) one.text g) plans one.told))
-    other.told
-
--- what is said of the plans and events of one record is said of those of the other
-said_again : (input : List ℕ) (Says : PlansData → List Event → Type 0) (p q : PlansData) (g h : List Event) → Records input p g → Records input q h → Says p g → Says q h
-said_again input Says p q g h one other said =
-    subst (Says q) (same_events input p q g h one other) (subst (λ (p : PlansData). Says p g) (same_plans input p q one.script other.script) said)
 
 -- ---- one event alone is the first that is wrong, by one rule
 
@@ -108,92 +88,89 @@ wrong_at p events n r q one other =
     let same : one.event ≡ other.event = let a = one.there in let b = other.there in cc in
     rule_is_one p (reverse (take (n - 1) events)) other.event r q (subst (λ (event : Event). BreaksFirst p (reverse (take (n - 1) events)) event r) same one.breaks) other.breaks
 
-pub wrong_is_one : (p : PlansData) (events : List Event) (m n r q : ℕ) → IsFirstWrong p events m r → IsFirstWrong p events n q → No m r ≡ No n q
+wrong_is_one : (p : PlansData) (events : List Event) (m n r q : ℕ) → IsFirstWrong p events m r → IsFirstWrong p events n q → No m r ≡ No n q
 wrong_is_one p events m n r q one other =
     elim (cases_order m n) [
       | inl same ↦ (let rule = wrong_at p events n r q (subst (λ m. IsFirstWrong p events m r) same one) other in (λ i. No (same i) (rule i)))
       | inr apart ↦ elim apart [ inl less ↦ absurd (wrong_before p events m n r q less one other) | inr more ↦ absurd (wrong_before p events n m q r more other one) ]
     ]
 
--- ---- no two findings of different kinds
+pub events_are_one : (p : PlansData) (events : List Event) (one other : Finding) → FindsOf p events one → FindsOf p events other → one ≡ other
+events_are_one p events (Refused line kind) other one two = absurd one
+events_are_one p events (NoJournal line) other one two = absurd one
+events_are_one p events (Differs line what) other one two = absurd one
+events_are_one p events one (Refused line kind) a two = absurd two
+events_are_one p events one (NoJournal line) a two = absurd two
+events_are_one p events one (Differs line what) a two = absurd two
+events_are_one p events (No event rule) (No other another) one two = wrong_is_one p events event other rule another one two
+events_are_one p events (No event rule) NotComplete one two = absurd (wrong_is_illegal p events event rule one two.legal)
+events_are_one p events (No event rule) (Yes images count) one two = absurd (wrong_is_illegal p events event rule one two.0.legal)
+events_are_one p events NotComplete (No event rule) one two = absurd (wrong_is_illegal p events event rule two one.legal)
+events_are_one p events NotComplete NotComplete one two = refl
+events_are_one p events NotComplete (Yes images count) one two = absurd (one.unfinished two.0.complete)
+events_are_one p events (Yes images count) (No event rule) one two = absurd (wrong_is_illegal p events event rule two one.0.legal)
+events_are_one p events (Yes images count) NotComplete one two = absurd (two.unfinished one.0.complete)
+events_are_one p events (Yes images count) (Yes others number) one two =
+    let left : images ≡ others = one.1 ∙ sym two.1 in
+    let counted : count ≡ number = one.2 ∙ sym two.2 in
+    (λ i. Yes (left i) (counted i))
 
-lacks_is_one : (p : PlansData) (count line other : ℕ) (text : Option (List (List ℕ))) → LacksText p count text line → LacksText p count text other → line ≡ other
-lacks_is_one p count line other None one two = one ∙ sym two
-lacks_is_one p count line other (Some text) one two =
-    let same = other_is_one (head_of p) text one.0 two.0 one.2 two.2 in
-    one.1 ∙ ap (λ k. count + 1 + (k + 1)) same ∙ sym two.1
+-- ---- one finding alone is that of what a script of a given number of lines says, and of the lines after it
 
-lacks_one : (input : List ℕ) (line other : ℕ) → HasNoJournal input line → HasNoJournal input other → line ≡ other
-lacks_one input line other one two =
-    let plans = same_plans input one.0 two.0 one.1 two.1 in
-    lacks_is_one two.0 (length (script_part input)) line other (journal_part input) (subst (λ (p : PlansData). LacksText p (length (script_part input)) (journal_part input) line) plans one.2) two.2
+abbrev pub IsOf : (PlansData → List (List ℕ) → Finding → Type 0) → ℕ → Result PlansData (ℕ × Kind) → Option (List (List ℕ)) → Finding → Type 0
+IsOf Found count (Err fault) lines finding = finding ≡ Refused fault.0 fault.1
+IsOf Found count (Ok p) None finding = finding ≡ NoJournal (count + 1)
+IsOf Found count (Ok p) (Some lines) finding = Found p lines finding
 
-lacks_text : (p : PlansData) (count line : ℕ) (found : Option (List (List ℕ))) (text : List (List ℕ)) (events : List Event) → LacksText p count found line → found ≡ Some text → TellsBehind (head_of p) text events → ⊥
-lacks_text p count line None text events lacks there told = absurd (cc)
-lacks_text p count line (Some found) text events lacks there told =
-    let same : found ≡ text = cc in
-    not_told (head_of p) text lacks.0 events (subst (λ (text : List (List ℕ)). IsFirstOther (head_of p) text lacks.0) same lacks.2) told
+pub is_one : (Found : PlansData → List (List ℕ) → Finding → Type 0) → ((p : PlansData) (lines : List (List ℕ)) (one other : Finding) → Found p lines one → Found p lines other → one ≡ other)
+    → (count : ℕ) (script : Result PlansData (ℕ × Kind)) (lines : Option (List (List ℕ))) (one other : Finding) → IsOf Found count script lines one → IsOf Found count script lines other → one ≡ other
+is_one Found each count (Err fault) lines one other a b = a ∙ sym b
+is_one Found each count (Ok p) None one other a b = a ∙ sym b
+is_one Found each count (Ok p) (Some lines) one other a b = each p lines one other a b
 
-lacks_none : (input : List ℕ) (line : ℕ) (p : PlansData) (events : List Event) → HasNoJournal input line → Records input p events → ⊥
-lacks_none input line p events lacks records =
-    let plans = same_plans input lacks.0 p lacks.1 records.script in
-    lacks_text p (length (script_part input)) line (journal_part input) records.text events (subst (λ (p : PlansData). LacksText p (length (script_part input)) (journal_part input) line) plans lacks.2) records.there records.told
+-- by the plans that it says
+pub of_plans : (Found : PlansData → List (List ℕ) → Finding → Type 0) (count : ℕ) (script : Result PlansData (ℕ × Kind)) (lines : Option (List (List ℕ))) (p : PlansData) (finding : Finding) → script ≡ Ok p → IsOf Found count (Ok p) lines finding
+    → IsOf Found count script lines finding
+of_plans Found count script lines p finding says found = subst (λ (s : Result PlansData (ℕ × Kind)). IsOf Found count s lines finding) (sym says) found
 
-no_script : (input : List ℕ) (line : ℕ) (kind : Kind) (p : PlansData) → script_in input ≡ Err (line, kind) → script_in input ≡ Ok p → ⊥
-no_script input line kind p bad good = absurd (cc)
+-- and by the lines
+pub of_lines : (Found : PlansData → List (List ℕ) → Finding → Type 0) (count : ℕ) (script : Result PlansData (ℕ × Kind)) (there : Option (List (List ℕ))) (p : PlansData) (lines : List (List ℕ)) (finding : Finding) → script ≡ Ok p → there ≡ Some lines → Found p lines finding
+    → IsOf Found count script there finding
+of_lines Found count script there p lines finding says is found = of_plans Found count script there p finding says (subst (λ (o : Option (List (List ℕ))). IsOf Found count (Ok p) o finding) (sym is) found)
 
--- the plans of a lawful script
-lawful : (input : List ℕ) (line : ℕ) (kind : Kind) (finding : Finding) → script_in input ≡ Err (line, kind) → Finds input finding → (l : ℕ) × (k : Kind) × (finding ≡ Refused l k) × (script_in input ≡ Err (l, k))
-lawful input line kind (Refused l k) bad found = (l, k, refl, found)
-lawful input line kind (Differs l what) bad found = absurd found
-lawful input line kind (NoJournal l) bad found = absurd (no_script input line kind found.0 bad found.1)
-lawful input line kind (No event rule) bad found = absurd (no_script input line kind found.0 bad found.2.script)
-lawful input line kind NotComplete bad found = absurd (no_script input line kind found.0 bad found.2.script)
-lawful input line kind (Yes images events) bad found = absurd (no_script input line kind found.0 bad found.2.script)
+-- ---- one finding alone is that of an input
 
-same_fault : (line other : ℕ) (kind another : Kind) (said : Result PlansData (ℕ × Kind)) → said ≡ Err (line, kind) → said ≡ Err (other, another) → Refused line kind ≡ Refused other another
-same_fault line other kind another said one two =
-    let same : (line, kind) ≡ (other, another) = cc in
-    ap (λ (fault : ℕ × Kind). Refused fault.0 fault.1) same
+-- the finding is that of a text of which a line is another, or of the events that it tells
+abbrev IsOfText : ℕ → PlansData → List (List ℕ) → Finding → Type 0
+IsOfText count p text finding =
+    ((k : ℕ) × IsFirstOther (head_of p) text k × (finding ≡ NoJournal (count + 1 + (k + 1)))) ⊎ ((events : List Event) × TellsBehind (head_of p) text events × FindsOf p events finding)
 
-wrong_legal : (input : List ℕ) (event rule : ℕ) (p : PlansData) (events : List Event) → BreaksRule input event rule → Records input p events → IsLegal p (reverse events) → ⊥
-wrong_legal input event rule p events breaks records legal =
-    wrong_is_illegal p events event rule (said_again input (λ p events. IsFirstWrong p events event rule) breaks.0 p breaks.1 events breaks.2 records breaks.3) legal
+text_is_one : (count : ℕ) (p : PlansData) (text : List (List ℕ)) (one other : Finding) → IsOfText count p text one → IsOfText count p text other → one ≡ other
+text_is_one count p text one other (inl a) (inl b) = a.2 ∙ ap (λ k. NoJournal (count + 1 + (k + 1))) (other_is_one (head_of p) text a.0 b.0 a.1 b.1) ∙ sym b.2
+text_is_one count p text one other (inl a) (inr b) = absurd (not_told (head_of p) text a.0 b.0 a.1 b.1)
+text_is_one count p text one other (inr a) (inl b) = absurd (not_told (head_of p) text b.0 a.0 b.1 a.1)
+text_is_one count p text one other (inr a) (inr b) = events_are_one p b.0 one other (subst (λ (events : List Event). FindsOf p events one) (told_is_one (head_of p) text a.0 b.0 a.1 b.1) a.2) b.2
 
-short_whole : (input : List ℕ) (p : PlansData) (events : List Event) → IsCutShort input → Records input p events → IsWholeHistory p (reverse events) → ⊥
-short_whole input p events short records whole =
-    (said_again input (λ p events. IsUnfinished p (reverse events)) short.0 p short.1 events short.2 records short.3).unfinished whole.complete
+of_lack : (p : PlansData) (count line : ℕ) (text : Option (List (List ℕ))) → LacksText p count text line → IsOf (IsOfText count) count (Ok p) text (NoJournal line)
+of_lack p count line None lacks = ap NoJournal lacks
+of_lack p count line (Some text) lacks = inl (lacks.0, lacks.2, ap NoJournal lacks.1)
 
-right_is_one : (input : List ℕ) (one other : Pictures) (m n : ℕ) → IsRight input one m → IsRight input other n → Yes one m ≡ Yes other n
-right_is_one input one other m n a b =
-    let plans = same_plans input a.0 b.0 a.2.script b.2.script in
-    let events = same_events input a.0 b.0 a.1 b.1 a.2 b.2 in
-    let images : one ≡ other = a.4 ∙ (λ i. replay (plans i) (reverse (events i))) ∙ sym b.4 in
-    let count : m ≡ n = a.5 ∙ ap length events ∙ sym b.5 in
-    (λ i. Yes (images i) (count i))
+module _ (input : List ℕ) where
+  abbrev IsOfInput : Finding → Type 0
+  IsOfInput finding = IsOf (IsOfText (length (script_part input))) (length (script_part input)) (script_in input) (journal_part input) finding
+
+  of_records : (p : PlansData) (events : List Event) (finding : Finding) → Records input p events → FindsOf p events finding → IsOfInput finding
+  of_records p events finding records found = of_lines (IsOfText (length (script_part input))) (length (script_part input)) (script_in input) (journal_part input) p records.text finding records.script records.there (inr (events, records.told, found))
+
+  of_all : (finding : Finding) → Finds input finding → IsOfInput finding
+  of_all (Refused line kind) found = subst (λ (s : Result PlansData (ℕ × Kind)). IsOf (IsOfText (length (script_part input))) (length (script_part input)) s (journal_part input) (Refused line kind)) (sym found) refl
+  of_all (NoJournal line) found =
+      of_plans (IsOfText (length (script_part input))) (length (script_part input)) (script_in input) (journal_part input) found.0 (NoJournal line) found.1 (of_lack found.0 (length (script_part input)) line (journal_part input) found.2)
+  of_all (Differs line what) found = absurd found
+  of_all (No event rule) found = of_records found.0 found.1 (No event rule) found.2 found.3
+  of_all NotComplete found = of_records found.0 found.1 NotComplete found.2 found.3
+  of_all (Yes images events) found = of_records found.0 found.1 (Yes images events) found.2 (found.3, found.4, found.5)
 
 pub finding_is_one : FindingIsOne
-finding_is_one input (Refused line kind) other one two =
-    let same = lawful input line kind other one two in
-    same_fault line same.0 kind same.1 (script_in input) one same.3 ∙ sym same.2
-finding_is_one input one (Refused line kind) a two =
-    let same = lawful input line kind one two a in
-    same.2 ∙ same_fault same.0 line same.1 kind (script_in input) same.3 two
-finding_is_one input (Differs line what) other one two = absurd one
-finding_is_one input one (Differs line what) a two = absurd two
-finding_is_one input (NoJournal line) (NoJournal other) one two = ap NoJournal (lacks_one input line other one two)
-finding_is_one input (NoJournal line) (No event rule) one two = absurd (lacks_none input line two.0 two.1 one two.2)
-finding_is_one input (NoJournal line) NotComplete one two = absurd (lacks_none input line two.0 two.1 one two.2)
-finding_is_one input (NoJournal line) (Yes images events) one two = absurd (lacks_none input line two.0 two.1 one two.2)
-finding_is_one input (No event rule) (NoJournal line) one two = absurd (lacks_none input line one.0 one.1 two one.2)
-finding_is_one input (No event rule) (No other another) one two = wrong_is_one two.0 two.1 event other rule another (said_again input (λ p events. IsFirstWrong p events event rule) one.0 two.0 one.1 two.1 one.2 two.2 one.3) two.3
-finding_is_one input (No event rule) NotComplete one two = absurd (wrong_legal input event rule two.0 two.1 one two.2 two.3.legal)
-finding_is_one input (No event rule) (Yes images events) one two = absurd (wrong_legal input event rule two.0 two.1 one two.2 two.3.legal)
-finding_is_one input NotComplete (NoJournal line) one two = absurd (lacks_none input line one.0 one.1 two one.2)
-finding_is_one input NotComplete (No event rule) one two = absurd (wrong_legal input event rule one.0 one.1 two one.2 one.3.legal)
-finding_is_one input NotComplete NotComplete one two = refl
-finding_is_one input NotComplete (Yes images events) one two = absurd (short_whole input two.0 two.1 one two.2 two.3)
-finding_is_one input (Yes images events) (NoJournal line) one two = absurd (lacks_none input line one.0 one.1 two one.2)
-finding_is_one input (Yes images events) (No event rule) one two = absurd (wrong_legal input event rule one.0 one.1 two one.2 one.3.legal)
-finding_is_one input (Yes images events) NotComplete one two = absurd (short_whole input one.0 one.1 two one.2 one.3)
-finding_is_one input (Yes images events) (Yes others count) one two = right_is_one input images others events count one two
+finding_is_one input one other a b =
+    is_one (IsOfText (length (script_part input))) (text_is_one (length (script_part input))) (length (script_part input)) (script_in input) (journal_part input) one other (of_all input one a) (of_all input other b)

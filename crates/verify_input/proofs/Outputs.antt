@@ -1,16 +1,17 @@
 -- Lines that are due are the text of the output.
-use Rattle.std.proofs.Common.{◌≡◌, ℕ, List, [], ◌∷◌, ◌++◌, map, refl, sym, ap, subst, ◌∙◌, append_assoc}
+use Rattle.std.proofs.Common.{◌≡◌, ℕ, List, [], ◌∷◌, ◌++◌, map, drop, refl, sym, ap, subst, ◌∙◌, append_assoc}
 use Rattle.std.specs.List.{concat, flat_map, range_with_len}
+use Rattle.std.proofs.lemmas.List.{append-nil}
 use Rattle.std.proofs.lemmas.List.Folds.{concat-append}
 use Rattle.gpu_plan.specs.Plans.{PlansData}
 use Rattle.gpu_journal.specs.declared.event.Event.{Event}
 use Rattle.gpu_journal.specs.Ended.{streams_of}
 use Rattle.gpu_journal.specs.Dumps.{dumps_of}
 use Rattle.journal_text.specs.Output.{AreDumps, AreDumpsOf, AreDumpLines}
-use Rattle.verify_input.specs.Due.{Due, Dump, same_lines, picture_lines, end_lines, ending_lines, dumps_due, looks_due, dues, AreTakenOff, AreDue}
+use Rattle.verify_input.specs.Due.{Due, Dump, same_lines, picture_lines, end_lines, ending_lines, dumps_due, looks_due, images_due, streams_due, marks_due, all_dumps_due, viewers_due, dues, AreTakenOff, AreDue}
 use Rattle.verify_input.specs.declared.what.What.{What}
 use Rattle.verify_input.specs.declared.what.What.TheVariants as what
-use Rattle.verify_input.proofs.Ending.{dues_are}
+use Rattle.verify_input.proofs.Ending.{joined, parts, dues_parts}
 
 module _ (p : PlansData) (h : List Event) where
   -- what is taken off by two parts is taken off by one after the other
@@ -73,20 +74,17 @@ pub record Parted (p : PlansData) (base : ℕ) (h : List Event) (viewers : ℕ) 
 
 pub all_parted : (p : PlansData) (base : ℕ) (h : List Event) (viewers : ℕ) (lines : List (List ℕ)) → AreDue p h (dues p base h viewers) lines → Parted p base h viewers lines
 all_parted p base h viewers lines due =
-    let a = same_lines what.Image (picture_lines p h) in
-    let b = same_lines what.Stream (end_lines p h) in
-    let m = same_lines what.Mark (ending_lines p base h) in
-    let d = flat_map (dumps_due p h) (streams_of p) in
-    let e = flat_map looks_due (range_with_len 1 viewers) in
-    let all = subst (λ (ds : List Due). AreTakenOff p h ds 0 lines due.0 []) (dues_are p base h viewers) due.1 in
-    let four = taken_parts p h (a ++ b ++ m ++ d) e 0 lines due.0 [] all in
-    let three = taken_parts p h (a ++ b ++ m) d 0 lines four.0 four.1 four.2 in
-    let two = taken_parts p h (a ++ b) m 0 lines three.0 three.1 three.2 in
-    let one = taken_parts p h a b 0 lines two.0 two.1 two.2 in
+    let left = parts p base h viewers in
+    let all : AreTakenOff p h (joined left) 0 lines due.0 [] = subst (λ (ds : List Due). AreTakenOff p h ds 0 lines due.0 []) (dues_parts p base h viewers) due.1 in
+    let one = taken_parts p h (images_due p h) (joined (drop 1 left)) 0 lines due.0 [] all in
+    let two = taken_parts p h (streams_due p h) (joined (drop 2 left)) one.0 one.1 due.0 [] one.3 in
+    let three = taken_parts p h (marks_due p base h) (joined (drop 3 left)) two.0 two.1 due.0 [] two.3 in
+    let four = taken_parts p h (all_dumps_due p h) (joined (drop 4 left)) three.0 three.1 due.0 [] three.3 in
+    let looks = subst (λ (ds : List Due). AreTakenOff p h ds four.0 four.1 due.0 []) (append-nil (viewers_due viewers)) four.3 in
     let images = same_taken p h what.Image (picture_lines p h) 0 lines one.0 one.1 refl one.2 in
-    let streams = same_taken p h what.Stream (end_lines p h) one.0 one.1 two.0 two.1 images.1 one.3 in
-    let marks = same_taken p h what.Mark (ending_lines p base h) two.0 two.1 three.0 three.1 streams.1 two.3 in
-    let dumps = all_dumps_taken p h (streams_of p) three.0 three.1 four.0 four.1 marks.1 three.3 in
+    let streams = same_taken p h what.Stream (end_lines p h) one.0 one.1 two.0 two.1 images.1 two.2 in
+    let marks = same_taken p h what.Mark (ending_lines p base h) two.0 two.1 three.0 three.1 streams.1 three.2 in
+    let dumps = all_dumps_taken p h (streams_of p) three.0 three.1 four.0 four.1 marks.1 four.2 in
     record {
       dumps = dumps.0;
       views = four.1;
@@ -96,5 +94,5 @@ all_parted p base h viewers lines due =
           ∙ ap (λ (ls : List (List ℕ)). end_lines p h ++ ls) (marks.0
           ∙ ap (λ (ls : List (List ℕ)). ending_lines p base h ++ ls) dumps.1));
       dumped = dumps.2;
-      seen = subst (λ (n : ℕ). AreTakenOff p h e n four.1 due.0 []) dumps.3 four.3;
+      seen = subst (λ (n : ℕ). AreTakenOff p h (viewers_due viewers) n four.1 due.0 []) dumps.3 looks;
     }

@@ -56,7 +56,7 @@ module _ {p : PlansData} {h : List Event} {s : ℕ} {dump : ℕ × ℕ} {old : R
 
   -- what is read is no value that may be told
   pub dump_bad : test ≡ false → IsBad p h (Dump s dump ∷ []) 0 old (off_of old what.Dump)
-  dump_bad not = due_bad p h (Dump s dump) what.Dump 0 old refl (λ line lines then first may.
+  dump_bad not = due_bad p h (Dump s dump) what.Dump 0 old refl (λ e. cc) (λ line lines then first may.
       let same = read line lines may.0 first may.1 may.2 in
       let is : test ≡ true = told.all (subst (MayDump p h s dump) (sym same) may.1) in
       absurd (cc))
@@ -99,7 +99,7 @@ module _ {p : PlansData} {h : List Event} {viewer : ℕ} {old : Rest} {look : �
 
   -- it is no look that may stand there
   pub look_bad : {least : ℕ} → (IsLook p h least look → ⊥) → IsBad p h (Look viewer ∷ []) least old (off_of old what.View)
-  look_bad {least} not = due_bad p h (Look viewer) what.View least old refl (λ line lines then first may.
+  look_bad {least} not = due_bad p h (Look viewer) what.View least old refl (λ e. cc) (λ line lines then first may.
       not (subst (IsLook p h least) (sym (read_look line lines then first may.1 may.2)) (record { from = may.0; few = may.1; sum = refl })))
 
   pub look_taken : {least : ℕ} {new : Rest} → IsLook p h least look → HasTaken p h (same_lines what.View (view_text viewer look.0 look.1 ∷ [])) 0 old new 0 → HasTaken p h (Look viewer ∷ []) least old new look.0

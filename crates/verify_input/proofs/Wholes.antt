@@ -94,6 +94,3 @@ line_first line rest one =
     ∙ ap whole_lines (append_assoc one.line (10 ∷ []) rest)
     ∙ lines_first one.line rest one.none
     ∙ ap (λ (line : List ℕ). line ∷ whole_lines rest) (sym one.is)
-
-pub line_some : (line : List ℕ) → IsLine line → 0 < length line
-line_some line one = omega (arith, ap length one.is, length-append one.line (10 ∷ []))

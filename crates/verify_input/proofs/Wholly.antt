@@ -1,6 +1,6 @@
 -- The verdict on an input with an output, by the verdict on its parts.
-use Rattle.std.proofs.Common.{◌≡◌, ℕ, zero, suc, ◌+◌, ◌-◌, ◌≤◌, Bool, true, false, cond, inl, inr, List, [], ◌∷◌, ◌++◌, length, length-append, drop, refl, Option, Some, None, Result, Ok, Err, sym, ap, subst, ◌∙◌, arith}
-use Rattle.std.specs.Prelude.{IfOk, option_map}
+use Rattle.std.proofs.Common.{◌≡◌, ℕ, zero, suc, ◌+◌, ◌-◌, ◌≤◌, Bool, true, false, cond, inr, List, [], ◌∷◌, ◌++◌, length, length-append, drop, refl, Option, Some, None, Ok, sym, ap, subst, ◌∙◌, arith}
+use Rattle.std.specs.Prelude.{option_map}
 use Rattle.std.specs.List.{concat}
 use Rattle.std.proofs.lemmas.List.{length-drop}
 use Rattle.std.proofs.lemmas.List.Folds.{concat-append}
@@ -18,7 +18,7 @@ use Rattle.verify_input.specs.declared.what.What.{What}
 use Rattle.verify_input.specs.declared.what.What.TheVariants as what
 use Rattle.verify_input.proofs.Outputs.{same_taken}
 use Rattle.verify_input.proofs.Wholes.{concat_whole}
-use Rattle.verify_input.specs.Whole.{output_part, HasOutput, TellsAll, LacksEvent, FindsAll, FindsBehind, FindsWhole}
+use Rattle.verify_input.specs.Whole.{output_part, IsAfterScript, TellsAll, LacksEvent, FindsAll, FindsWhole}
 use Rattle.verify_input.specs.declared.border.Border.{Border}
 use Rattle.verify_input.specs.declared.border.Border.TheVariants.{Script, Journal}
 use Rattle.verify_input.specs.declared.finding.Finding.{Finding}
@@ -34,6 +34,18 @@ pub parted : (border : Border) (lines rest : List (List ℕ)) → behind border 
 parted border [] rest e = absurd (cc)
 parted border (line ∷ lines) rest e = parted_by (is_end border (words_on line)) line lines rest (before border lines) (behind border lines) (parted border lines rest) e
 
+-- they stand before the others
+front_by : (b : Bool) (line : List ℕ) (lines front : List (List ℕ)) → front ++ drop (length front) lines ≡ lines → cond b [] (line ∷ front) ++ drop (length (cond b [] (line ∷ front))) (line ∷ lines) ≡ line ∷ lines
+front_by true line lines front e = refl
+front_by false line lines front e = ap (λ (ls : List (List ℕ)). line ∷ ls) e
+
+before_all : (border : Border) (lines : List (List ℕ)) → before border lines ++ drop (length (before border lines)) lines ≡ lines
+before_all border [] = refl
+before_all border (line ∷ lines) = front_by (is_end border (words_on line)) line lines (before border lines) (before_all border lines)
+
+pub before_few : (border : Border) (lines : List (List ℕ)) → length (before border lines) ≤ length lines
+before_few border lines = omega (arith, ap length (before_all border lines), length-append (before border lines) (drop (length (before border lines)) lines))
+
 -- the other lines are some of the output's
 others_few : (p : PlansData) (lines : List (List ℕ)) (events : List Event) (others : List (List ℕ)) → TellsAll p lines events others → length others ≤ length lines
 others_few p lines events others told =
@@ -43,31 +55,26 @@ others_few p lines events others told =
     let four = length-drop (length (before Journal told.rest)) told.rest in
     omega (arith, one, two, three, four)
 
-module _ (input : List ℕ) (base count : ℕ) (p : PlansData) (lines : List (List ℕ)) (script : script_in input ≡ Ok p) (counted : count ≡ length (script_part input)) (there : output_part input ≡ Some lines) where
-  output : HasOutput input p lines
-  output = record { script = script; there = there }
-
+module _ (input : List ℕ) (base count : ℕ) (p : PlansData) (lines : List (List ℕ)) (after : IsAfterScript input p count lines) where
   -- all lines of the input are those of the script, the line `journal`, and those of the output
   all_lines : length (whole_lines input) ≡ count + 1 + length lines
-  all_lines = let parts = parted Script (whole_lines input) lines there in omega (arith, parts, counted)
+  all_lines =
+      let all = parted Script (whole_lines input) lines after.output.there in
+      let counted = after.counted in
+      omega (arith, all, counted)
 
-  pub whole_behind : (finding : Finding) → FindsBehind p base count lines finding → FindsWhole base input finding
-  whole_behind (Refused line kind) found = absurd found
-  whole_behind (NoJournal line) found =
-      (p, script, subst (λ (o : Option (List (List ℕ))). LacksEvent p (length (script_part input)) o line) (sym there) (subst (λ n. LacksEvent p n (Some lines) line) counted found))
-  whole_behind (Differs line what) (inl found) = inl (p, lines, output, found.0, found.1 ∙ ap (λ n. n + 1 + (found.0 + 1)) counted, found.2)
-  whole_behind (Differs line what) (inr found) =
-      let few = others_few p lines found.0 found.1 found.2 in
-      let at = found.3.2 in
-      inr (p, found.0, found.1, record { lines = lines; there = output; told = found.2; whole = found.3.0 }, found.3.1, omega (arith, few, at, all_lines), found.3.3)
-  whole_behind (No event rule) found = (p, lines, output, found.0, found.1, found.2, found.3)
-  whole_behind NotComplete found = (p, lines, output, found.0, found.1, found.2, found.3)
-  whole_behind (Yes images events) found =
-      (p, found.0, found.1, record { lines = lines; there = output; told = found.2; whole = found.3.0 }, found.3.1, found.3.2, found.3.3)
-
-  pub whole_all : {E : Type 0} (finding : Result Finding E) → IfOk finding (λ finding. FindsBehind p base count lines finding) → IfOk finding (λ finding. FindsWhole base input finding)
-  whole_all (Ok finding) found = whole_behind finding found
-  whole_all (Err error) found = found
+  pub found_whole : (events : List Event) (others : List (List ℕ)) (start : ℕ) → start ≡ count + 2 + (length lines - length others) → TellsAll p lines events others → (finding : Finding) → FindsAll p base events others start finding
+      → FindsWhole base input finding
+  found_whole events others start at told (Refused line kind) found = absurd found
+  found_whole events others start at told (NoJournal line) found = absurd found
+  found_whole events others start at told (Differs line what) found =
+      let few = others_few p lines events others told in
+      let here = found.2 in
+      inr (p, events, others, record { lines = lines; there = after.output; told = told; whole = found.0 }, found.1, omega (arith, few, at, here, all_lines), found.3)
+  found_whole events others start at told (No event rule) found = (p, lines, after.output, events, others, told, found)
+  found_whole events others start at told NotComplete found = (p, lines, after.output, events, others, told, found)
+  found_whole events others start at told (Yes images number) found =
+      (p, events, others, record { lines = lines; there = after.output; told = told; whole = found.0 }, found.1, found.2, found.3)
 
 -- where there is no line `journal`
 pub whole_missing : (input : List ℕ) (base count : ℕ) (p : PlansData) → script_in input ≡ Ok p → count ≡ length (script_part input) → output_part input ≡ None → FindsWhole base input (NoJournal (count + 1))
@@ -120,15 +127,6 @@ module _ {p : PlansData} {old new : Rest} (taken : HasTaken p [] (heads_due p) 0
       let four = length-drop (length (before Journal (whole_lines new.text.now))) (whole_lines new.text.now) in
       omega (arith, one, two, three, four, head_counted, first, is, few)
 
--- the lines before the end of a part are no more than all
-few_by : (b : Bool) (line : List ℕ) (lines front : List (List ℕ)) → length front ≤ length lines → length (cond b [] (line ∷ front)) ≤ suc (length lines)
-few_by true line lines front few = omega arith
-few_by false line lines front few = omega (arith, few)
-
-pub before_few : (border : Border) (lines : List (List ℕ)) → length (before border lines) ≤ length lines
-before_few border [] = omega arith
-before_few border (line ∷ lines) = few_by (is_end border (words_on line)) line lines (before border lines) (before_few border lines)
-
 -- the lines behind a line of a text are those of a text, and so are those behind a part
 joined_tail : (byte : ℕ) (lines : List (List ℕ)) → drop 1 (byte_before byte lines) ≡ drop 1 lines
 joined_tail byte [] = refl
@@ -154,15 +152,6 @@ behind_whole border (line ∷ lines) whole rest e =
     let own : lines ≡ whole_lines (concat lines) = sym (subst (λ (ls : List (List ℕ)). whole_lines (concat (drop 1 ls)) ≡ drop 1 ls) (sym whole) (tail_whole (concat (line ∷ lines)))) in
     behind_by (is_end border (words_on line)) lines rest (behind border lines) own (behind_whole border lines own rest) e
 
--- they stand before the others
-front_by : (b : Bool) (line : List ℕ) (lines front : List (List ℕ)) → front ++ drop (length front) lines ≡ lines → cond b [] (line ∷ front) ++ drop (length (cond b [] (line ∷ front))) (line ∷ lines) ≡ line ∷ lines
-front_by true line lines front e = refl
-front_by false line lines front e = ap (λ (ls : List (List ℕ)). line ∷ ls) e
-
-before_all : (border : Border) (lines : List (List ℕ)) → before border lines ++ drop (length (before border lines)) lines ≡ lines
-before_all border [] = refl
-before_all border (line ∷ lines) = front_by (is_end border (words_on line)) line lines (before border lines) (before_all border lines)
-
 -- the lines of an output are those of its text
 pub output_lines : (input written : List ℕ) → option_map concat (output_part input) ≡ Some written → output_part input ≡ Some (whole_lines written)
 output_lines input written e = by (output_part input) refl e
@@ -182,17 +171,3 @@ told_text p lines events others told =
     ∙ concat-append front others
     ∙ ap (λ (l : List ℕ). l ++ concat others) (ap concat told.told ∙ concat_whole (journal_text events)) in
     ap concat told.headed ∙ concat-append (head_of p) told.rest ∙ ap (λ (l : List ℕ). concat (head_of p) ++ l) rest
-
-found_in : (p : PlansData) (base count start : ℕ) (lines others : List (List ℕ)) (events : List Event) (finding : Finding) → start ≡ count + 2 + (length lines - length others) → TellsAll p lines events others
-    → FindsAll p base events others start finding → FindsBehind p base count lines finding
-found_in p base count start lines others events (Refused line kind) at told found = absurd found
-found_in p base count start lines others events (NoJournal line) at told found = absurd found
-found_in p base count start lines others events (Differs line what) at told found = inr (events, others, told, subst (λ n. FindsAll p base events others n (Differs line what)) at found)
-found_in p base count start lines others events (No event rule) at told found = (events, others, told, found)
-found_in p base count start lines others events NotComplete at told found = (events, others, told, found)
-found_in p base count start lines others events (Yes images n) at told found = (events, others, told, found)
-
-pub found_rest : {E : Type 0} (p : PlansData) (base count start : ℕ) (lines others : List (List ℕ)) (events : List Event) (finding : Result Finding E) → start ≡ count + 2 + (length lines - length others) → TellsAll p lines events others
-    → IfOk finding (λ finding. FindsAll p base events others start finding) → IfOk finding (λ finding. FindsBehind p base count lines finding)
-found_rest p base count start lines others events (Ok finding) at told found = found_in p base count start lines others events finding at told found
-found_rest p base count start lines others events (Err error) at told found = found

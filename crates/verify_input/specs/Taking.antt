@@ -1,5 +1,5 @@
 -- How lines that are due are taken off what is left of an output.
-use Rattle.std.specs.Prelude.{◌≡◌, ℕ, ◌+◌, ◌≤◌, ◌<◌, ◌^◌, ◌==◌, if◌then◌else◌, Bool, true, false, map, List, length, Result, OnOk, IfErr}
+use Rattle.std.specs.Prelude.{◌≡◌, ◌≢◌, ℕ, ◌+◌, ◌≤◌, ◌<◌, ◌^◌, ◌==◌, if◌then◌else◌, Bool, true, false, map, List, length, Result, OnOk, IfErr}
 use Rattle.gpu_plan.specs.Plans.{PlansData}
 use Rattle.gpu_journal.specs.declared.event.Event.{Event}
 use Rattle.gpu_journal.specs.declared.end.End.{End}
@@ -10,7 +10,7 @@ use Rattle.journal_verify.specs.Followed.{IsFollowed, sum_after}
 use Rattle.verify_input.specs.Reading.{whole_lines}
 use Rattle.verify_input.specs.Due.{Due, AreTakenOff, IsOff, AreDue, IsFirstOff}
 use Rattle.verify_input.specs.declared.what.What.{What}
-use Rattle.verify_input.specs.declared.what.What.TheVariants.{Missing}
+use Rattle.verify_input.specs.declared.what.What.TheVariants.{Missing, More}
 use Rattle.verify_input.specs.declared.sections.History.{History}
 use Rattle.verify_input.specs.declared.rest.Rest.{Rest}
 use Rattle.verify_input.specs.declared.rest.Bad.{Bad}
@@ -25,9 +25,9 @@ pub record HasTaken (p : PlansData) (h : List Event) (dues : List Due) (least : 
   pub taken : AreTakenOff p h dues least (whole_lines old.text.now) last (whole_lines new.text.now)
   pub number : new.line ≡ old.line + length dues
 
--- where a line is told, it is the first that is off
+-- where a line is told, it is the first that is off, and not one too many
 pub record IsBad (p : PlansData) (h : List Event) (dues : List Due) (least : ℕ) (old : Rest) (bad : Bad) : Type 0 where
-  pub off : (line : ℕ) (what : What) → bad ≡ Off line what → (k : ℕ) × (line ≡ old.line + k) × IsOff p h dues least (whole_lines old.text.now) k what
+  pub off : (line : ℕ) (what : What) → bad ≡ Off line what → (k : ℕ) × (line ≡ old.line + k) × IsOff p h dues least (whole_lines old.text.now) k what × (what ≢ More)
 
 -- the lines that are due were taken, or the first that is off was told
 pub record Judges {T : Type 0} (p : PlansData) (h : List Event) (dues : List Due) (old new : Rest) (result : Result T Bad) : Type 0 where

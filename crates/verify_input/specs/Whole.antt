@@ -25,6 +25,11 @@ pub record HasOutput (input : List ℕ) (p : PlansData) (lines : List (List ℕ)
   pub script : script_in input ≡ Ok p
   pub there : output_part input ≡ Some lines
 
+-- these lines of an output stand after a script of this number of lines, which says these plans
+pub record IsAfterScript (input : List ℕ) (p : PlansData) (count : ℕ) (lines : List (List ℕ)) : Type 0 where
+  pub output : HasOutput input p lines
+  pub counted : count ≡ length (script_part input)
+
 -- the lines are those of the head, and then these
 abbrev pub AreHeaded : PlansData → List (List ℕ) → List (List ℕ) → Type 0
 AreHeaded p lines rest = lines ≡ head_of p ++ rest
@@ -88,8 +93,6 @@ FindsWhole base input NotComplete =
     × (events : List Event) × (others : List (List ℕ)) × TellsAll p lines events others × IsUnfinished p (reverse events)
 FindsWhole base input (Yes images events) = IsRightWhole input base images events
 
--- ---- the verdict on the parts of an input
-
 -- the verdict on events and on the lines after them, of which the first has this number in the input
 abbrev pub FindsAll : PlansData → ℕ → List Event → List (List ℕ) → ℕ → Finding → Type 0
 FindsAll p base events others start (Refused line kind) = ⊥
@@ -102,15 +105,3 @@ FindsAll p base events others start NotComplete = IsUnfinished p (reverse events
 FindsAll p base events others start (Yes images count) =
     IsWholeHistory p (reverse events) × AreDue p (reverse events) (dues p base (reverse events) (viewers_in others)) others
     × (images ≡ replay p (reverse events)) × (count ≡ length events)
-
--- the verdict on the lines of an output, which stand after a script of a given number of lines with these plans
-abbrev pub FindsBehind : PlansData → ℕ → ℕ → List (List ℕ) → Finding → Type 0
-FindsBehind p base count lines (Refused line kind) = ⊥
-FindsBehind p base count lines (NoJournal line) = LacksEvent p count (Some lines) line
-FindsBehind p base count lines (Differs line what) =
-    ((k : ℕ) × (line ≡ count + 1 + (k + 1)) × IsOff p [] (heads_due p) 0 lines k what)
-    ⊎ ((events : List Event) × (others : List (List ℕ)) × TellsAll p lines events others
-    × FindsAll p base events others (count + 2 + (length lines - length others)) (Differs line what))
-FindsBehind p base count lines finding =
-    (events : List Event) × (others : List (List ℕ)) × TellsAll p lines events others
-    × FindsAll p base events others (count + 2 + (length lines - length others)) finding

@@ -1,8 +1,7 @@
-ghost use Rattle.std.specs.Prelude.{◌≡◌, ◌+◌, ◌<◌, ◌≤◌, ◌^◌, [], ◌∷◌, None, Some, length, drop, MatchOption};
+ghost use Rattle.std.specs.Prelude.{◌≡◌, ◌+◌, ◌<◌, ◌≤◌, ◌^◌, [], ◌∷◌, length, MatchOption};
 ghost use Rattle.verify_input.specs.Reading.{whole_lines};
-ghost use Rattle.verify_input.specs.Cuts.{IsFirstLine, IsLine};
+ghost use Rattle.verify_input.specs.Cuts.{IsFirstLine, IsLine, IsCutAt};
 ghost use Rattle.verify_input.specs.Found.{IsFirstOther};
-ghost use Rattle.verify_input.specs.Parts.{before, behind};
 
 use crate::border::Border;
 use script_lines::{Words, cut_at, line_end};
@@ -45,12 +44,7 @@ pub(crate) fn behind_line<'a>(text: &'a [u8], line: &[u8]) -> Option<&'a [u8]>
 /// Cuts a text at the first line that ends a part.
 pub(crate) fn cut_at_border(text: &[u8], border: Border) -> Cut<'_>
     requires { length text.now < 2 ^ 32 }
-    ensures before { whole_lines result.part.now ≡ before border (whole_lines text.now) }
-    ensures lines { result.lines ≡ length (before border (whole_lines text.now)) }
-    ensures behind { MatchOption result.rest (behind border (whole_lines text.now) ≡ None)
-        (λ rest. behind border (whole_lines text.now) ≡ Some (whole_lines rest.now)) }
-    ensures after { whole_lines (drop (length result.part.now) text.now)
-        ≡ drop (length (before border (whole_lines text.now))) (whole_lines text.now) }
+    ensures cut { IsCutAt border text.now result }
     ensures shorter { length result.part.now ≤ length text.now }
     ensures few { MatchOption result.rest (result.lines ≤ length text.now)
         (λ rest. result.lines + 1 + length rest.now ≤ length text.now) }

@@ -11,8 +11,8 @@
 //!   - it is a legal and complete history, of this number of events, that leaves these images.
 //! - `read_journal` gives the events whose journal text the text is, of numbers of 32 bits. Else it gives the first line
 //!   that is no event's, counted from 1. It does so for every text within the limit.
-//! - Laws: one of the findings alone holds of an input, and of one with a whole output. A text with a line that is no event's is no journal text. A text is
-//!   that of one list of events at most.
+//! - Laws: one of the findings alone holds of an input, and of one with a whole output. A text with a line that is no
+//!   event's is no journal text. A text is that of one list of events at most.
 //!
 //! Notes:
 //! - The reader of scripts takes leading zeros; a further look at the first byte refuses them in journals. What follows the

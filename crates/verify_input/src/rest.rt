@@ -1,4 +1,4 @@
-ghost use Rattle.std.specs.Prelude.{◌≡◌, ◌+◌, ◌≤◌, List, ◌∷◌, [], length, OnOk, OnErr, IfErr};
+ghost use Rattle.std.specs.Prelude.{◌≡◌, ◌≢◌, ◌+◌, ◌≤◌, List, ◌∷◌, [], length, OnOk, OnErr, IfErr};
 
 use crate::cut::behind_line;
 use crate::what::What;
@@ -55,7 +55,8 @@ impl Rest<'_> {
 
     /// Takes the line that is due, with its line feed.
     pub(crate) fn take(&mut self, due: &[u8], what: What) -> Result<(), Bad>
-        requires { IsLine due.now }
+        requires line { IsLine due.now }
+        requires other { what ≢ What.More }
         ensures { (p : PlansData) (h : List Event)
             → Judges p h (same_lines what (due.now ∷ [])) self.old self.new result }
     {

@@ -1,5 +1,5 @@
 //! The parts of an output after its journal, line by line.
-ghost use Rattle.std.specs.Prelude.{◌≡◌, ℕ, ◌≤◌, List, [], ◌∷◌, Some, IsSome, IfOk, IfErr, OnOk, Contains, length, map, take};
+ghost use Rattle.std.specs.Prelude.{◌≡◌, ◌≤◌, List, [], ◌∷◌, Some, IsSome, IfOk, IfErr, Contains, length, map, take};
 ghost use Rattle.std.specs.Bool.{Decides};
 ghost use Rattle.std.specs.List.{flat_map, range_with_len};
 ghost use Rattle.gpu_store.specs.Images.{picture_of};
@@ -21,7 +21,7 @@ use crate::reading_lines::{first_look, value_before_end};
 use crate::rest::{Bad, Rest};
 use crate::what::What;
 use gpu_journal::{End, Journal, replay};
-use gpu_plan::{Action, Plans};
+use gpu_plan::{Action, Plan, Plans};
 use gpu_store::{Images, texel_sum};
 use gpu_word::Memory;
 use journal_text::Line;
@@ -184,20 +184,20 @@ fn take_dump(
     rest.take(line.bytes(), What::Dump)
 }
 
-// The lines of the dumps of a stream.
+// The lines of the dumps of a stream, whose plan this is.
 fn take_dumps_of(
     rest: &mut Rest<'_>,
     line: &mut Line,
     history: History<'_>,
     stream: u32,
+    plan: &Plan,
 ) -> Result<(), Bad>
     requires history { IsHistory history }
     requires known { IsKnown (length history.plans.now.plans) stream }
+    requires plan { plan_of history.plans.now stream ≡ plan.now }
     ensures { Judges history.entry.plans.now (past_of history.entry)
-        (map (λ dump. Due.Dump stream dump) (plan_of history.entry.plans.now stream).dumps)
-        rest.old rest.new result }
+        (map (λ dump. Due.Dump stream dump) plan.now.dumps) rest.old rest.new result }
 {
-    let plan = history.plans.plan(stream);
     let mut left = plan.actions();
     let mut done = 0;
     let mut least = 0;
@@ -237,7 +237,8 @@ fn take_dumps_in(
     if is_lost(history.ends[index]) {
         return Ok(());
     }
-    take_dumps_of(rest, line, history, stream)
+    let plan = history.plans.plan(stream);
+    take_dumps_of(rest, line, history, stream, plan)
 }
 
 /// The lines of all dumps. A stream that is lost has none.
@@ -317,25 +318,6 @@ fn take_look(
     Ok(events)
 }
 
-// The line of the last look of a viewer, which is of all events.
-fn take_last_look(
-    alloc: Global,
-    rest: &mut Rest<'_>,
-    line: &mut Line,
-    history: History<'_>,
-    viewer: u32,
-) -> Result<(), Bad>
-    requires history { IsHistory history }
-    ensures ok { OnOk result ((least : ℕ) → HasTaken history.entry.plans.now (past_of history.entry)
-        (Due.LastLook viewer ∷ []) least rest.old rest.new 0) }
-    ensures err { IfErr result (λ bad. (least : ℕ) → IsBad history.entry.plans.now (past_of history.entry)
-        (Due.LastLook viewer ∷ []) least rest.old bad) }
-{
-    let all = history.journal.count() as u32;
-    take_look(alloc, rest, line, history, viewer, all)?;
-    Ok(())
-}
-
 // The lines of a viewer.
 fn take_viewer(
     alloc: Global,
@@ -352,7 +334,10 @@ fn take_viewer(
     for _look in 1..LOOKS {
         least = take_look(alloc, rest, line, history, viewer, least)?;
     }
-    take_last_look(alloc, rest, line, history, viewer)
+    // The last look is of all events.
+    let all = history.journal.count() as u32;
+    take_look(alloc, rest, line, history, viewer, all)?;
+    Ok(())
 }
 
 /// The lines of all viewers.

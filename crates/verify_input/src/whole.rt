@@ -1,9 +1,9 @@
 //! A whole output: the names, the journal, and all lines after it.
-ghost use Rattle.std.specs.Prelude.{◌≡◌, ◌+◌, ◌<◌, ◌≤◌, ◌^◌, length, drop, reverse, IfOk};
+ghost use Rattle.std.specs.Prelude.{◌≡◌, ℕ, ◌+◌, ◌<◌, ◌≤◌, ◌^◌, List, length, drop, reverse, IfOk};
 ghost use Rattle.verify_input.specs.Reading.{whole_lines};
 ghost use Rattle.verify_input.specs.Due.{dues};
 ghost use Rattle.verify_input.specs.Taking.{IsHistory, JudgesAll, past_of};
-ghost use Rattle.verify_input.specs.Whole.{FindsAll, FindsBehind, FindsWhole};
+ghost use Rattle.verify_input.specs.Whole.{IsAfterScript, FindsAll, FindsWhole};
 
 use crate::border::Border;
 use crate::cut::cut_at_border;
@@ -104,7 +104,8 @@ fn examine_output(
     base: u32,
 ) -> Result<Finding, Memory>
     requires { lines + 1 + length text.now ≤ 16777216 }
-    ensures { IfOk result (λ finding. FindsBehind plans.now base lines (whole_lines text.now) finding) }
+    ensures { (input : List ℕ) → IsAfterScript input plans.now lines (whole_lines text.now)
+        → IfOk result (λ finding. FindsWhole base input finding) }
 {
     let mut line = Line::make(alloc)?;
     let mut rest = Rest {

@@ -8,8 +8,8 @@ use Rattle.verify_input.specs.Looks.{EndsWith}
 use Rattle.verify_input.specs.Taking.{IsBad, past_of}
 use Rattle.verify_input.proofs.Feeds.{dump_line}
 use Rattle.verify_input.proofs.Telling.{Told, dump_bad, dump_judged}
-use Rattle.verify_input.proofs.sections.take_dump.Goals.{After-may_be_told}
 use Rattle.verify_input.proofs.sections.take_dump.Goals as goal
+use Rattle.verify_input.proofs.sections.take_dump.Goals.{After-may_be_told}
 
 -- what is read is the only value that may be told, if it may
 told : (c : After-may_be_told) → Told c.args.history.plans.now (past_of c.args.history) c.args.stream c.args.dump c.args.rest.now c.value_before_end-value.result c.may_be_told.result
@@ -36,7 +36,7 @@ returns-then-not-may_be_told c = record {
 }
 
 pub take-requires : goal.take-requires
-take-requires c = subst IsLine (sym (c.bytes-2.ensures ∙ c.put_dump-2.ensures)) (dump_line _ _ _ _)
+take-requires c = record { line = subst IsLine (sym (c.bytes-2.ensures ∙ c.put_dump-2.ensures)) (dump_line _ _ _ _); other = λ e. cc }
 
 pub returns : goal.returns
 returns c =

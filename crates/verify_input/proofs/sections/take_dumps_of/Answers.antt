@@ -1,69 +1,56 @@
 -- Each goal of the loop is a fact of the dump at hand.
 use Rattle.std.proofs.Common.{◌≡◌, ◌+◌, ◌-◌, ◌<◌, ◌∷◌, [], ℕ, List, length, map, get_or, drop, take, refl, sym, ap, subst, ◌∙◌, arith}
+use Rattle.std.specs.Prelude.{Contains}
+use Rattle.std.specs.List.{All}
 use Rattle.std.proofs.lemmas.List.{get_or_default, length-take, length-drop, drop_all}
 use Rattle.std.proofs.lemmas.Result.{err_from_is_err_and}
-use Rattle.gpu_plan.specs.Plans.{PlanData, plan_of, RiseFrom}
+use Rattle.gpu_plan.specs.Plans.{PlanData, IsDump, RiseFrom}
 use Rattle.gpu_plan.specs.Passes.{flushes}
 use Rattle.gpu_plan.proofs.Passing.{flushes_within}
-use Rattle.gpu_journal.proofs.Following.{plan_here}
 use Rattle.verify_input.specs.Due.{Dump}
 use Rattle.verify_input.proofs.Dues.{Begins, at_read, due_next, taking_none, taking_more, judged_exit, judged_all}
 use Rattle.verify_input.proofs.Lefts.{dumps_left}
-use Rattle.verify_input.proofs.Rising.{Next, next_of}
+use Rattle.verify_input.proofs.Rising.{Next, next_dump}
 use Rattle.verify_input.proofs.sections.take_dumps_of.Goals as goal
 use Rattle.verify_input.proofs.sections.take_dumps_of.Goals.{In-loop-dump, After-flushes_in-least}
 
 pub loop-dump-init : goal.loop-dump-init
-loop-dump-init c =
-    let p = c.args.history.plans.now in
-    let s = c.args.stream in
-    let own = plan_here p s c.plan-plan.result.now c.requires.known.0 c.plan-plan.ensures in
-    record {
-      left = c.actions-left.ensures.value ∙ ap (λ (plan : PlanData). plan.actions) (sym own);
-      within = omega arith;
-      least = refl;
-      rising = subst (RiseFrom 0) (c.dumps-dump-items.ensures.value ∙ ap (λ (plan : PlanData). plan.dumps) (sym own)) c.dumps-dump-items.ensures.rising;
-      taking = taking_none;
-    }
+loop-dump-init c = record {
+  left = c.actions-left.ensures.value;
+  within = omega arith;
+  least = refl;
+  rising = subst (RiseFrom 0) c.dumps-dump-items.ensures.value c.dumps-dump-items.ensures.rising;
+  taking = taking_none;
+}
 
 -- ---- the dump at hand
 
-module _ (c : goal.In-loop-dump) where
-  abbrev plan : PlanData
-  plan = plan_of c.args.history.plans.now c.args.stream
-
+module _ (c : In-loop-dump) where
   abbrev dump : ℕ × ℕ
   dump = get_or c.dumps-dump-items.result.now c.loop-dump.dump-index (0, 0)
 
-  own : plan ≡ c.plan-plan.result.now
-  own = plan_here c.args.history.plans.now c.args.stream c.plan-plan.result.now c.requires.known.0 c.plan-plan.ensures
+  within : c.loop-dump.dump-index < length c.args.plan.now.dumps
+  within = subst (λ (ds : List (ℕ × ℕ)). c.loop-dump.dump-index < length ds) c.dumps-dump-items.ensures.value c.loop-dump-test.true
 
-  at : dump ≡ get_or c.dumps-dump-items.result.now c.loop-dump.dump-index dump
-  at = get_or_default c.dumps-dump-items.result.now c.loop-dump.dump-index (0, 0) dump c.loop-dump-test.true
+  at : dump ≡ get_or c.args.plan.now.dumps c.loop-dump.dump-index dump
+  at =
+      get_or_default c.dumps-dump-items.result.now c.loop-dump.dump-index (0, 0) dump c.loop-dump-test.true
+      ∙ ap (λ (ds : List (ℕ × ℕ)). get_or ds c.loop-dump.dump-index dump) c.dumps-dump-items.ensures.value
 
-  next : Next plan c.loop-dump.done c.loop-dump.dump-index dump
+  next : Next c.args.plan.now c.loop-dump.done c.loop-dump.dump-index dump
   next =
-      next_of plan c.plan-plan.result.now c.dumps-dump-items.result.now c.loop-dump.done c.loop-dump.dump-index dump own c.dumps-dump-items.ensures.value c.dumps-dump-items.ensures.lawful c.loop-dump-test.true at
-      c.loop-dump.invariant.within c.loop-dump.invariant.rising
+      let lawful = subst (All (IsDump c.args.plan.now.areas.results c.args.plan.now.actions)) c.dumps-dump-items.ensures.value c.dumps-dump-items.ensures.lawful in
+      next_dump c.args.plan.now c.loop-dump.done c.loop-dump.dump-index dump within at lawful c.loop-dump.invariant.within c.loop-dump.invariant.rising
 
   -- its line is the next that is due
-  left : Begins (dumps_left c.args.stream plan.dumps c.loop-dump.dump-index) (Dump c.args.stream dump ∷ []) (dumps_left c.args.stream plan.dumps (c.loop-dump.dump-index + 1))
-  left =
-      let same : c.dumps-dump-items.result.now ≡ plan.dumps = c.dumps-dump-items.ensures.value ∙ ap (λ (plan : PlanData). plan.dumps) (sym own) in
-      due_next (λ dump. Dump c.args.stream dump) (at_read plan.dumps c.loop-dump.dump-index dump
-      (subst (λ (ds : List (ℕ × ℕ)). c.loop-dump.dump-index < length ds) same c.loop-dump-test.true)
-      (at ∙ ap (λ (ds : List (ℕ × ℕ)). get_or ds c.loop-dump.dump-index dump) same))
-
-  -- there are as many actions as the plan has
-  many : length c.actions-left.result.now ≡ length plan.actions
-  many = ap length (c.actions-left.ensures.value ∙ ap (λ (plan : PlanData). plan.actions) (sym own))
+  left : Begins (dumps_left c.args.stream c.args.plan.now.dumps c.loop-dump.dump-index) (Dump c.args.stream dump ∷ []) (dumps_left c.args.stream c.args.plan.now.dumps (c.loop-dump.dump-index + 1))
+  left = due_next (λ dump. Dump c.args.stream dump) (at_read c.args.plan.now.dumps c.loop-dump.dump-index dump within at)
 
 -- the flushes before it are counted
-counted : (c : goal.After-flushes_in-least) → c.loop-dump.least + c.flushes_in-least.result ≡ flushes (take (dump (goal.at.After-flushes_in-least c).In-loop-dump).0 (plan (goal.at.After-flushes_in-least c).In-loop-dump).actions)
+counted : (c : After-flushes_in-least) → c.loop-dump.least + c.flushes_in-least.result ≡ flushes (take (dump (goal.at.After-flushes_in-least c).In-loop-dump).0 c.args.plan.now.actions)
 counted c =
     let here = (goal.at.After-flushes_in-least c).In-loop-dump in
-    let front = c.split_at.ensures.front ∙ ap (take ((dump here).0 - c.loop-dump.done)) c.loop-dump.invariant.left in
-    let count = c.flushes_in-least.ensures.value ∙ ap flushes front in
+    let count = c.flushes_in-least.ensures.value ∙ ap flushes (c.split_at.ensures.front ∙ ap (take ((dump here).0 - c.loop-dump.done)) c.loop-dump.invariant.left) in
     let least = c.loop-dump.invariant.least in
     let all = (next here).counted in
     omega (arith, count, least, all)
@@ -72,34 +59,33 @@ pub overflow_sub-dump : goal.overflow_sub-dump
 overflow_sub-dump c = (next (goal.at.overflow_sub-dump c).In-loop-dump).later
 
 pub split_at-requires : goal.split_at-requires
-split_at-requires c =
-    let left = ap length c.loop-dump.invariant.left in
-    let room = (next (goal.at.split_at-requires c).In-loop-dump).room in
-    omega (arith, left, room)
+split_at-requires c = let room = (next (goal.at.split_at-requires c).In-loop-dump).room in omega (arith, ap length c.loop-dump.invariant.left, room)
 
 pub flushes_in-least-requires : goal.flushes_in-least-requires
 flushes_in-least-requires c =
     let here = (goal.at.flushes_in-least-requires c).In-loop-dump in
     let few = c.actions-left.ensures.lawful.few in
-    let is = ap length c.loop-dump.invariant.left in
-    let one = ap length c.split_at.ensures.front in
     let two = length-take ((dump here).0 - c.loop-dump.done) c.loop-dump.left.now in
-    let three = length-drop c.loop-dump.done (plan here).actions in
-    omega (arith, few, is, one, two, three, many here)
+    let three = length-drop c.loop-dump.done c.args.plan.now.actions in
+    omega (arith, few, ap length c.loop-dump.invariant.left, ap length c.split_at.ensures.front, two, three, ap length c.actions-left.ensures.value)
 
 pub overflow_add-least : goal.overflow_add-least
 overflow_add-least c =
     let path = goal.at.overflow_add-least c in
-    let here = path.In-loop-dump in
-    let most = flushes_within (plan here).actions (dump here).0 in
-    let within = (next here).within in
+    let most = flushes_within c.args.plan.now.actions (dump path.In-loop-dump).0 in
+    let within = (next path.In-loop-dump).within in
     let few = c.actions-left.ensures.lawful.few in
-    omega (arith, counted path.After-flushes_in-least, most, within, few, many here)
+    omega (arith, counted path.After-flushes_in-least, most, within, few, ap length c.actions-left.ensures.value)
 
 pub take_dump-requires : goal.take_dump-requires
 take_dump-requires c =
     let path = goal.at.take_dump-requires c in
-    record { history = c.requires.history; known = c.requires.known; there = (next path.In-loop-dump).there; least = counted path.After-flushes_in-least }
+    record {
+      history = c.requires.history;
+      known = c.requires.known;
+      there = subst (λ (plan : PlanData). Contains plan.dumps (dump path.In-loop-dump)) (sym c.requires.plan) (next path.In-loop-dump).there;
+      least = counted path.After-flushes_in-least ∙ ap (λ (plan : PlanData). flushes (take (dump path.In-loop-dump).0 plan.actions)) (sym c.requires.plan);
+    }
 
 pub returns-in_err-take_dump : goal.returns-in_err-take_dump
 returns-in_err-take_dump c =
@@ -119,8 +105,5 @@ loop-dump-preserved c =
 
 pub returns : goal.returns
 returns c =
-    let p = c.args.history.plans.now in
-    let s = c.args.stream in
-    let own = plan_here p s c.plan-plan.result.now c.requires.known.0 c.plan-plan.ensures in
-    let same = ap length (c.dumps-dump-items.ensures.value ∙ ap (λ (plan : PlanData). plan.dumps) (sym own)) in
-    judged_all (ap (λ (left : List (ℕ × ℕ)). map (λ dump. Dump s dump) left) (drop_all c.loop-dump.dump-index (plan_of p s).dumps (omega (arith, same)))) c.loop-dump.invariant.taking
+    let all = ap length c.dumps-dump-items.ensures.value in
+    judged_all (ap (λ (left : List (ℕ × ℕ)). map (λ dump. Dump c.args.stream dump) left) (drop_all c.loop-dump.dump-index c.args.plan.now.dumps (omega (arith, all)))) c.loop-dump.invariant.taking

@@ -1,5 +1,5 @@
 use Rattle.std.proofs.Common.{◌≡◌, ◌≤◌, length, map, drop, take}
-use Rattle.gpu_plan.specs.Plans.{plan_of, RiseFrom}
+use Rattle.gpu_plan.specs.Plans.{RiseFrom}
 use Rattle.gpu_plan.specs.Passes.{flushes}
 use Rattle.verify_input.specs.Due.{Dump}
 use Rattle.verify_input.specs.Taking.{past_of}
@@ -9,12 +9,10 @@ use Rattle.verify_input.proofs.sections.take_dumps_of.Given as goal
 
 -- the flushes before the last dump are counted, and its place is that of no later dump
 abbrev pub invariant-loop-dump : goal.invariant-loop-dump
-invariant-loop-dump l =
-    let plan = plan_of l.history.plans.now l.stream in
-    record {
-      left : l.left ≡ drop l.done plan.actions;
-      within : l.done ≤ length plan.actions;
-      least : l.least ≡ flushes (take l.done plan.actions);
-      rising : RiseFrom l.done (drop l.dump-index plan.dumps);
-      taking : IsTaking l.history.plans.now (past_of l.history) (map (λ dump. Dump l.stream dump) plan.dumps) (dumps_left l.stream plan.dumps l.dump-index) l.fn.rest l.rest 0;
-    }
+invariant-loop-dump l = record {
+  left : l.left ≡ drop l.done l.plan.actions;
+  within : l.done ≤ length l.plan.actions;
+  least : l.least ≡ flushes (take l.done l.plan.actions);
+  rising : RiseFrom l.done (drop l.dump-index l.plan.dumps);
+  taking : IsTaking l.history.plans.now (past_of l.history) (map (λ dump. Dump l.stream dump) l.plan.dumps) (dumps_left l.stream l.plan.dumps l.dump-index) l.fn.rest l.rest 0;
+}

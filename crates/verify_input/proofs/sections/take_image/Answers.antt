@@ -7,7 +7,7 @@ use Rattle.verify_input.proofs.Lefts.{rows_first, rows_next, rows_end}
 use Rattle.verify_input.proofs.sections.take_image.Goals as goal
 
 pub take-requires : goal.take-requires
-take-requires c = head_is_line (picture_of c.args.images.now c.args.image) c.args.image _ c.requires (rw (c.bytes.ensures) c.put_image.ensures)
+take-requires c = record { line = head_is_line (picture_of c.args.images.now c.args.image) c.args.image _ c.requires (rw (c.bytes.ensures) c.put_image.ensures); other = λ e. cc }
 
 pub returns-in_err-take : goal.returns-in_err-take
 returns-in_err-take c = λ picture p h there.
@@ -22,7 +22,7 @@ loop-y-init c = λ picture p h there.
     taking_more (rows_first (picture_of c.args.images.now c.args.image) c.args.image picture there c.bytes.ensures c.put_image.ensures) taking_none (c.in_ok-take.ensures p h).ok
 
 pub take-requires-in-loop-y : goal.take-requires-in-loop-y
-take-requires-in-loop-y c = row_is_line (picture_of c.args.images.now c.args.image) c.loop-y.y _ c.requires (rw (c.bytes-in-loop-y.ensures) c.put_row.ensures)
+take-requires-in-loop-y c = record { line = row_is_line (picture_of c.args.images.now c.args.image) c.loop-y.y _ c.requires (rw (c.bytes-in-loop-y.ensures) c.put_row.ensures); other = λ e. cc }
 
 pub returns-in_err-take-2 : goal.returns-in_err-take-2
 returns-in_err-take-2 c = λ picture p h there.

@@ -8,8 +8,8 @@ use Rattle.verify_input.specs.Due.{same_lines, lines_of_image}
 use Rattle.verify_input.specs.declared.what.What.TheVariants as what
 use Rattle.verify_input.proofs.Dues.{IsTaking, taking_none, taking_more, judged_exit, judged_all}
 use Rattle.verify_input.proofs.Lefts.{images_left, images_next}
-use Rattle.verify_input.proofs.sections.take_images.Goals.{In-Some}
 use Rattle.verify_input.proofs.sections.take_images.Goals as goal
+use Rattle.verify_input.proofs.sections.take_images.Goals.{In-Some}
 
 -- the image at hand stands at the index of its turn
 stands : (c : In-Some) → Stands c.args.images.now (length c.loop-image.yielded) c.in-Some.image

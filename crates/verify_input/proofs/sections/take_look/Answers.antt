@@ -6,8 +6,8 @@ use Rattle.verify_input.specs.Taking.{IsBad, past_of}
 use Rattle.verify_input.proofs.Dues.{no_memory}
 use Rattle.verify_input.proofs.Feeds.{view_line}
 use Rattle.verify_input.proofs.Telling.{Seen, look_bad, look_taken, look_off}
-use Rattle.verify_input.proofs.sections.take_look.Goals.{After-first_look-look}
 use Rattle.verify_input.proofs.sections.take_look.Goals as goal
+use Rattle.verify_input.proofs.sections.take_look.Goals.{After-first_look-look}
 
 -- what is read is the only look that may stand there, if it may
 read : (c : After-first_look-look) → Seen c.args.history.plans.now (past_of c.args.history) c.args.viewer c.args.rest.now c.first_look-look.result
@@ -18,7 +18,7 @@ read c = record {
 }
 
 pub take-requires : goal.take-requires
-take-requires c = subst IsLine (sym (c.bytes.ensures ∙ c.put_view.ensures)) (view_line _ _ _)
+take-requires c = record { line = subst IsLine (sym (c.bytes.ensures ∙ c.put_view.ensures)) (view_line _ _ _); other = λ e. cc }
 
 pub returns-then-not-seen-clause-err : goal.returns-then-not-seen-clause-err
 returns-then-not-seen-clause-err c =

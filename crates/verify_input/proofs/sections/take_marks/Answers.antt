@@ -22,7 +22,7 @@ pub loop-ending-init : goal.loop-ending-init
 loop-ending-init c = λ p h. taking_none
 
 pub take-requires : goal.take-requires
-take-requires c = subst IsLine (sym (c.bytes.ensures ∙ c.put_mark.ensures)) (mark_line _ _)
+take-requires c = record { line = subst IsLine (sym (c.bytes.ensures ∙ c.put_mark.ensures)) (mark_line _ _); other = λ e. cc }
 
 pub returns-in_err-take : goal.returns-in_err-take
 returns-in_err-take c = λ p h.

@@ -8,7 +8,7 @@ use Rattle.verify_input.proofs.Lefts.{names_first, names_next, names_end}
 use Rattle.verify_input.proofs.sections.take_names.Goals as goal
 
 pub take-requires : goal.take-requires
-take-requires c = subst IsLine (sym (c.bytes.ensures ∙ c.put_head.ensures)) head_line
+take-requires c = record { line = subst IsLine (sym (c.bytes.ensures ∙ c.put_head.ensures)) head_line; other = λ e. cc }
 
 pub returns-in_err-take : goal.returns-in_err-take
 returns-in_err-take c = λ h.
@@ -20,7 +20,7 @@ loop-index-init c = λ h.
     taking_more (names_first c.args.plans.now (grind (arith, nat_tests)) (c.bytes.ensures ∙ c.put_head.ensures)) taking_none (c.in_ok-take.ensures c.args.plans.now h).ok
 
 pub take-requires-in-loop-index : goal.take-requires-in-loop-index
-take-requires-in-loop-index c = subst IsLine (sym (c.bytes-in-loop-index.ensures ∙ c.put_name.ensures)) (name_line (c.loop-index.index + 1) c.name.result)
+take-requires-in-loop-index c = record { line = subst IsLine (sym (c.bytes-in-loop-index.ensures ∙ c.put_name.ensures)) (name_line (c.loop-index.index + 1) c.name.result); other = λ e. cc }
 
 pub returns-in_err-take-2 : goal.returns-in_err-take-2
 returns-in_err-take-2 c = λ h.

@@ -20,7 +20,7 @@ pub bounds-history-index : goal.bounds-history-index
 bounds-history-index c = omega (arith, ends_kept c.args.history c.requires.history)
 
 pub take-requires : goal.take-requires
-take-requires c = subst IsLine (sym (c.bytes.ensures ∙ c.put_stream.ensures)) (stream_line _ _ _)
+take-requires c = record { line = subst IsLine (sym (c.bytes.ensures ∙ c.put_stream.ensures)) (stream_line _ _ _); other = λ e. cc }
 
 pub returns-in_err-take : goal.returns-in_err-take
 returns-in_err-take c =

@@ -7,7 +7,7 @@ use Rattle.verify_input.proofs.rest.Rest.take.Goals as goal
 pub returns-in_default : goal.returns-in_default
 returns-in_default c = λ p h. record {
   ok = tt;
-  err = subst (IsBad p h (same_lines c.args.what (c.args.due.now ∷ [])) 0 c.args.self.now) (sym c.off.ensures) (line_bad p h c.args.what c.args.due.now c.args.self.now c.in_default.ensures.lines);
+  err = subst (IsBad p h (same_lines c.args.what (c.args.due.now ∷ [])) 0 c.args.self.now) (sym c.off.ensures) (line_bad p h c.args.what c.args.due.now c.args.self.now c.requires.other c.in_default.ensures.lines);
 }
 
 pub returns : goal.returns
