@@ -1,10 +1,13 @@
 -- One turn of a run of the one stream.
-use Rattle.std.proofs.Common.{◌≡◌, ℕ, ◌+◌, Bool, true, false, not, Option, None, List, ◌∷◌, ◌++◌, length, sym, ap, subst, ◌∙◌, arith}
+use Rattle.std.proofs.Common.{◌≡◌, ℕ, ◌+◌, Bool, true, false, not, Option, None, List, [], ◌∷◌, ◌++◌, length, drop, refl, sym, ap, subst, ◌∙◌, arith}
+use Rattle.std.specs.Prelude.{IfSome}
+use Rattle.std.proofs.Math.Seq.{drop-append_seam}
 use Rattle.std.proofs.lemmas.Bool.{not-true}
-use Rattle.std.proofs.lemmas.List.{length-append}
+use Rattle.std.proofs.lemmas.List.{length-append, append-nil}
 use Rattle.gpu_cmd.specs.declared.error.CmdError.{CmdError}
 use Rattle.gpu_plan.specs.Plans.{PlansData}
 use Rattle.gpu_fetch.specs.Side.{SideData}
+use Rattle.gpu_fetch.specs.Fetched.{FetchedData}
 use Rattle.sync_core.specs.Standing.{is_open}
 use Rattle.gpu_journal.specs.declared.event.Event.{Event}
 use Rattle.gpu_journal.specs.declared.event.Event.TheVariants.{Lost}
@@ -17,7 +20,7 @@ use Rattle.gpu_house.specs.Slots.{SlotData, slot_at}
 use Rattle.gpu_house.specs.House.{HouseData, OutData}
 use Rattle.gpu_house.specs.Changes.{Same, ResultsBelong}
 use Rattle.gpu_house.specs.Fetching.{HasMetNote}
-use Rattle.gpu_house.specs.Stepping.{KeepsBeside}
+use Rattle.gpu_house.specs.Stepping.{MayStep, KeepsBeside}
 use Rattle.gpu_house.specs.Steps.{Steps}
 use Rattle.gpu_house.specs.declared.answers.Next.{Next}
 use Rattle.gpu_house.specs.declared.answers.Next.TheVariants.{More, Paused, FlushEnd, Invalid, Closed}
@@ -52,6 +55,24 @@ module _ {Side Note Results Words : Type 0} (belongs : Side → Words → Type 0
     all = still belongs note_belongs results_belong words old.side new.side old.note (slot_at house.slots 1).notes has.still out.all;
     results = out.results;
   }
+
+  -- so it may step on them
+  pub may_step : (house : HouseData Side Note Results) (old new : OutData Side Note) (found : FetchedData) → IsOutAlone belongs note_belongs results_belong seen words house old → HasMetNote belongs note_belongs words old new → (seen new.side).fetched ≡ (seen old.side).fetched ++ found.words → found.facts ≡ old.run.facts
+      → MayStep seen belongs note_belongs results_belong words house new found
+  may_step house old new found out has grows facts =
+      let all = still belongs note_belongs results_belong words old.side new.side old.note (slot_at house.slots 1).notes has.still out.all in
+      record {
+        going = ap (λ (r : RunData). r.paused) has.run ∙ out.going;
+        facts = facts ∙ ap (λ (r : RunData). r.facts) (sym has.run);
+        list = record {
+          rest = [];
+          next = (λ i. drop (has.run i).facts.fetched (grows i)) ∙ ap (λ (n : ℕ). drop n ((seen old.side).fetched ++ found.words)) (sym out.list) ∙ drop-append_seam (seen old.side).fetched found.words ∙ sym (append-nil found.words);
+          ended = λ _. refl;
+        };
+        beside = all.its_side;
+        note = subst (λ (o : Option Note). IfSome o (note_belongs new.side words)) (sym has.met) tt;
+        results = subst (ResultsBelong results_belong words house.results) (sym (ap (λ (r : RunData). r.stream) has.run ∙ out.stream)) out.results;
+      }
 
   -- what a step leaves
   pub record HasStepped (p : PlansData) (new : HouseData Side Note Results) (now : OutData Side Note) (more : Bool) : Type 0 where
