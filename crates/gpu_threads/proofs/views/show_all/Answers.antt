@@ -52,3 +52,10 @@ loop-watch-preserved g c =
       room = subst (λ (n : ℕ). length c.args.watches.items ≤ n) (sym c.push_reserved.ensures.capacity) was.room;
       done = subst (All have) (sym pushed) (All-push have seen looks was.done all);
     }
+
+-- no viewer is left
+pub returns-clause-looks : goal.returns-clause-looks
+returns-clause-looks g c = record {
+  many = (let many = c.loop-watch.invariant.many in let none = c.in-None.ensures.steps.0 in omega (arith, many, none));
+  each = c.loop-watch.invariant.done;
+}
