@@ -63,18 +63,19 @@ impl Parts {
             → HaveDoneNothing plans self.old
             → HaveDoneNothing (plans ++ plan.now ∷ []) self.new) }
     {
-        let (words, pass, side) = shm_words::make(alloc, plan)?;
-        let (queue, poster, taker, pass) = flush_queue::make(rt, alloc, pass)?;
-        let (results, writer, reader) = result_words::make(alloc, result_places(plan))?;
+        // What is pushed at once does not end at the further `?`, and so takes no check there.
         let book = gpu_books::make(alloc)?;
-        let client = Client::make(alloc, stream, plan, pass, poster, reader)?;
-        self.words.push((words, results))?;
-        self.clients.push(client)?;
-        self.sides.push(FullPass { pass: side })?;
-        self.results.push(writer)?;
         self.books.push(book)?;
+        let (words, pass, side) = shm_words::make(alloc, plan)?;
+        self.sides.push(FullPass { pass: side })?;
+        let (queue, poster, taker, pass) = flush_queue::make(rt, alloc, pass)?;
         self.queues.push(queue)?;
         self.takers.push(taker)?;
+        let (results, writer, reader) = result_words::make(alloc, result_places(plan))?;
+        self.results.push(writer)?;
+        self.words.push((words, results))?;
+        let client = Client::make(alloc, stream, plan, pass, poster, reader)?;
+        self.clients.push(client)?;
         Ok(())
     }
 

@@ -21,4 +21,4 @@ returns g c = λ plans number was.
     ∙ ap (λ (reader : ReaderData). record { stream = c.args.stream; pass = seen.client_at word plan; poster = fresh_end queue word plan; held = None; reader = reader; due = None; dumps = [] }) reader in
     one_more plans plan c.args.self.now _ c.args.stream (word, result) queue c.in_ok-client.client record { pass = c.in_ok-words.side } c.in_ok-results.writer c.in_ok-queue.taker c.in_ok-book.book number
     record { client_is = client; side_is = c.in_ok-words.ensures.service; writer_is = c.in_ok-results.ensures.writer ∙ ap (writer_at result) c.result_places.ensures; taker_is = taker; blank = record { kept = c.in_ok-book.ensures.kept; out = c.in_ok-book.ensures.out } }
-    record { words = c.in_ok-push.ensures.items; clients = c.in_ok-push-2.ensures.items; sides = c.in_ok-push-3.ensures.items; results = c.in_ok-push-4.ensures.items; books = c.in_ok-push-5.ensures.items; queues = c.in_ok-push-6.ensures.items; takers = c.in_ok-push-7.ensures.items } was
+    record { books = c.in_ok-push.ensures.items; sides = c.in_ok-push-2.ensures.items; queues = c.in_ok-push-3.ensures.items; takers = c.in_ok-push-4.ensures.items; results = c.in_ok-push-5.ensures.items; words = c.in_ok-push-6.ensures.items; clients = c.in_ok-push-7.ensures.items } was
