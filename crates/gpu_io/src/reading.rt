@@ -1,7 +1,6 @@
-ghost use Rattle.std.specs.Prelude.{◌≡◌, ◌<◌, ◌≤◌, ◌^◌, ℕ, List, Some, length, vec_len, IfOk, IfSome, IsErrOf, MatchResult, OnOk};
-ghost use Rattle.gpu_io.specs.Faults.{HasRisen};
+ghost use Rattle.std.specs.Prelude.{◌≡◌, ◌<◌, ◌^◌, length, vec_len, IfOk};
 ghost use Rattle.gpu_io.specs.declared.reading.ReadError.TheVariants.{Fault, Memory};
-ghost use Rattle.gpu_io.specs.Whole.{most_bytes, ReadsAll, ReadsAtMost, ReadsMoreThan, IsExcused};
+ghost use Rattle.gpu_io.specs.Whole.{most_bytes, ReadsWithin};
 
 use crate::failed::Failed;
 use crate::source::Source;
@@ -59,33 +58,8 @@ pub fn read_within<S: Source>(
 ) -> Result<Vec<u8>, ReadError>
     requires some { 0 < length piece.old }
     requires limit { most < 2 ^ 63 }
-
-    ensures all { IfOk result (λ bytes.
-        ReadsAll (S.left source.old) (S.left source.new) bytes.items) }
-    ensures short { IfOk result (λ bytes. length bytes.items ≤ most) }
-    ensures told { IfOk result (λ bytes.
-        IfSome (S.left source.old) (λ text. bytes.items ≡ text)) }
-
-    ensures too_long { IsErrOf result ReadError.TooLong
-        → ReadsMoreThan most (S.left source.old) (S.left source.new) }
-    ensures told_long { IsErrOf result ReadError.TooLong
-        → IfSome (S.left source.old) (λ text. most < length text) }
-
-    ensures fault { IsErrOf result ReadError.Fault
-        → HasRisen (S.faults source.old) (S.faults source.new) }
-    ensures early { IsErrOf result ReadError.Fault
-        → ReadsAtMost most (S.left source.old) (S.left source.new) }
-    ensures later { S.faults source.old ≤ S.faults source.new }
-    // No read failed before the end, nor before a byte past the limit.
-    ensures faultless { OnOk result (S.faults source.new ≡ S.faults source.old) }
-    ensures unfailed { IsErrOf result ReadError.TooLong
-        → S.faults source.new ≡ S.faults source.old }
-
-    // Where the bytes are known and no fault rose, they are read exactly where they are within the limit.
-    ensures complete { (text : List ℕ) → S.left source.old ≡ Some text
-        → ¬ HasRisen (S.faults source.old) (S.faults source.new)
-        → MatchResult result (λ _. length text ≤ most)
-        (λ error. IsExcused error most (length text)) }
+    ensures { ReadsWithin most (S.left source.old) (S.left source.new)
+        (S.faults source.old) (S.faults source.new) result }
 {
     let mut bytes = Vec::new(alloc);
     loop {
@@ -103,32 +77,8 @@ pub fn read_within<S: Source>(
 
 /// All bytes that a source has left, where they are at most 16,777,216.
 pub fn read_all<S: Source>(alloc: Global, source: &mut S) -> Result<Vec<u8>, ReadError>
-    ensures all { IfOk result (λ bytes.
-        ReadsAll (S.left source.old) (S.left source.new) bytes.items) }
-    ensures short { IfOk result (λ bytes. length bytes.items ≤ most_bytes) }
-    ensures told { IfOk result (λ bytes.
-        IfSome (S.left source.old) (λ text. bytes.items ≡ text)) }
-
-    ensures too_long { IsErrOf result ReadError.TooLong
-        → ReadsMoreThan most_bytes (S.left source.old) (S.left source.new) }
-    ensures told_long { IsErrOf result ReadError.TooLong
-        → IfSome (S.left source.old) (λ text. most_bytes < length text) }
-
-    ensures fault { IsErrOf result ReadError.Fault
-        → HasRisen (S.faults source.old) (S.faults source.new) }
-    ensures early { IsErrOf result ReadError.Fault
-        → ReadsAtMost most_bytes (S.left source.old) (S.left source.new) }
-    ensures later { S.faults source.old ≤ S.faults source.new }
-    // No read failed before the end, nor before a byte past the limit.
-    ensures faultless { OnOk result (S.faults source.new ≡ S.faults source.old) }
-    ensures unfailed { IsErrOf result ReadError.TooLong
-        → S.faults source.new ≡ S.faults source.old }
-
-    // Where the bytes are known and no fault rose, they are read exactly where they are within the limit.
-    ensures complete { (text : List ℕ) → S.left source.old ≡ Some text
-        → ¬ HasRisen (S.faults source.old) (S.faults source.new)
-        → MatchResult result (λ _. length text ≤ most_bytes)
-        (λ error. IsExcused error most_bytes (length text)) }
+    ensures { ReadsWithin most_bytes (S.left source.old) (S.left source.new)
+        (S.faults source.old) (S.faults source.new) result }
 {
     let mut piece = zeros(alloc, PIECE_BYTES)?;
     read_within(alloc, source, MOST_BYTES, &mut piece)
