@@ -1,4 +1,5 @@
 pub mod Edge
 pub mod Faults
 pub mod InMemory
+pub mod Moves
 pub mod Whole

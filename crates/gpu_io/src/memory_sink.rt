@@ -1,6 +1,7 @@
-ghost use Rattle.std.specs.Prelude.{◌≡◌, ◌≤◌, ◌<◌, ◌↔◌, ◌⊎◌, ◌++◌, [], length, take, min, IsErr, IfOk, OnOk, OnErr};
-ghost use Rattle.gpu_io.specs.Faults.{one_fault_more, HasRisen};
+ghost use Rattle.std.specs.Prelude.{◌≡◌, ◌<◌, ◌↔◌, ◌⊎◌, [], Some, length, min, IsErr, IfOk, OnErr};
+ghost use Rattle.gpu_io.specs.Faults.{one_fault_more};
 ghost use Rattle.gpu_io.specs.InMemory.{IsFailing, with_call, IsFull, free_room};
+ghost use Rattle.gpu_io.specs.Moves.{SinkTakes};
 
 use crate::bounded::Bounded;
 use crate::calls::Calls;
@@ -71,8 +72,6 @@ impl MemorySink {
 }
 
 impl Sink for MemorySink {
-    ghost use Rattle.std.specs.Prelude.{Some};
-
     ghost written = { λ s. Some s.written.bytes };
 
     ghost faults = { λ s. s.faults };
@@ -80,23 +79,16 @@ impl Sink for MemorySink {
     /// Takes as many bytes as there are, as fit into the room and as a piece has.
     fn write(&mut self, bytes: &[u8]) -> Result<usize, Failed>
         requires { 0 < length bytes.now }
+        ensures takes { SinkTakes (Some self.old.written.bytes) (Some self.new.written.bytes)
+            self.old.faults self.new.faults bytes.now result }
         // A write fails exactly where its number is one of those that fail, or the room is full.
         ensures fails { IsErr result ↔ (IsFailing self.new.calls ⊎ IsFull self.old.written) }
         ensures count { IfOk result (λ n.
             n ≡ min (min (length bytes.now) (free_room self.old.written)) self.old.piece) }
-        ensures some { IfOk result (λ n. 0 < n) }
-        ensures bound { IfOk result (λ n. n ≤ length bytes.now) }
-        ensures appended { IfOk result (λ n.
-            self.new.written.bytes ≡ self.old.written.bytes ++ take n bytes.now) }
-        ensures kept { OnErr result (self.new.written ≡ self.old.written) }
-
         ensures calls { self.new.calls ≡ with_call self.old.calls }
         ensures piece { self.new.piece ≡ self.old.piece }
         ensures room { self.new.written.room ≡ self.old.written.room }
-        ensures faultless { OnOk result (self.new.faults ≡ self.old.faults) }
         ensures fault { OnErr result (self.new.faults ≡ one_fault_more self.old.faults) }
-        ensures cause { OnErr result (HasRisen self.old.faults self.new.faults) }
-        ensures later { self.old.faults ≤ self.new.faults }
     {
         if self.calls.is_next_failing() || self.bytes.is_full() {
             return Err(self.faults.fail());

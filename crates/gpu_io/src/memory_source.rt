@@ -1,6 +1,7 @@
-ghost use Rattle.std.specs.Prelude.{◌≡◌, ◌≤◌, ◌<◌, ◌↔◌, ◌++◌, [], length, take, min, IsErr, IfOk, OnOk, OnErr};
-ghost use Rattle.gpu_io.specs.Faults.{one_fault_more, HasRisen};
+ghost use Rattle.std.specs.Prelude.{◌≡◌, ◌<◌, ◌↔◌, Some, length, min, IsErr, IfOk, OnErr};
+ghost use Rattle.gpu_io.specs.Faults.{one_fault_more};
 ghost use Rattle.gpu_io.specs.InMemory.{IsFailing, with_call};
+ghost use Rattle.gpu_io.specs.Moves.{SourceGives};
 
 use crate::calls::Calls;
 use crate::failed::Failed;
@@ -55,8 +56,6 @@ impl MemorySource {
 }
 
 impl Source for MemorySource {
-    ghost use Rattle.std.specs.Prelude.{Some};
-
     ghost left = { λ s. Some s.left };
 
     ghost faults = { λ s. s.faults };
@@ -64,21 +63,15 @@ impl Source for MemorySource {
     /// Reads as many bytes as are left, as fit into the buffer and as a piece has.
     fn read(&mut self, buffer: &mut [u8]) -> Result<usize, Failed>
         requires { 0 < length buffer.old }
+        ensures gives { SourceGives (Some self.old.left) (Some self.new.left)
+            self.old.faults self.new.faults buffer.new result }
         // A read fails exactly where its number is one of those that fail.
         ensures fails { IsErr result ↔ IsFailing self.new.calls }
         ensures count { IfOk result (λ n.
             n ≡ min (min (length self.old.left) (length buffer.old)) self.old.piece) }
-        ensures bound { IfOk result (λ n. n ≤ length buffer.new) }
-        ensures taken { IfOk result (λ n. self.old.left ≡ take n buffer.new ++ self.new.left) }
-        ensures end { IfOk result (λ n. n ≡ 0 → self.new.left ≡ []) }
-        ensures kept { OnErr result (self.new.left ≡ self.old.left) }
-
         ensures calls { self.new.calls ≡ with_call self.old.calls }
         ensures piece { self.new.piece ≡ self.old.piece }
-        ensures faultless { OnOk result (self.new.faults ≡ self.old.faults) }
         ensures fault { OnErr result (self.new.faults ≡ one_fault_more self.old.faults) }
-        ensures cause { OnErr result (HasRisen self.old.faults self.new.faults) }
-        ensures later { self.old.faults ≤ self.new.faults }
     {
         if self.calls.is_next_failing() {
             return Err(self.faults.fail());

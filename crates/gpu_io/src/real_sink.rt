@@ -1,6 +1,6 @@
-ghost use Rattle.std.specs.Prelude.{◌≡◌, ◌≤◌, ◌<◌, length, take, IfOk, OnOk, OnErr};
-ghost use Rattle.std.specs.Io.KnownBytes.{Appends, Keeps};
-ghost use Rattle.gpu_io.specs.Faults.{one_fault_more, HasRisen};
+ghost use Rattle.std.specs.Prelude.{◌≡◌, ◌<◌, length, OnErr};
+ghost use Rattle.gpu_io.specs.Faults.{one_fault_more};
+ghost use Rattle.gpu_io.specs.Moves.{SinkTakes};
 
 use crate::failed::Failed;
 use crate::faults::Faults;
@@ -46,15 +46,9 @@ impl<W: Write> Sink for RealSink<W> {
     /// Writes once to the writer, and counts a fault exactly where it answers an error or takes no byte.
     fn write(&mut self, bytes: &[u8]) -> Result<usize, Failed>
         requires { 0 < length bytes.now }
-        ensures some { IfOk result (λ n. 0 < n) }
-        ensures bound { IfOk result (λ n. n ≤ length bytes.now) }
-        ensures appended { IfOk result
-            (λ n. Appends self.old.written self.new.written (take n bytes.now)) }
-        ensures kept { OnErr result (Keeps self.old.written self.new.written) }
-        ensures faultless { OnOk result (self.new.faults ≡ self.old.faults) }
+        ensures takes { SinkTakes self.old.written self.new.written self.old.faults self.new.faults
+            bytes.now result }
         ensures fault { OnErr result (self.new.faults ≡ one_fault_more self.old.faults) }
-        ensures cause { OnErr result (HasRisen self.old.faults self.new.faults) }
-        ensures later { self.old.faults ≤ self.new.faults }
     {
         match self.writer.write(bytes) {
             Ok(count) if count > 0 => Ok(count),

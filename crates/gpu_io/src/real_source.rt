@@ -1,6 +1,6 @@
-ghost use Rattle.std.specs.Prelude.{◌≡◌, ◌≤◌, ◌<◌, length, take, IfOk, OnOk, OnErr};
-ghost use Rattle.std.specs.Io.KnownBytes.{Consumes, IsAtEnd, Keeps};
-ghost use Rattle.gpu_io.specs.Faults.{one_fault_more, HasRisen};
+ghost use Rattle.std.specs.Prelude.{◌≡◌, ◌<◌, length, OnErr};
+ghost use Rattle.gpu_io.specs.Faults.{one_fault_more};
+ghost use Rattle.gpu_io.specs.Moves.{SourceGives};
 
 use crate::failed::Failed;
 use crate::faults::Faults;
@@ -43,15 +43,9 @@ impl<R: Read> Source for RealSource<R> {
     /// Reads once from the reader, and counts a fault exactly where it answers an error.
     fn read(&mut self, buffer: &mut [u8]) -> Result<usize, Failed>
         requires { 0 < length buffer.old }
-        ensures bound { IfOk result (λ n. n ≤ length buffer.new) }
-        ensures taken { IfOk result
-            (λ n. Consumes self.old.left self.new.left (take n buffer.new)) }
-        ensures end { IfOk result (λ n. n ≡ 0 → IsAtEnd self.new.left) }
-        ensures kept { OnErr result (Keeps self.old.left self.new.left) }
-        ensures faultless { OnOk result (self.new.faults ≡ self.old.faults) }
+        ensures gives { SourceGives self.old.left self.new.left self.old.faults self.new.faults
+            buffer.new result }
         ensures fault { OnErr result (self.new.faults ≡ one_fault_more self.old.faults) }
-        ensures cause { OnErr result (HasRisen self.old.faults self.new.faults) }
-        ensures later { self.old.faults ≤ self.new.faults }
     {
         match self.reader.read(buffer) {
             Ok(count) => Ok(count),

@@ -1,6 +1,5 @@
-ghost use Rattle.std.specs.Prelude.{◌≡◌, ℕ, ◌<◌, ◌≤◌, List, Option, length, take, IfOk, OnOk, OnErr};
-ghost use Rattle.std.specs.Io.KnownBytes.{Appends, Keeps};
-ghost use Rattle.gpu_io.specs.Faults.{HasRisen};
+ghost use Rattle.std.specs.Prelude.{ℕ, ◌<◌, List, Option, length};
+ghost use Rattle.gpu_io.specs.Moves.{SinkTakes};
 
 use crate::failed::Failed;
 
@@ -18,12 +17,6 @@ pub trait Sink {
     /// it did not. A sink that can take nothing has failed.
     fn write(&mut self, bytes: &[u8]) -> Result<usize, Failed>
         requires { 0 < length bytes.now }
-        ensures some { IfOk result (λ n. 0 < n) }
-        ensures bound { IfOk result (λ n. n ≤ length bytes.now) }
-        ensures appended { IfOk result
-            (λ n. Appends (written self.old) (written self.new) (take n bytes.now)) }
-        ensures kept { OnErr result (Keeps (written self.old) (written self.new)) }
-        ensures faultless { OnOk result (faults self.new ≡ faults self.old) }
-        ensures cause { OnErr result (HasRisen (faults self.old) (faults self.new)) }
-        ensures later { faults self.old ≤ faults self.new };
+        ensures { SinkTakes (written self.old) (written self.new) (faults self.old) (faults self.new)
+            bytes.now result };
 }

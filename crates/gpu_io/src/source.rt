@@ -1,6 +1,5 @@
-ghost use Rattle.std.specs.Prelude.{◌≡◌, ℕ, ◌<◌, ◌≤◌, List, Option, length, take, IfOk, OnOk, OnErr};
-ghost use Rattle.std.specs.Io.KnownBytes.{Consumes, IsAtEnd, Keeps};
-ghost use Rattle.gpu_io.specs.Faults.{HasRisen};
+ghost use Rattle.std.specs.Prelude.{ℕ, ◌<◌, List, Option, length};
+ghost use Rattle.gpu_io.specs.Moves.{SourceGives};
 
 use crate::failed::Failed;
 
@@ -18,12 +17,6 @@ pub trait Source {
     /// did not.
     fn read(&mut self, buffer: &mut [u8]) -> Result<usize, Failed>
         requires { 0 < length buffer.old }
-        ensures bound { IfOk result (λ n. n ≤ length buffer.new) }
-        ensures taken { IfOk result
-            (λ n. Consumes (left self.old) (left self.new) (take n buffer.new)) }
-        ensures end { IfOk result (λ n. n ≡ 0 → IsAtEnd (left self.new)) }
-        ensures kept { OnErr result (Keeps (left self.old) (left self.new)) }
-        ensures faultless { OnOk result (faults self.new ≡ faults self.old) }
-        ensures cause { OnErr result (HasRisen (faults self.old) (faults self.new)) }
-        ensures later { faults self.old ≤ faults self.new };
+        ensures { SourceGives (left self.old) (left self.new) (faults self.old) (faults self.new)
+            buffer.new result };
 }

@@ -1,6 +1,7 @@
-ghost use Rattle.std.specs.Prelude.{◌≡◌, ◌≤◌, ◌<◌, ◌↔◌, ◌++◌, [], length, take, min, IsErr, IfOk, OnOk, OnErr};
-ghost use Rattle.gpu_io.specs.Faults.{one_fault_more, HasRisen};
+ghost use Rattle.std.specs.Prelude.{◌≡◌, ◌<◌, ◌↔◌, [], Some, length, min, IsErr, IfOk, OnErr};
+ghost use Rattle.gpu_io.specs.Faults.{one_fault_more};
 ghost use Rattle.gpu_io.specs.InMemory.{IsFull, free_room};
+ghost use Rattle.gpu_io.specs.Moves.{SinkTakes};
 
 use crate::bounded::Bounded;
 use crate::failed::Failed;
@@ -47,8 +48,6 @@ impl SteadySink {
 }
 
 impl Sink for SteadySink {
-    ghost use Rattle.std.specs.Prelude.{Some};
-
     ghost written = { λ s. Some s.written.bytes };
 
     ghost faults = { λ s. s.faults };
@@ -56,20 +55,13 @@ impl Sink for SteadySink {
     /// Takes as many bytes as there are and as fit into the room.
     fn write(&mut self, bytes: &[u8]) -> Result<usize, Failed>
         requires { 0 < length bytes.now }
+        ensures takes { SinkTakes (Some self.old.written.bytes) (Some self.new.written.bytes)
+            self.old.faults self.new.faults bytes.now result }
         // A write fails exactly where the room is full.
         ensures fails { IsErr result ↔ IsFull self.old.written }
         ensures count { IfOk result (λ n. n ≡ min (length bytes.now) (free_room self.old.written)) }
-        ensures some { IfOk result (λ n. 0 < n) }
-        ensures bound { IfOk result (λ n. n ≤ length bytes.now) }
-        ensures appended { IfOk result (λ n.
-            self.new.written.bytes ≡ self.old.written.bytes ++ take n bytes.now) }
-        ensures kept { OnErr result (self.new.written ≡ self.old.written) }
-
         ensures room { self.new.written.room ≡ self.old.written.room }
-        ensures faultless { OnOk result (self.new.faults ≡ self.old.faults) }
         ensures fault { OnErr result (self.new.faults ≡ one_fault_more self.old.faults) }
-        ensures cause { OnErr result (HasRisen self.old.faults self.new.faults) }
-        ensures later { self.old.faults ≤ self.new.faults }
     {
         if self.bytes.is_full() {
             return Err(self.faults.fail());

@@ -1,4 +1,5 @@
-ghost use Rattle.std.specs.Prelude.{◌≡◌, ◌<◌, ◌≤◌, ◌++◌, [], length, take, min, IsOkAnd};
+ghost use Rattle.std.specs.Prelude.{◌≡◌, ◌<◌, Some, length, min, IsOkAnd};
+ghost use Rattle.gpu_io.specs.Moves.{SourceGives};
 
 use crate::failed::Failed;
 use crate::source::Source;
@@ -31,8 +32,6 @@ impl SteadySource {
 }
 
 impl Source for SteadySource {
-    ghost use Rattle.std.specs.Prelude.{Some};
-
     ghost left = { λ bytes. Some bytes };
 
     ghost faults = { λ _. 0 };
@@ -40,11 +39,9 @@ impl Source for SteadySource {
     /// Reads as many bytes as are left and as fit into the buffer.
     fn read(&mut self, buffer: &mut [u8]) -> Result<usize, Failed>
         requires { 0 < length buffer.old }
+        ensures gives { SourceGives (Some self.old) (Some self.new) 0 0 buffer.new result }
         // Every read succeeds.
         ensures count { IsOkAnd result (λ n. n ≡ min (length self.old) (length buffer.old)) }
-        ensures bound { IsOkAnd result (λ n. n ≤ length buffer.new) }
-        ensures taken { IsOkAnd result (λ n. self.old ≡ take n buffer.new ++ self.new) }
-        ensures end { IsOkAnd result (λ n. n ≡ 0 → self.new ≡ []) }
     {
         Ok(self.bytes.take(buffer, buffer.len()))
     }
