@@ -1,6 +1,7 @@
 ghost use Rattle.std.specs.Prelude.{◌≡◌, ◌+◌, ◌<◌, ◌≤◌, ◌++◌, length, drop, false, vec_len, vec_capacity, OnOk};
 ghost use Rattle.std.specs.Fmt.{digits, digit_glyph};
 ghost use Rattle.std.specs.List.{flat_map};
+ghost use Rattle.script_generator.specs.Appending.{AppendsWithin};
 ghost use Rattle.script_generator.specs.Generator.{spaced_number, value_text};
 
 use itoa::Buffer;
@@ -13,9 +14,7 @@ pub(crate) const VALUE: usize = 9;
 #[inline(always)]
 pub(crate) fn put_text(out: &mut Vec<u8>, text: &[u8])
     requires { vec_len out.old + length text.now ≤ vec_capacity out.old }
-    ensures items { out.new.items ≡ out.old.items ++ text.now }
-    ensures few { vec_len out.new ≤ vec_len out.old + length text.now }
-    ensures room { vec_capacity out.old ≤ vec_capacity out.new }
+    ensures { AppendsWithin out.old out.new text.now (length text.now) }
 {
     for byte in text {
         out.push_reserved(*byte);
@@ -64,9 +63,7 @@ fn hex_text(value: u32) -> ([u8; 8], usize)
 #[inline(always)]
 fn put_long(out: &mut Vec<u8>, value: u32)
     requires { vec_len out.old + 8 ≤ vec_capacity out.old }
-    ensures items { out.new.items ≡ out.old.items ++ digits 16 false value }
-    ensures few { vec_len out.new ≤ vec_len out.old + 8 }
-    ensures room { vec_capacity out.old ≤ vec_capacity out.new }
+    ensures { AppendsWithin out.old out.new (digits 16 false value) 8 }
 {
     let (text, at) = hex_text(value);
     let (_, written) = text.split_at(at);
@@ -77,9 +74,7 @@ fn put_long(out: &mut Vec<u8>, value: u32)
 #[inline(always)]
 fn put_hex(out: &mut Vec<u8>, value: u32)
     requires { vec_len out.old + 8 ≤ vec_capacity out.old }
-    ensures items { out.new.items ≡ out.old.items ++ digits 16 false value }
-    ensures few { vec_len out.new ≤ vec_len out.old + 8 }
-    ensures room { vec_capacity out.old ≤ vec_capacity out.new }
+    ensures { AppendsWithin out.old out.new (digits 16 false value) 8 }
 {
     if value < 16 {
         out.push_reserved(hex_digit(value));
@@ -92,9 +87,7 @@ fn put_hex(out: &mut Vec<u8>, value: u32)
 #[inline(always)]
 pub(crate) fn put_value(out: &mut Vec<u8>, value: u32)
     requires { vec_len out.old + VALUE ≤ vec_capacity out.old }
-    ensures items { out.new.items ≡ out.old.items ++ value_text value }
-    ensures few { vec_len out.new ≤ vec_len out.old + VALUE }
-    ensures room { vec_capacity out.old ≤ vec_capacity out.new }
+    ensures { AppendsWithin out.old out.new (value_text value) VALUE }
 {
     out.push_reserved(b' ');
     put_hex(out, value);

@@ -1,5 +1,6 @@
 ghost use Rattle.std.specs.Prelude.{◌≡◌, ◌+◌, ◌*◌, ◌≤◌, ◌++◌, vec_len, vec_capacity, IfOk, OnOk};
 ghost use Rattle.std.specs.List.{flat_map};
+ghost use Rattle.script_generator.specs.Appending.{AppendsWithin};
 ghost use Rattle.script_generator.specs.Draws.{after_draws};
 ghost use Rattle.script_generator.specs.Generator.{spaced_number, value_text, wait_words, clear_words, copy_words, upload_words, fence_words, block, round_text, rounds, start_text, stream_script, generated};
 
@@ -16,10 +17,7 @@ const ROUND: usize = 224;
 #[inline(always)]
 fn put_wait(out: &mut Vec<u8>, other: u32, round: u32)
     requires within { vec_len out.old + 29 ≤ vec_capacity out.old }
-    ensures text { out.new.items
-        ≡ out.old.items ++ flat_map value_text (wait_words other round) }
-    ensures few { vec_len out.new ≤ vec_len out.old + 29 }
-    ensures room { vec_capacity out.old ≤ vec_capacity out.new }
+    ensures { AppendsWithin out.old out.new (flat_map value_text (wait_words other round)) 29 }
 {
     put_text(out, b" 20200004");
     put_value(out, other);
@@ -31,10 +29,8 @@ fn put_wait(out: &mut Vec<u8>, other: u32, round: u32)
 #[inline(always)]
 fn put_clear(out: &mut Vec<u8>, stream: u32, x: u32, y: u32, texel: u32)
     requires within { vec_len out.old + 49 ≤ vec_capacity out.old }
-    ensures text { out.new.items
-        ≡ out.old.items ++ flat_map value_text (clear_words stream x y texel) }
-    ensures few { vec_len out.new ≤ vec_len out.old + 49 }
-    ensures room { vec_capacity out.old ≤ vec_capacity out.new }
+    ensures { AppendsWithin out.old out.new
+        (flat_map value_text (clear_words stream x y texel)) 49 }
 {
     put_text(out, b" 20800007");
     put_value(out, stream);
@@ -48,10 +44,7 @@ fn put_clear(out: &mut Vec<u8>, stream: u32, x: u32, y: u32, texel: u32)
 #[inline(always)]
 fn put_copy(out: &mut Vec<u8>, other: u32, stream: u32)
     requires within { vec_len out.old + 39 ≤ vec_capacity out.old }
-    ensures text { out.new.items
-        ≡ out.old.items ++ flat_map value_text (copy_words other stream) }
-    ensures few { vec_len out.new ≤ vec_len out.old + 39 }
-    ensures room { vec_capacity out.old ≤ vec_capacity out.new }
+    ensures { AppendsWithin out.old out.new (flat_map value_text (copy_words other stream)) 39 }
 {
     put_text(out, b" 20a00009");
     put_value(out, other);
@@ -64,10 +57,7 @@ fn put_copy(out: &mut Vec<u8>, other: u32, stream: u32)
 #[inline(always)]
 fn put_upload(out: &mut Vec<u8>, stream: u32, x: u32, y: u32)
     requires within { vec_len out.old + 46 ≤ vec_capacity out.old }
-    ensures text { out.new.items
-        ≡ out.old.items ++ flat_map value_text (upload_words stream x y) }
-    ensures few { vec_len out.new ≤ vec_len out.old + 46 }
-    ensures room { vec_capacity out.old ≤ vec_capacity out.new }
+    ensures { AppendsWithin out.old out.new (flat_map value_text (upload_words stream x y)) 46 }
 {
     put_text(out, b" 20c00009");
     put_value(out, stream);
@@ -80,10 +70,7 @@ fn put_upload(out: &mut Vec<u8>, stream: u32, x: u32, y: u32)
 #[inline(always)]
 fn put_fence(out: &mut Vec<u8>, round: u32)
     requires within { vec_len out.old + 20 ≤ vec_capacity out.old }
-    ensures text { out.new.items
-        ≡ out.old.items ++ flat_map value_text (fence_words round) }
-    ensures few { vec_len out.new ≤ vec_len out.old + 20 }
-    ensures room { vec_capacity out.old ≤ vec_capacity out.new }
+    ensures { AppendsWithin out.old out.new (flat_map value_text (fence_words round)) 20 }
 {
     put_text(out, b" 20000003");
     put_value(out, round);
@@ -94,11 +81,9 @@ fn put_fence(out: &mut Vec<u8>, round: u32)
 #[inline(always)]
 fn put_block(out: &mut Vec<u8>, stream: u32, round: u32, state: u32) -> u32
     requires within { vec_len out.old + 183 ≤ vec_capacity out.old }
-    ensures text { out.new.items
-        ≡ out.old.items ++ flat_map value_text (block stream round state) }
+    ensures text { AppendsWithin out.old out.new
+        (flat_map value_text (block stream round state)) 183 }
     ensures state { result ≡ after_draws 6 state }
-    ensures few { vec_len out.new ≤ vec_len out.old + 183 }
-    ensures room { vec_capacity out.old ≤ vec_capacity out.new }
 {
     let d1 = drawn(state);
     let d2 = drawn(d1);
@@ -120,9 +105,7 @@ fn put_block(out: &mut Vec<u8>, stream: u32, round: u32, state: u32) -> u32
 fn put_half(out: &mut Vec<u8>, half: u32)
     requires within { vec_len out.old + 3 ≤ vec_capacity out.old }
     requires half { half ≤ 1 }
-    ensures text { out.new.items ≡ out.old.items ++ spaced_number (32 * half) }
-    ensures few { vec_len out.new ≤ vec_len out.old + 3 }
-    ensures room { vec_capacity out.old ≤ vec_capacity out.new }
+    ensures { AppendsWithin out.old out.new (spaced_number (32 * half)) 3 }
 {
     if half == 0 {
         put_text(out, b" 0");
@@ -136,10 +119,8 @@ fn put_half(out: &mut Vec<u8>, half: u32)
 #[inline(always)]
 fn put_round(out: &mut Vec<u8>, stream: u32, round: u32, state: u32) -> u32
     requires within { vec_len out.old + ROUND ≤ vec_capacity out.old }
-    ensures text { out.new.items ≡ out.old.items ++ round_text stream round state }
+    ensures text { AppendsWithin out.old out.new (round_text stream round state) ROUND }
     ensures state { result ≡ after_draws 7 state }
-    ensures few { vec_len out.new ≤ vec_len out.old + ROUND }
-    ensures room { vec_capacity out.old ≤ vec_capacity out.new }
 {
     let half = round % 2;
     put_text(out, b"put");

@@ -13,7 +13,7 @@ loop-round-preserved c =
     let left = c.args.size + 1 - c.loop-round.round in
     let more = c.args.size + 1 - (c.loop-round.round + 1) in
     let taken : c.replace-text.result.items ≡ c.loop-round.out.items = ap (λ (text : Vec ℕ Global). text.items) c.replace-text.ensures.value ∙ c.reserve.ensures.items in
-    let put = c.put_round-next.ensures.text ∙ ap (λ (text : List ℕ). text ++ round_text c.args.stream c.loop-round.round c.loop-round.next) taken in
+    let put = c.put_round-next.ensures.text.items ∙ ap (λ (text : List ℕ). text ++ round_text c.args.stream c.loop-round.round c.loop-round.next) taken in
     record {
       first = omega arith;
       last = omega arith;
