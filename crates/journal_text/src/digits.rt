@@ -1,5 +1,6 @@
-ghost use Rattle.std.specs.Prelude.{◌≡◌, ◌+◌, ◌*◌, ◌/◌, ◌%◌, ◌<◌, ◌≤◌, ◌∷◌, ◌++◌, length, vec_len, vec_capacity};
+ghost use Rattle.std.specs.Prelude.{◌≡◌, ◌+◌, ◌*◌, ◌/◌, ◌%◌, ◌<◌, ◌≤◌, ◌∷◌, length, vec_len, vec_capacity};
 ghost use Rattle.std.specs.Char.{digit_char};
+ghost use Rattle.journal_text.specs.Appended.{Appended};
 ghost use Rattle.journal_text.specs.Digits.{numeral, hex8, number_text};
 
 use crate::put::put;
@@ -23,9 +24,8 @@ pub(crate) fn digit(value: u64) -> u8
 #[tactic(auto, using(crate::proofs::Numerals::numeral_decimal))]
 fn put_long(out: &mut Vec<u8>, number: u64)
     requires { vec_len out.old + length (numeral number) ≤ vec_capacity out.old }
-    ensures items { out.new.items ≡ out.old.items ++ numeral number }
+    ensures text { Appended out.old out.new (numeral number) }
     ensures len { vec_len out.new ≡ vec_len out.old + length (numeral number) }
-    ensures room { vec_capacity out.old ≤ vec_capacity out.new }
 {
     let mut buffer = Buffer::new();
     put(out, buffer.format(number).as_bytes());
@@ -37,9 +37,8 @@ fn put_long(out: &mut Vec<u8>, number: u64)
 #[tactic(auto, using(crate::proofs::Numerals::numeral_of_one, crate::proofs::Numerals::numeral_of_two, crate::proofs::Numerals::numeral_of_three))]
 pub(crate) fn put_decimal(out: &mut Vec<u8>, number: u64)
     requires { vec_len out.old + length (numeral number) ≤ vec_capacity out.old }
-    ensures items { out.new.items ≡ out.old.items ++ numeral number }
+    ensures text { Appended out.old out.new (numeral number) }
     ensures len { vec_len out.new ≡ vec_len out.old + length (numeral number) }
-    ensures room { vec_capacity out.old ≤ vec_capacity out.new }
 {
     if number < 10 {
         put(out, &[digit(number)]);
@@ -57,9 +56,8 @@ pub(crate) fn put_decimal(out: &mut Vec<u8>, number: u64)
 #[tactic(auto, using(crate::proofs::Lengths::numeral_few, crate::proofs::Numerals::numeral_of_one))]
 pub(crate) fn put_number(out: &mut Vec<u8>, number: u64)
     requires { vec_len out.old + NUMBER ≤ vec_capacity out.old }
-    ensures items { out.new.items ≡ out.old.items ++ number_text number }
+    ensures text { Appended out.old out.new (number_text number) }
     ensures few { vec_len out.new ≤ vec_len out.old + NUMBER }
-    ensures room { vec_capacity out.old ≤ vec_capacity out.new }
 {
     if number < 10 {
         put(out, &[b' ', digit(number)]);
@@ -102,9 +100,8 @@ pub fn spaced_hex(number: u32) -> [u8; 9]
 /// Appends a number as eight hexadecimal digits.
 pub(crate) fn put_hex(out: &mut Vec<u8>, number: u32)
     requires { vec_len out.old + HEX ≤ vec_capacity out.old }
-    ensures items { out.new.items ≡ out.old.items ++ hex8 number }
+    ensures text { Appended out.old out.new (hex8 number) }
     ensures len { vec_len out.new ≡ vec_len out.old + HEX }
-    ensures room { vec_capacity out.old ≤ vec_capacity out.new }
 {
     put(out, &hex(number));
 }

@@ -1,5 +1,6 @@
-ghost use Rattle.std.specs.Prelude.{◌≡◌, ◌+◌, ◌≤◌, ◌++◌, length, vec_len, vec_capacity, IfSome};
+ghost use Rattle.std.specs.Prelude.{◌≡◌, ◌+◌, ◌≤◌, length, vec_len, vec_capacity, IfSome};
 ghost use Rattle.std.specs.List.{flat_map};
+ghost use Rattle.journal_text.specs.Appended.{Appended};
 ghost use Rattle.journal_text.specs.Digits.{numeral};
 ghost use Rattle.journal_text.specs.Text.{word_text, why_text, event_words, event_text};
 
@@ -16,9 +17,8 @@ const WORD: usize = 20;
 // Appends a word at a place of three digits or more.
 fn put_far_word(out: &mut Vec<u8>, place: u32, value: u32)
     requires { vec_len out.old + length (word_text (place, value)) ≤ vec_capacity out.old }
-    ensures items { out.new.items ≡ out.old.items ++ word_text (place, value) }
+    ensures text { Appended out.old out.new (word_text (place, value)) }
     ensures len { vec_len out.new ≡ vec_len out.old + length (word_text (place, value)) }
-    ensures room { vec_capacity out.old ≤ vec_capacity out.new }
 {
     out.push_reserved(b' ');
     put_decimal(out, u64::from(place));
@@ -30,9 +30,8 @@ fn put_far_word(out: &mut Vec<u8>, place: u32, value: u32)
 #[tactic(auto, using(crate::proofs::Numerals::numeral_of_one, crate::proofs::Numerals::numeral_of_two))]
 fn put_word(out: &mut Vec<u8>, place: u32, value: u32)
     requires { vec_len out.old + length (word_text (place, value)) ≤ vec_capacity out.old }
-    ensures items { out.new.items ≡ out.old.items ++ word_text (place, value) }
+    ensures text { Appended out.old out.new (word_text (place, value)) }
     ensures len { vec_len out.new ≡ vec_len out.old + length (word_text (place, value)) }
-    ensures room { vec_capacity out.old ≤ vec_capacity out.new }
 {
     if place >= 100 {
         put_far_word(out, place, value);
@@ -51,9 +50,8 @@ fn put_word(out: &mut Vec<u8>, place: u32, value: u32)
 // Appends words that were fetched.
 fn put_words(out: &mut Vec<u8>, words: &[(u32, u32)])
     requires { vec_len out.old + length (flat_map word_text words.now) ≤ vec_capacity out.old }
-    ensures items { out.new.items ≡ out.old.items ++ flat_map word_text words.now }
+    ensures text { Appended out.old out.new (flat_map word_text words.now) }
     ensures len { vec_len out.new ≡ vec_len out.old + length (flat_map word_text words.now) }
-    ensures room { vec_capacity out.old ≤ vec_capacity out.new }
 {
     for (place, value) in words {
         put_word(out, *place, *value);
@@ -63,9 +61,8 @@ fn put_words(out: &mut Vec<u8>, words: &[(u32, u32)])
 /// Appends why a stream was lost.
 pub(crate) fn put_why(out: &mut Vec<u8>, why: Why)
     requires { vec_len out.old + NUMBER ≤ vec_capacity out.old }
-    ensures items { out.new.items ≡ out.old.items ++ why_text why }
+    ensures text { Appended out.old out.new (why_text why) }
     ensures few { vec_len out.new ≤ vec_len out.old + NUMBER }
-    ensures room { vec_capacity out.old ≤ vec_capacity out.new }
 {
     match why {
         Why::Error(error) => put_number(out, u64::from(error.code())),
@@ -78,8 +75,7 @@ pub(crate) fn put_why(out: &mut Vec<u8>, why: Why)
 pub(crate) fn put_event(out: &mut Vec<u8>, event: &Event<'_>)
     requires { vec_len out.old + EVENT + length (flat_map word_text (event_words event.now))
         ≤ vec_capacity out.old }
-    ensures items { out.new.items ≡ out.old.items ++ event_text event.now }
-    ensures room { vec_capacity out.old ≤ vec_capacity out.new }
+    ensures { Appended out.old out.new (event_text event.now) }
 {
     match event {
         Event::Order {

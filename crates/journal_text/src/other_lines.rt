@@ -1,4 +1,5 @@
-ghost use Rattle.std.specs.Prelude.{◌≡◌, ◌+◌, ◌≤◌, ◌++◌, vec_len, vec_capacity};
+ghost use Rattle.std.specs.Prelude.{◌+◌, ◌≤◌, vec_len, vec_capacity};
+ghost use Rattle.journal_text.specs.Appended.{Appended};
 ghost use Rattle.journal_text.specs.Lines.{name_text, how_text, mark_text, dump_text, view_text};
 
 use crate::digits::{put_hex, put_number};
@@ -16,8 +17,7 @@ const HOW: usize = 8;
 #[tactic(auto, unfolding(crate::specs::Lines::name_text))]
 pub(crate) fn put_name(out: &mut Vec<u8>, stream: u32, name: Name)
     requires { vec_len out.old + OTHER ≤ vec_capacity out.old }
-    ensures items { out.new.items ≡ out.old.items ++ name_text stream name }
-    ensures room { vec_capacity out.old ≤ vec_capacity out.new }
+    ensures { Appended out.old out.new (name_text stream name) }
 {
     put(out, b"name");
     put_number(out, u64::from(stream));
@@ -29,9 +29,8 @@ pub(crate) fn put_name(out: &mut Vec<u8>, stream: u32, name: Name)
 // Appends how a wait ended.
 fn put_how(out: &mut Vec<u8>, how: How)
     requires { vec_len out.old + HOW ≤ vec_capacity out.old }
-    ensures items { out.new.items ≡ out.old.items ++ how_text how }
+    ensures text { Appended out.old out.new (how_text how) }
     ensures few { vec_len out.new ≤ vec_len out.old + HOW }
-    ensures room { vec_capacity out.old ≤ vec_capacity out.new }
 {
     match how {
         How::Release => put(out, b" release"),
@@ -44,8 +43,7 @@ fn put_how(out: &mut Vec<u8>, how: How)
 #[tactic(auto, unfolding(crate::specs::Lines::mark_text))]
 pub(crate) fn put_mark(out: &mut Vec<u8>, ending: &Ending, value: u32)
     requires { vec_len out.old + OTHER ≤ vec_capacity out.old }
-    ensures items { out.new.items ≡ out.old.items ++ mark_text ending.now value }
-    ensures room { vec_capacity out.old ≤ vec_capacity out.new }
+    ensures { Appended out.old out.new (mark_text ending.now value) }
 {
     put(out, b"mark");
     put_number(out, u64::from(ending.stream));
@@ -61,8 +59,7 @@ pub(crate) fn put_mark(out: &mut Vec<u8>, ending: &Ending, value: u32)
 #[tactic(auto, unfolding(crate::specs::Lines::dump_text))]
 pub(crate) fn put_dump(out: &mut Vec<u8>, stream: u32, place: u32, index: u32, value: u32)
     requires { vec_len out.old + OTHER ≤ vec_capacity out.old }
-    ensures items { out.new.items ≡ out.old.items ++ dump_text stream place index value }
-    ensures room { vec_capacity out.old ≤ vec_capacity out.new }
+    ensures { Appended out.old out.new (dump_text stream place index value) }
 {
     put(out, b"dump");
     put_number(out, u64::from(stream));
@@ -77,8 +74,7 @@ pub(crate) fn put_dump(out: &mut Vec<u8>, stream: u32, place: u32, index: u32, v
 #[tactic(auto, unfolding(crate::specs::Lines::view_text))]
 pub(crate) fn put_view(out: &mut Vec<u8>, viewer: u32, events: u32, sum: u32)
     requires { vec_len out.old + OTHER ≤ vec_capacity out.old }
-    ensures items { out.new.items ≡ out.old.items ++ view_text viewer events sum }
-    ensures room { vec_capacity out.old ≤ vec_capacity out.new }
+    ensures { Appended out.old out.new (view_text viewer events sum) }
 {
     put(out, b"view");
     put_number(out, u64::from(viewer));

@@ -1,5 +1,6 @@
-ghost use Rattle.std.specs.Prelude.{◌≡◌, ◌+◌, ◌*◌, ◌≤◌, ◌++◌, ◌∷◌, length, vec_len, vec_capacity};
+ghost use Rattle.std.specs.Prelude.{◌≡◌, ◌+◌, ◌*◌, ◌≤◌, ◌∷◌, length, vec_len, vec_capacity};
 ghost use Rattle.std.specs.List.{flat_map};
+ghost use Rattle.journal_text.specs.Appended.{Appended};
 ghost use Rattle.journal_text.specs.Digits.{hex8};
 ghost use Rattle.journal_text.specs.Picture.{head_text, row_text};
 
@@ -16,8 +17,7 @@ pub(crate) const TEXEL: usize = 9;
 #[tactic(auto, unfolding(crate::specs::Picture::head_text))]
 pub(crate) fn put_head(out: &mut Vec<u8>, image: u32, width: u32, height: u32)
     requires { vec_len out.old + HEAD ≤ vec_capacity out.old }
-    ensures items { out.new.items ≡ out.old.items ++ head_text image width height }
-    ensures room { vec_capacity out.old ≤ vec_capacity out.new }
+    ensures { Appended out.old out.new (head_text image width height) }
 {
     put(out, b"image");
     put_number(out, u64::from(image));
@@ -29,10 +29,8 @@ pub(crate) fn put_head(out: &mut Vec<u8>, image: u32, width: u32, height: u32)
 // Appends a space and a texel for each of the texels.
 fn put_texels(out: &mut Vec<u8>, texels: &[u32])
     requires { vec_len out.old + TEXEL * length texels.now ≤ vec_capacity out.old }
-    ensures items { out.new.items
-        ≡ out.old.items ++ flat_map (λ texel. 32 ∷ hex8 texel) texels.now }
+    ensures text { Appended out.old out.new (flat_map (λ texel. 32 ∷ hex8 texel) texels.now) }
     ensures len { vec_len out.new ≡ vec_len out.old + TEXEL * length texels.now }
-    ensures room { vec_capacity out.old ≤ vec_capacity out.new }
 {
     for texel in texels {
         put(out, &spaced_hex(*texel));
@@ -43,8 +41,7 @@ fn put_texels(out: &mut Vec<u8>, texels: &[u32])
 #[tactic(auto, unfolding(crate::specs::Picture::row_text))]
 pub(crate) fn put_row(out: &mut Vec<u8>, texels: &[u32])
     requires { vec_len out.old + TEXEL * length texels.now + 1 ≤ vec_capacity out.old }
-    ensures items { out.new.items ≡ out.old.items ++ row_text texels.now }
-    ensures room { vec_capacity out.old ≤ vec_capacity out.new }
+    ensures { Appended out.old out.new (row_text texels.now) }
 {
     match texels {
         [] => out.push_reserved(b'\n'),

@@ -1,4 +1,5 @@
-ghost use Rattle.std.specs.Prelude.{◌≡◌, ◌+◌, ◌≤◌, ◌++◌, vec_len, vec_capacity};
+ghost use Rattle.std.specs.Prelude.{◌+◌, ◌≤◌, vec_len, vec_capacity};
+ghost use Rattle.journal_text.specs.Appended.{Appended};
 ghost use Rattle.journal_text.specs.Text.{end_text, errors_text, tally_text, stream_text};
 
 use crate::digits::put_number;
@@ -22,9 +23,8 @@ const TALLY: usize = 182;
 // Appends how a stream ended.
 fn put_end(out: &mut Vec<u8>, end: End)
     requires { vec_len out.old + END ≤ vec_capacity out.old }
-    ensures items { out.new.items ≡ out.old.items ++ end_text end }
+    ensures text { Appended out.old out.new (end_text end) }
     ensures few { vec_len out.new ≤ vec_len out.old + END }
-    ensures room { vec_capacity out.old ≤ vec_capacity out.new }
 {
     match end {
         End::Done => put(out, b" done"),
@@ -39,9 +39,8 @@ fn put_end(out: &mut Vec<u8>, end: End)
 // Appends how many errors of each kind there were.
 fn put_errors(out: &mut Vec<u8>, errors: (u32, u32, u32))
     requires { vec_len out.old + ERRORS ≤ vec_capacity out.old }
-    ensures items { out.new.items ≡ out.old.items ++ errors_text errors }
+    ensures text { Appended out.old out.new (errors_text errors) }
     ensures few { vec_len out.new ≤ vec_len out.old + ERRORS }
-    ensures room { vec_capacity out.old ≤ vec_capacity out.new }
 {
     put(out, b" errors");
     put_number(out, u64::from(errors.0));
@@ -52,9 +51,8 @@ fn put_errors(out: &mut Vec<u8>, errors: (u32, u32, u32))
 // Appends what a stream counted.
 fn put_tally(out: &mut Vec<u8>, tally: &Tally)
     requires { vec_len out.old + TALLY ≤ vec_capacity out.old }
-    ensures items { out.new.items ≡ out.old.items ++ tally_text tally.now }
+    ensures text { Appended out.old out.new (tally_text tally.now) }
     ensures few { vec_len out.new ≤ vec_len out.old + TALLY }
-    ensures room { vec_capacity out.old ≤ vec_capacity out.new }
 {
     put(out, b" entries");
     put_number(out, tally.entries);
@@ -71,8 +69,7 @@ fn put_tally(out: &mut Vec<u8>, tally: &Tally)
 #[tactic(auto, unfolding(crate::specs::Text::stream_text))]
 pub(crate) fn put_stream(out: &mut Vec<u8>, stream: u32, tally: &Tally, end: End)
     requires { vec_len out.old + STREAM ≤ vec_capacity out.old }
-    ensures items { out.new.items ≡ out.old.items ++ stream_text stream tally.now end }
-    ensures room { vec_capacity out.old ≤ vec_capacity out.new }
+    ensures { Appended out.old out.new (stream_text stream tally.now end) }
 {
     put(out, b"stream");
     put_number(out, u64::from(stream));
