@@ -1,10 +1,12 @@
 -- What the house keeps of one stream beside its waits, and what a run of it carries.
-use Rattle.std.specs.Prelude.{◌≡◌, ℕ, zero, suc, ◌<◌, Bool, false, List, [], ◌∷◌, slice_index_or, if◌then◌else◌, Option, MatchOption}
+use Rattle.std.specs.Prelude.{◌≡◌, ℕ, zero, suc, ◌<◌, Bool, false, List, [], ◌∷◌, slice_index_or, if◌then◌else◌}
 use Rattle.atomic_table.specs.Seated.{TableId}
 use Rattle.gpu_books.specs.Seen.{HalfData, no_book}
 use Rattle.gpu_cmd.specs.declared.areas.Areas.{Areas}
 use Rattle.gpu_cmd.specs.declared.facts.StreamFacts.{StreamFacts}
 use Rattle.stream_state.specs.State.{State, first_state, facts_of}
+use Rattle.house_core.specs.declared.desk.OtherHalf.{OtherHalf}
+use Rattle.house_core.specs.declared.desk.OtherHalf.TheVariants as other
 use Rattle.house_core.specs.declared.walk.Walk.{Walk}
 use Rattle.house_core.specs.Walks.{start}
 
@@ -16,6 +18,11 @@ pub record Out : Type 0 where
 -- no run is out
 abbrev pub at_home : Out
 at_home = record { order = 0; paused = false }
+
+-- the run that is out, by where the other half of its stream's book is
+abbrev pub out_of : OtherHalf → Out
+out_of (other.Home half) = at_home
+out_of (other.Out order paused) = record { order = order; paused = paused }
 
 -- its book, where its flushes stand, its state, how many of its flushes are ordered and how many are finished, its greatest
 -- token, whether it is lost, whether it is closed, how far its client was found to come, and the run that is out
@@ -77,22 +84,19 @@ flag b = if b then 1 else 0
 abbrev pub book_numbers : ℕ → ℕ → ℕ → ℕ → Out → List ℕ
 book_numbers entries fetched finished greatest out = entries ∷ fetched ∷ finished ∷ greatest ∷ out.order ∷ flag out.paused ∷ []
 
--- by what a run carries
-abbrev pub carried_numbers : RunData → List ℕ
-carried_numbers run = book_numbers run.entries run.facts.fetched run.finished run.greatest record { order = run.order; paused = run.paused }
-
--- by what the house keeps
-abbrev pub kept_numbers : DeskData → List ℕ
-kept_numbers desk = book_numbers desk.state.entries desk.state.fetched desk.finished desk.greatest desk.out
-
 -- a half of the desk's book with its numbers
 abbrev pub kept_half : DeskData → HalfData
-kept_half desk = record { book = desk.book; numbers = kept_numbers desk }
+kept_half desk = record { book = desk.book; numbers = book_numbers desk.state.entries desk.state.fetched desk.finished desk.greatest desk.out }
 
--- the clause `books`: both halves have the numbers of the desk, and the one at home says that no run is out
-pub record AreBooked (kept : HalfData) (home : Option HalfData) (desk : DeskData) : Type 0 where
-  pub half_kept : kept ≡ kept_half desk
-  pub half_home : MatchOption home (0 < desk.out.order) (λ half. (half ≡ kept_half desk) × (desk.out ≡ at_home))
+-- the other half is at home and is this one, or it is with a run that has an order
+abbrev pub IsHomeOrOut : OtherHalf → HalfData → Type 0
+IsHomeOrOut (other.Home half) kept = half ≡ kept
+IsHomeOrOut (other.Out order paused) kept = 0 < order
+
+-- both halves are of this book and have these numbers
+pub record AreBooked (book : TableId) (numbers : List ℕ) (kept : HalfData) (half : OtherHalf) : Type 0 where
+  pub half_kept : kept ≡ record { book = book; numbers = numbers }
+  pub half_other : IsHomeOrOut half kept
 
 -- what a run carries agrees with what the house keeps of its stream
 pub record Agree (run : RunData) (desk : DeskData) : Type 0 where

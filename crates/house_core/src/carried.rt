@@ -6,12 +6,13 @@ ghost use Rattle.step_parts.specs.Executing.{areas_of, IsReady, Executes};
 ghost use Rattle.house_core.specs.Stepping.{stepped_desk};
 ghost use Rattle.stream_state.specs.State.{facts_of};
 
-use crate::desk::{Desk, note, numbers};
+use crate::desk::{Desk, OtherHalf, note, numbers};
 use gpu_books::Half;
 use gpu_cmd::StreamFacts;
 use gpu_plan::Plan;
 use gpu_word::Memory;
 use std::marker::Model;
+use std::snapshot::Snapshot;
 use step_parts::{Acted, Scene, Taken, act};
 use stream_state::{Effect, StreamState};
 
@@ -20,55 +21,45 @@ use stream_state::{Effect, StreamState};
 pub struct Carried {
     stream: u32,
     order: u32,
-    place: u32,
+    // For contracts alone, as the numbers of the half are.
+    place: Snapshot<u32>,
     facts: StreamFacts,
-    entries: u64,
-    finished: u32,
-    greatest: u32,
     paused: bool,
     half: Half,
 }
 
 impl Model for Carried {
-    ghost use Rattle.std.specs.Prelude.{◌≡◌, ◌<◌, ◌%◌};
+    ghost use Rattle.std.specs.Prelude.{◌≡◌, ◌<◌, ◌%◌, slice_index};
     ghost use Rattle.gpu_cmd.specs.Lawful.{IsLawfulFacts};
-    ghost use Rattle.house_core.specs.Desks.{RunData, carried_numbers};
+    ghost use Rattle.house_core.specs.Desks.{RunData, book_numbers};
 
     ghost Value = { RunData };
 
     ghost view = { λ r. record {
       stream = r.stream;
       order = r.order;
-      place = r.place;
+      place = r.place.value;
       facts = r.facts;
-      entries = r.entries;
-      finished = r.finished;
-      greatest = r.greatest;
+      entries = slice_index r.half.numbers 0;
+      finished = slice_index r.half.numbers 2;
+      greatest = slice_index r.half.numbers 3;
       paused = r.paused;
       book = r.half.book;
     } };
 
     ghost invariant = { λ r. (0 < r.order) × IsLawfulFacts r.facts
-        × (r.facts.get ≡ r.entries % r.facts.areas.ring)
+        × (r.facts.get ≡ slice_index r.half.numbers 0 % r.facts.areas.ring)
         × (r.half.numbers
-        ≡ carried_numbers
-        (record {
-          stream = r.stream;
-          order = r.order;
-          place = r.place;
-          facts = r.facts;
-          entries = r.entries;
-          finished = r.finished;
-          greatest = r.greatest;
-          paused = r.paused;
-          book = r.half.book;
-        })) };
+        ≡ book_numbers (slice_index r.half.numbers 0) r.facts.fetched
+        (slice_index r.half.numbers 2) (slice_index r.half.numbers 3)
+        (record { order = r.order; paused = r.paused })) };
 }
 
 // The facts of the next command, once the state of the stream went on.
 fn refresh(facts: &mut StreamFacts, state: &StreamState)
     requires { IsLawfulFacts facts.old }
-    ensures { facts.new ≡ facts_of facts.old.areas facts.old.put state.now }
+    ensures facts { facts.new ≡ facts_of facts.old.areas facts.old.put state.now }
+    ensures lawful { IsLawfulFacts facts.new }
 {
     facts.get = (state.entries() % u64::from(facts.areas.ring)) as u32;
     facts.fetched = state.fetched();
@@ -175,11 +166,8 @@ impl Carried {
         Carried {
             stream,
             order,
-            place,
+            place: Snapshot::of(&place),
             facts: desk.state().facts(plan.areas(), put),
-            entries: desk.state().entries(),
-            finished: desk.finished(),
-            greatest: desk.greatest(),
             paused: false,
             half,
         }
@@ -210,13 +198,12 @@ impl Carried {
         let acted = act(scene, &mut desk.state, taken)?;
         let paused = acted.kept;
         let greatest = greatest_after(&acted.effect, desk.greatest);
-        let numbers = numbers(&desk.state, desk.finished, greatest, desk.out, paused);
+        let order = self.order;
+        let numbers = numbers(&desk.state, desk.finished, greatest, order, paused);
         note(&desk.book, &mut desk.kept, &mut self.half, &numbers);
         desk.greatest = greatest;
-        desk.paused = paused;
-        self.entries = desk.state.entries();
+        desk.other = OtherHalf::Out { order, paused };
         refresh(&mut self.facts, &desk.state);
-        self.greatest = greatest;
         self.paused = paused;
         Ok(acted)
     }

@@ -10,16 +10,24 @@ use gpu_books::{Book, Half, agree, set};
 use gpu_plan::Action;
 use std::alloc::Global;
 use std::marker::Model;
+use std::mem;
 use stream_state::StreamState;
 
-/// What the house keeps of one stream beside its waits.
-///
-/// The book has one half here. The other lies here too while no run of the stream is out, and else with that run.
+/// Where the half of a book is that a run takes along.
+#[derive(Drop)]
+pub enum OtherHalf {
+    /// No run of the stream is out.
+    Home(Half),
+    /// With the run of this order, whose latest step may have been answered Paused.
+    Out { order: u32, paused: bool },
+}
+
+/// What the house keeps of one stream beside its waits, and one half of its book.
 #[derive(Drop)]
 pub struct Desk {
     pub(crate) book: Book,
     pub(crate) kept: Half,
-    home: Option<Half>,
+    pub(crate) other: OtherHalf,
     places: Vec<u32>,
     pub(crate) state: StreamState,
     ordered: u32,
@@ -28,12 +36,10 @@ pub struct Desk {
     lost: bool,
     closed: bool,
     walk: Walk,
-    pub(crate) out: u32,
-    pub(crate) paused: bool,
 }
 
 impl Model for Desk {
-    ghost use Rattle.house_core.specs.Desks.{DeskData, AreBooked};
+    ghost use Rattle.house_core.specs.Desks.{DeskData, out_of, book_numbers, AreBooked};
 
     ghost Value = { DeskData };
 
@@ -47,22 +53,12 @@ impl Model for Desk {
       lost = d.lost;
       closed = d.closed;
       walk = d.walk;
-      out = record { order = d.out; paused = d.paused };
+      out = out_of d.other;
     } };
 
-    ghost invariant = { λ d. AreBooked d.kept d.home
-        record {
-          book = d.book;
-          places = d.places.items;
-          state = d.state;
-          ordered = d.ordered;
-          finished = d.finished;
-          greatest = d.greatest;
-          lost = d.lost;
-          closed = d.closed;
-          walk = d.walk;
-          out = record { order = d.out; paused = d.paused };
-        } };
+    ghost invariant = { λ d. AreBooked d.book
+        (book_numbers d.state.entries d.state.fetched d.finished d.greatest (out_of d.other))
+        d.kept d.other };
 }
 
 /// The numbers of a book whose run that is out has this order, or none where it is 0.
@@ -107,7 +103,7 @@ impl Desk {
         Desk {
             book,
             kept,
-            home: Some(home),
+            other: OtherHalf::Home(home),
             places,
             state: StreamState::make(alloc),
             ordered: 0,
@@ -116,8 +112,6 @@ impl Desk {
             lost: false,
             closed: false,
             walk: Walk::start(),
-            out: 0,
-            paused: false,
         }
     }
 
@@ -251,12 +245,14 @@ impl Desk {
         ensures home { self.old.out ≡ at_home }
     {
         let numbers = numbers(&self.state, self.finished, self.greatest, order, false);
-        let Some(mut half) = self.home.take() else {
+        let out = OtherHalf::Out {
+            order,
+            paused: false,
+        };
+        let OtherHalf::Home(mut half) = mem::replace(&mut self.other, out) else {
             unreachable!()
         };
         note(&self.book, &mut self.kept, &mut half, &numbers);
-        self.out = order;
-        self.paused = false;
         half
     }
 
@@ -267,9 +263,7 @@ impl Desk {
     {
         let numbers = numbers(&self.state, self.finished, self.greatest, 0, false);
         note(&self.book, &mut self.kept, &mut half, &numbers);
-        self.home = Some(half);
-        self.out = 0;
-        self.paused = false;
+        self.other = OtherHalf::Home(half);
     }
 
     /// A half comes home, and one more flush is finished.
@@ -281,8 +275,6 @@ impl Desk {
         self.finished += 1;
         let numbers = numbers(&self.state, self.finished, self.greatest, 0, false);
         note(&self.book, &mut self.kept, &mut half, &numbers);
-        self.home = Some(half);
-        self.out = 0;
-        self.paused = false;
+        self.other = OtherHalf::Home(half);
     }
 }
