@@ -115,7 +115,7 @@ impl Carried {
     }
 
     /// A run has what the desk of its book has.
-    pub fn meet(&mut self, desk: &mut Desk)
+    pub fn shows_desk(&mut self, desk: &mut Desk)
         requires { self.old.book ≡ desk.old.book }
         ensures desk { desk.new ≡ desk.old }
         ensures run { self.new ≡ self.old }
@@ -123,7 +123,7 @@ impl Carried {
         ensures get { self.old.facts.get ≡ self.old.entries % self.old.facts.areas.ring }
         ensures agree { Agree self.old desk.old }
     {
-        desk.meet(&mut self.half);
+        desk.shows_half(&mut self.half);
     }
 
     /// The run comes home.

@@ -204,7 +204,7 @@ impl Desk {
     }
 
     /// A half that is out has the numbers of the desk.
-    pub fn meet(&mut self, half: &mut Half)
+    pub fn shows_half(&mut self, half: &mut Half)
         requires { half.old.book ≡ self.old.book }
         ensures desk { self.new ≡ self.old }
         ensures half { half.new ≡ half.old }

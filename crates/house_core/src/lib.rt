@@ -12,7 +12,7 @@
 //!   executes, or loses its stream by the verdict on what was fetched. `finish`, `lose_client` and `close` come where the
 //!   rules let them.
 //! - A run leaves with `Carried`: what the next command is judged by, and one half of the book. It comes back to `step`,
-//!   `finish`, `back` or `lose`, where `meet` reads both halves. So a run that comes back is what the journal says of its
+//!   `finish`, `back` or `lose`, where `shows_run` reads both halves. So a run that comes back is what the journal says of its
 //!   stream.
 //! - No run is handed out twice. With all streams at home none can be taken exactly where no number is left.
 //! - All memory of a step is taken before anything changes, so where memory runs out nothing has changed. Finishes, losses,

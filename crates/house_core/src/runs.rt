@@ -57,7 +57,7 @@ impl Core {
     }
 
     /// What a run carries is what the house keeps, and that is what the journal says.
-    pub fn meet(&mut self, run: &mut Carried)
+    pub fn shows_run(&mut self, run: &mut Carried)
         requires plan { IsOfPlans self.old.plans run.old }
         requires book { run.old.book ≡ book_at self.old.books run.old.stream }
         ensures core { self.new ≡ self.old }
@@ -73,7 +73,7 @@ impl Core {
         ensures legal { IsLegal self.old.plans self.old.past }
     {
         let desk = &mut self.desks[run.stream() as usize - 1];
-        run.meet(desk);
+        run.shows_desk(desk);
     }
 
     /// Takes a run back. The journal stays.
@@ -88,7 +88,7 @@ impl Core {
         ensures shows { is_open (standing_of self.old.plans self.old.past run.stream) ≡ true
             → IsRunOf self.old.plans self.old.past run }
     {
-        self.meet(&mut run);
+        self.shows_run(&mut run);
         let stream = run.stream();
         let Core {
             scheduler,
@@ -148,7 +148,7 @@ impl Core {
         ensures shows { is_open (standing_of self.old.plans self.old.past run.stream) ≡ true
             → IsRunOf self.old.plans self.old.past run }
     {
-        self.meet(&mut run);
+        self.shows_run(&mut run);
         if self.is_open(run.stream()) {
             self.enter_finish(run);
         } else {
@@ -171,7 +171,7 @@ impl Core {
         ensures shows { is_open (standing_of self.old.plans self.old.past run.stream) ≡ true
             → IsRunOf self.old.plans self.old.past run }
     {
-        self.meet(&mut run);
+        self.shows_run(&mut run);
         self.lose_client(run.stream());
         self.back(run);
     }

@@ -105,7 +105,7 @@ impl Core {
         ensures err { OnErr result (Stays self.old self.new) }
         ensures same { OnErr result (run.new ≡ run.old) }
     {
-        self.meet(run);
+        self.shows_run(run);
         let stream = run.stream();
         if self.is_lost(stream) {
             return Ok(Stepped::Lost);

@@ -13,13 +13,13 @@ module _ (c : goal.After-self-1) where
   now = parts_of c.self.inside
 
   was : seen now ≡ c.args.self.now
-  was = c.self.view_is ∙ c.meet.ensures.core
+  was = c.self.view_is ∙ c.shows_run.ensures.core
 
   abbrev s : ℕ
   s = c.stream-stream.result
 
   stream : s ≡ c.args.run.stream
-  stream = c.stream-stream.ensures ∙ ap (λ (run : RunData). run.stream) c.meet.ensures.run
+  stream = c.stream-stream.ensures ∙ ap (λ (run : RunData). run.stream) c.shows_run.ensures.run
 
   place : Place now s
   place = place_of_run now _ s c.args.run was c.self.invariant stream c.requires.plan

@@ -39,33 +39,33 @@ module _ (v now : CoreData) (run met : RunData) (s : ℕ) (core : now ≡ v) (sa
 pub enter_step-requires-clause-obeys : goal.enter_step-requires-clause-obeys
 enter_step-requires-clause-obeys c =
     let v = c.args.self.now in
-    let now = c.meet.new.self in
+    let now = c.shows_run.new.self in
     let run = c.args.run.now in
-    let met = c.meet.new.run in
+    let met = c.shows_run.new.run in
     let s = c.stream-stream.result in
     let words = c.args.fetched.now.words in
-    let core = c.meet.ensures.core in
-    let same = c.meet.ensures.run in
+    let core = c.shows_run.ensures.core in
+    let same = c.shows_run.ensures.run in
     let stream = c.stream-stream.ensures in
     let open' = open_there v now run met s core same stream c.is_lost.result c.is_closed.result c.is_lost.ensures c.if-is_lost.false c.is_closed.ensures c.if-is_closed.false in
-    let is = fetched_for v.plans v.past run c.args.fetched.now.facts c.words-words.result.now words c.requires.plan.known open' c.meet.ensures.shows c.meet.ensures.runs c.requires.going c.requires.facts c.words-words.ensures.more c.words-words.ensures.copy.places c.words-words.ensures.value c.requires.may in
+    let is = fetched_for v.plans v.past run c.args.fetched.now.facts c.words-words.result.now words c.requires.plan.known open' c.shows_run.ensures.shows c.shows_run.ensures.runs c.requires.going c.requires.facts c.words-words.ensures.more c.words-words.ensures.copy.places c.words-words.ensures.value c.requires.may in
     step_there v now run met s core same stream c.words-words.result.now words c.words-words.ensures.value
-    (fetched_step_obeys v.plans v.past run c.args.fetched.now.facts words is c.in-Ok.command c.meet.ensures.lawful c.meet.ensures.legal
+    (fetched_step_obeys v.plans v.past run c.args.fetched.now.facts words is c.in-Ok.command c.shows_run.ensures.lawful c.shows_run.ensures.legal
     (judged v now run met s core same stream words (Ok c.in-Ok.command) c.in-Ok.ensures.verdict))
 
 pub enter_lost-requires-clause-obeys : goal.enter_lost-requires-clause-obeys
 enter_lost-requires-clause-obeys c =
     let v = c.args.self.now in
-    let now = c.meet.new.self in
+    let now = c.shows_run.new.self in
     let run = c.args.run.now in
-    let met = c.meet.new.run in
+    let met = c.shows_run.new.run in
     let s = c.stream-stream.result in
     let words = c.args.fetched.now.words in
-    let core = c.meet.ensures.core in
-    let same = c.meet.ensures.run in
+    let core = c.shows_run.ensures.core in
+    let same = c.shows_run.ensures.run in
     let stream = c.stream-stream.ensures in
     let open' = open_there v now run met s core same stream c.is_lost.result c.is_closed.result c.is_lost.ensures c.if-is_lost.false c.is_closed.ensures c.if-is_closed.false in
-    let is = fetched_for v.plans v.past run c.args.fetched.now.facts c.words-words.result.now words c.requires.plan.known open' c.meet.ensures.shows c.meet.ensures.runs c.requires.going c.requires.facts c.words-words.ensures.more c.words-words.ensures.copy.places c.words-words.ensures.value c.requires.may in
+    let is = fetched_for v.plans v.past run c.args.fetched.now.facts c.words-words.result.now words c.requires.plan.known open' c.shows_run.ensures.shows c.shows_run.ensures.runs c.requires.going c.requires.facts c.words-words.ensures.more c.words-words.ensures.copy.places c.words-words.ensures.value c.requires.may in
     lost_there v now run met s core same stream c.in-Err.error c.words-words.result.now words c.words-words.ensures.value
-    (fetched_error_obeys v.plans v.past run c.args.fetched.now.facts words is c.in-Err.error c.meet.ensures.lawful c.meet.ensures.legal
+    (fetched_error_obeys v.plans v.past run c.args.fetched.now.facts words is c.in-Err.error c.shows_run.ensures.lawful c.shows_run.ensures.legal
     (judged v now run met s core same stream words (Err c.in-Err.error) c.in-Err.ensures.verdict))
