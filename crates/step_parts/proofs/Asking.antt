@@ -1,5 +1,5 @@
 -- What a step of a stream's own state answers: its step tells what it writes, and counts no error.
-use Rattle.std.proofs.Common.{◌≡◌, ◌<◌, Result, Ok, Err, List, [], ◌∷◌, get_or, ℕ, refl, sym, ap, subst, ◌∙◌}
+use Rattle.std.proofs.Common.{◌≡◌, ◌<◌, ◌≤◌, Result, Ok, Err, List, [], ◌∷◌, get_or, ℕ, refl, sym, ap, subst, ◌∙◌}
 use Rattle.std.specs.Prelude.{IfOk, OnOk}
 use Rattle.std.specs.List.{All}
 use Rattle.gpu_cmd.specs.declared.areas.Areas.{Areas}
@@ -14,9 +14,19 @@ use Rattle.stream_state.specs.Writes.{Writes}
 use Rattle.stream_state.proofs.Telling.{effects_tell}
 use Rattle.stream_state.proofs.Places.{writes_are_there}
 use Rattle.stream_state.proofs.Runs.{stepped_errors}
+use Rattle.gpu_journal.specs.Replaying.{total_errors}
 use Rattle.gpu_journal.proofs.Worlds.{few_errors}
 use Rattle.step_parts.specs.declared.taken.Taken.{Taken}
-use Rattle.step_parts.specs.Executing.{areas_of, HasPassed, Asks}
+use Rattle.step_parts.specs.Executing.{areas_of, asks, HasPassed}
+
+-- what the step of a stream's own state answers, and the state that it leaves
+pub record Asks (taken : Taken) (before after : State) (asked : Effect) : Type 0 where
+  pub effect : asked ≡ asks taken before
+  pub writes : writes_told asked ≡ writes (areas_of taken) taken.words.now before
+  pub places : All (λ write. write.0 < words_in (areas_of taken).results) (writes_told asked)
+  pub texels : BringsItsTexels asked
+  pub state : after ≡ stepped (areas_of taken) taken.words.now before
+  pub few : total_errors after.errors ≤ 1048576
 
 -- the header is the value of the first word
 pub first_value : (words : List (ℕ × ℕ)) → (get_or words 0 (0, 0)).1 ≡ header_in words
