@@ -20,17 +20,17 @@ use Rattle.house_core.specs.Desks.{RunData, at_home}
 use Rattle.house_core.specs.Core.{CoreData, Stays, Grows, KeepsJournal, IsOfCore, IsAway, IsRunOf, out_at, with_out}
 
 -- a run left: it is what the journal says, its stream was at home, and it is away now
-pub record Leaves (old new : CoreData) (run : RunData) : Type 0 where
-  pub own : IsOfCore old run
-  pub run : IsRunOf old.plans old.past run
-  pub going : run.paused ≡ false
-  pub home : out_at old.outs run.stream ≡ at_home
-  pub outs : new.outs ≡ with_out old.outs run.stream record { order = run.order; paused = false }
-  pub away : IsAway new run
+pub record Leaves (old new : CoreData) (out : RunData) : Type 0 where
+  pub own : IsOfCore old out
+  pub run : IsRunOf old.plans old.past out
+  pub going : out.paused ≡ false
+  pub home : out_at old.outs out.stream ≡ at_home
+  pub outs : new.outs ≡ with_out old.outs out.stream record { order = out.order; paused = false }
+  pub away : IsAway new out
 
 -- a run that was out came home, and where its stream was open the journal notes this event
-pub record ComesHome (old new : CoreData) (run : RunData) (event : Event) : Type 0 where
-  pub event : is_open (standing_of old.plans old.past run.stream) ≡ true → Grows old new event
+pub record ComesHome (old new : CoreData) (run : RunData) (e : Event) : Type 0 where
+  pub event : is_open (standing_of old.plans old.past run.stream) ≡ true → Grows old new e
   pub over : is_open (standing_of old.plans old.past run.stream) ≡ false → KeepsJournal old new
   pub outs : new.outs ≡ with_out old.outs run.stream at_home
   pub away : IsAway old run

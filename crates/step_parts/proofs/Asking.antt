@@ -1,6 +1,5 @@
 -- What a step of a stream's own state answers: its step tells what it writes, and counts no error.
-use Rattle.std.proofs.Common.{◌≡◌, ◌<◌, ◌≤◌, Result, Ok, Err, List, [], ◌∷◌, get_or, ℕ, refl, sym, ap, subst, ◌∙◌}
-use Rattle.std.specs.Prelude.{IfOk, OnOk}
+use Rattle.std.proofs.Common.{◌≡◌, ◌<◌, ◌≤◌, List, [], ◌∷◌, get_or, ℕ, refl, sym, ap, subst, ◌∙◌}
 use Rattle.std.specs.List.{All}
 use Rattle.gpu_cmd.specs.declared.areas.Areas.{Areas}
 use Rattle.gpu_cmd.specs.Lawful.{IsLawfulAreas}
@@ -33,11 +32,9 @@ pub first_value : (words : List (ℕ × ℕ)) → (get_or words 0 (0, 0)).1 ≡ 
 first_value [] = refl
 first_value (word ∷ words) = refl
 
-pub asked : {E : Type 0} (taken : Taken) (areas : Areas) (state left : State) (result : Result Effect E) → HasPassed taken state
-    → IsLawfulAreas areas → areas ≡ areas_of taken → IfOk result (λ given. given ≡ effect areas taken.words.now state)
-    → IfOk result BringsItsTexels → OnOk result (left ≡ stepped areas taken.words.now state) → IfOk result (Asks taken state left)
-asked taken areas state left (Err e) passed lawful same is texels after = tt
-asked taken areas state left (Ok given) passed lawful same is texels after =
+pub asked : (taken : Taken) (areas : Areas) (state left : State) (given : Effect) → HasPassed taken state → IsLawfulAreas areas → areas ≡ areas_of taken → given ≡ effect areas taken.words.now state
+    → BringsItsTexels given → left ≡ stepped areas taken.words.now state → Asks taken state left given
+asked taken areas state left given passed lawful same is texels after =
     let own = areas_of taken in
     let words = taken.words.now in
     let effect_is : given ≡ effect own words state = is ∙ ap (λ (a : Areas). effect a words state) same in

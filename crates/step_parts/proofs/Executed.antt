@@ -1,5 +1,5 @@
 -- What was taken is executed, by what its command claims.
-use Rattle.std.proofs.Common.{◌≡◌, ◌∷◌, ℕ, Bool, List, Option, Some, false, length, refl, sym, ap, subst, ◌∙◌}
+use Rattle.std.proofs.Common.{◌≡◌, ◌∷◌, ℕ, Bool, List, Option, Some, None, false, length, refl, sym, ap, subst, ◌∙◌}
 use Rattle.gpu_store.specs.declared.op.Op.{Op}
 use Rattle.gpu_store.specs.declared.op.Answer.{Answer}
 use Rattle.gpu_store.specs.declared.op.Answer.TheVariants.{Done}
@@ -7,13 +7,11 @@ use Rattle.gpu_store.specs.Images.{Applied, apply}
 use Rattle.stream_state.specs.declared.effect.Effect.{Effect}
 use Rattle.stream_state.specs.declared.effect.Effect.TheVariants.{Nothing, Token, Release, Wait, WaitName, Pixels, Results}
 use Rattle.stream_state.specs.State.{State, noted}
-use Rattle.sync_core.specs.Events.{Deed, SyncEvent, Waited}
-use Rattle.sync_core.specs.Events.{happened}
+use Rattle.sync_core.specs.Events.{Deed, SyncEvent, Waited, happened}
 use Rattle.sync_core.specs.Core.{StandsFor}
 use Rattle.gpu_plan.specs.Plans.{PlansData}
 use Rattle.gpu_journal.specs.World.{drawn_by}
 use Rattle.gpu_journal.specs.Waits.{deed_asked}
-use Rattle.step_parts.specs.declared.acted.Acted.{Acted}
 use Rattle.step_parts.specs.declared.claim.Claim.TheVariants as claims
 use Rattle.step_parts.specs.declared.scene.Scene.{Scene}
 use Rattle.step_parts.specs.declared.taken.Taken.{Taken}
@@ -67,7 +65,7 @@ wait_claimed taken old new state kept t r made is images waits drawn count =
     )
 
 -- what is plain keeps no wait
-pub keeps_none : (p : PlansData) (taken : Taken) (scene : Scene) (effect : Effect) → IsPlain effect → keeps p scene.sync taken.stream effect ≡ false
+keeps_none : (p : PlansData) (taken : Taken) (scene : Scene) (effect : Effect) → IsPlain effect → keeps p scene.sync taken.stream effect ≡ false
 keeps_none p taken scene Nothing plain = refl
 keeps_none p taken scene (Token token) plain = refl
 keeps_none p taken scene (Release release) plain = refl
@@ -76,18 +74,29 @@ keeps_none p taken scene (WaitName name release) plain = absurd plain
 keeps_none p taken scene (Pixels op) plain = refl
 keeps_none p taken scene (Results writes) plain = refl
 
--- all that a step asked for is done
-pub executes : (taken : Taken) (old new : Scene) (state stepped left : State) (acted : Acted) → Asks taken state stepped acted.effect → Follows taken old new acted.effect → acted.answer ≡ (drawn_by acted.effect old.images).answer
-    → acted.kept ≡ keeps taken.plans.now old.sync taken.stream acted.effect → left ≡ noted acted.answer stepped → Executes taken old new state left acted
-executes taken old new state stepped left acted given follows answer kept after = record {
+-- all that a step asked for is done, was answered so, and its wait was kept or not
+abbrev pub Done : Taken → Scene → Scene → Effect → Answer × Bool → Type 0
+Done taken old new effect did = Follows taken old new effect × (did.0 ≡ (drawn_by effect old.images).answer) × (did.1 ≡ keeps taken.plans.now old.sync taken.stream effect)
+
+pub claimed_done : (taken : Taken) (old new : Scene) (state : State) (effect : Effect) (did : Answer × Bool) → effect ≡ asks taken state → MeetsClaim taken old new (asks taken state) (Some did) → Done taken old new effect did
+claimed_done taken old new state effect did is meets = subst (λ (e : Effect). Done taken old new e did) (sym is) (meets.1, meets.2, meets.3)
+
+pub plain_done : (taken : Taken) (old now new : Scene) (state : State) (effect : Effect) (answer : Answer) → effect ≡ asks taken state → MeetsClaim taken old now (asks taken state) None → answer ≡ (drawn_by effect now.images).answer
+    → Follows taken now new effect → Done taken old new effect (answer, false)
+plain_done taken old now new state effect answer is meets answered follows =
+    subst (λ (was : Scene). Done taken was new effect (answer, false)) meets.1 (follows, answered, sym (keeps_none taken.plans.now taken now effect (subst IsPlain (sym is) meets.0)))
+
+pub executes : (taken : Taken) (old new : Scene) (state stepped left : State) (effect : Effect) (did : Answer × Bool) → Asks taken state stepped effect → Done taken old new effect did → left ≡ noted did.0 stepped
+    → Executes taken old new state left record { effect = effect; answer = did.0; kept = did.1 }
+executes taken old new state stepped left effect did given done after = record {
   told = record {
     effect = given.effect;
-    answer = answer;
-    kept = kept;
+    answer = done.1;
+    kept = done.2;
     writes = given.writes;
     places = given.places;
     texels = given.texels;
   };
-  scene = follows;
-  state = after ∙ ap (noted acted.answer) given.state;
+  scene = done.0;
+  state = after ∙ ap (noted did.0) given.state;
 }
