@@ -12,7 +12,7 @@ use Rattle.step_parts.specs.Claims.{IsPlain}
 use Rattle.step_parts.specs.Executing.{areas_of, asks, MeetsClaim}
 use Rattle.step_parts.proofs.Plans.{areas_here}
 use Rattle.step_parts.proofs.Asking.{first_value, Asks, asked}
-use Rattle.step_parts.proofs.Executed.{Done, claimed_done, plain_done, executes}
+use Rattle.step_parts.proofs.Executed.{HasDone, claimed_done, plain_done, executes}
 use Rattle.step_parts.proofs.acting.act.Goals as goal
 use Rattle.step_parts.proofs.acting.act.Goals.{in-Some, in-None}
 
@@ -45,7 +45,7 @@ module _ (c : goal.In_ok-effect) where
   told : Asks c.args.taken.now c.args.state.now c.step.new.self c.in_ok-effect.effect
   told =
       let step = c.in_ok-effect.ensures in
-      asked c.args.taken.now c.areas-areas.result.now c.args.state.now c.step.new.self c.in_ok-effect.effect c.requires.ready.passed c.areas-areas.ensures.lawful (own_areas c.After-areas-areas) step.effect step.texels step.state
+      asked c.args.taken.now c.plan.result.now c.areas-areas.result.now c.args.state.now c.step.new.self c.in_ok-effect.effect c.requires.ready.passed c.plan.ensures c.areas-areas.ensures.value c.areas-areas.ensures.lawful step.effect step.texels step.state
 
   claimed : MeetsClaim c.args.taken.now c.args.scene.now c.meet_claim.new.scene (asks c.args.taken.now c.args.state.now) c.in_ok-claimed.claimed
   claimed = c.in_ok-claimed.ensures.meets c.args.state.now c.requires.ready.passed
@@ -73,13 +73,13 @@ returns c =
     let new = c.match-claimed.scene in
     let effect = c.in_ok-effect.effect in
     let meets = MeetsClaim taken old c.meet_claim.new.scene (asks taken c.args.state.now) in
-    let done : Done taken old new effect c.match-claimed.answer =
+    let done : HasDone taken old new effect c.match-claimed.answer =
     elim c.match-claimed.branch [
       | in-Some w ↦
-          subst (λ (scene : Scene). Done taken old scene effect c.match-claimed.answer) (sym w.scene-is) (subst (Done taken old c.meet_claim.new.scene effect) (sym w.answer-is)
+          subst (λ (scene : Scene). HasDone taken old scene effect c.match-claimed.answer) (sym w.scene-is) (subst (HasDone taken old c.meet_claim.new.scene effect) (sym w.answer-is)
           (claimed_done taken old c.meet_claim.new.scene c.args.state.now effect w.in-Some.did (told at).effect (subst meets w.in-Some.is (claimed at))))
       | in-None w ↦
-          subst (λ (scene : Scene). Done taken old scene effect c.match-claimed.answer) (sym w.scene-is) (subst (Done taken old w.follow.new.scene effect) (sym w.answer-is)
+          subst (λ (scene : Scene). HasDone taken old scene effect c.match-claimed.answer) (sym w.scene-is) (subst (HasDone taken old w.follow.new.scene effect) (sym w.answer-is)
           (plain_done taken old c.meet_claim.new.scene w.follow.new.scene c.args.state.now effect w.follow.result (told at).effect (subst meets w.in-None.is (claimed at)) w.follow.ensures.answer w.follow.ensures.scene))
     ] in
     record {
