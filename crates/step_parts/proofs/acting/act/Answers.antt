@@ -14,9 +14,9 @@ use Rattle.step_parts.proofs.Plans.{areas_here}
 use Rattle.step_parts.proofs.Asking.{first_value, Asks, asked}
 use Rattle.step_parts.proofs.Executed.{HasDone, claimed_done, plain_done, executes}
 use Rattle.step_parts.proofs.acting.act.Goals as goal
-use Rattle.step_parts.proofs.acting.act.Goals.{in-Some, in-None}
+use Rattle.step_parts.proofs.acting.act.Goals.{in-Some, in-None, After-areas-areas, In_ok-effect}
 
-own_areas : (c : goal.After-areas-areas) → c.areas-areas.result.now ≡ areas_of c.args.taken.now
+own_areas : (c : After-areas-areas) → c.areas-areas.result.now ≡ areas_of c.args.taken.now
 own_areas c =
     let me = c.args.taken.now in
     areas_here me.plans.now me.stream c.plan.result.now c.areas-areas.result.now c.requires.ready.passed.known c.plan.ensures c.areas-areas.ensures.value
@@ -41,7 +41,7 @@ step-requires-clause-accepted c =
     (subst (λ (n : ℕ). IsAccepted (areas_of me) words state me.command.now n) (sym sized)
     (subst (λ (k : Command). IsAccepted (areas_of me) words state k (size_of (header_in words))) (sym passed.command) passed.accepted.accepted))
 
-module _ (c : goal.In_ok-effect) where
+module _ (c : In_ok-effect) where
   told : Asks c.args.taken.now c.args.state.now c.step.new.self c.in_ok-effect.effect
   told =
       let step = c.in_ok-effect.ensures in
