@@ -11,7 +11,6 @@ use Rattle.sync_core.specs.Events.{Deed, SyncEvent, Waited, happened}
 use Rattle.sync_core.specs.Core.{StandsFor}
 use Rattle.gpu_plan.specs.Plans.{PlansData}
 use Rattle.gpu_journal.specs.World.{drawn_by}
-use Rattle.gpu_journal.specs.Waits.{deed_asked}
 use Rattle.step_parts.specs.declared.claim.Claim.TheVariants as claims
 use Rattle.step_parts.specs.declared.scene.Scene.{Scene}
 use Rattle.step_parts.specs.declared.taken.Taken.{Taken}
