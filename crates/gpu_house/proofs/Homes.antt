@@ -6,19 +6,17 @@ use Rattle.atomic_table.specs.Seated.{TableId}
 use Rattle.gpu_plan.specs.Plans.{PlansData, plan_of}
 use Rattle.gpu_plan.specs.Places.{flush_places}
 use Rattle.gpu_fetch.specs.Side.{SideData, finish_published}
-use Rattle.sync_core.specs.declared.wait.Number.{Number}
 use Rattle.sync_core.specs.Standing.{IsKnown, is_open, first_order}
-use Rattle.sync_core.proofs.Numbers.{Each, left_positive}
 use Rattle.gpu_journal.specs.declared.event.Event.{Event}
 use Rattle.gpu_journal.specs.declared.event.Event.TheVariants.{Step, Finish, Lost}
 use Rattle.gpu_journal.specs.declared.event.Why.{Why}
 use Rattle.gpu_journal.specs.World.{stream_in}
-use Rattle.gpu_journal.specs.Waits.{sync_of, standing_of, left_of}
+use Rattle.gpu_journal.specs.Waits.{standing_of, left_of}
 use Rattle.gpu_journal.specs.Legal.{IsLegal}
 use Rattle.serial_laws.proofs.Fitting.{first_some}
 use Rattle.serial_laws.proofs.Fronts.{left_open}
 use Rattle.serial_laws.proofs.Going.{lost_ends}
-use Rattle.house_core.specs.Core.{CoreData, IsOfPlans, IsRunOf, out_at, is_home, with_out}
+use Rattle.house_core.specs.Core.{CoreData, IsOfPlans, IsAway, IsRunOf, out_at, is_home, with_out}
 use Rattle.house_core.specs.Desks.{Out, RunData, at_home}
 use Rattle.gpu_house.specs.Slots.{SlotData, left_slot, IsAtHome, SlotFits, RunFits}
 use Rattle.gpu_house.specs.House.{OutData}
@@ -43,13 +41,8 @@ home_back outs (suc k) = let same : suc k - 1 ≡ k = omega arith in ap (λ (n :
 pub is_out : (outs : List Out) (s : ℕ) (out : Out) → out_at outs s ≡ out → 0 < out.order → is_home outs s ≡ false
 is_out outs s out is positive = ap (λ (o : Out). eqb o.order 0) is ∙ grind (arith, nat_tests)
 
--- the order of a run of an open stream is none of nothing
-pub order_positive : (p : PlansData) (h : List Event) (run : RunData) → IsRunOf p h run → 0 < run.order
-order_positive p h run is = first (left_of p h run.stream) (left_positive (sync_of p h) run.stream) is.order
-  where
-    first : (left : List Number) → Each (λ m. 0 < m) left → first_order left ≡ Some run.order → 0 < run.order
-    first [] each e = absurd (cc)
-    first (x ∷ left) each e = let is : x.order ≡ run.order = cc in subst (λ (n : ℕ). 0 < n) is (each zero x (omega arith))
+pub is_away : (core : CoreData) (run : RunData) → IsAway core run → is_home core.outs run.stream ≡ false
+is_away core run away = is_out core.outs run.stream _ away.out away.positive
 
 -- ---- all slots
 

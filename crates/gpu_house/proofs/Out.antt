@@ -3,8 +3,8 @@ use Rattle.std.proofs.Common.{◌≡◌, ℕ, zero, suc, ◌<◌, Bool, false, �
 use Rattle.std.proofs.lemmas.Bool.{cases_lt}
 use Rattle.std.proofs.lemmas.List.{get_or_past}
 use Rattle.sync_core.specs.Standing.{IsKnown}
-use Rattle.house_core.specs.Core.{out_at, is_home, with_out}
-use Rattle.house_core.specs.Desks.{Out, at_home}
+use Rattle.house_core.specs.Core.{CoreData, IsAway, out_at, is_home, with_out}
+use Rattle.house_core.specs.Desks.{Out, RunData, at_home}
 use Rattle.gpu_house.proofs.Rows.{out_set_here}
 use Rattle.gpu_house.proofs.Homes.{is_out}
 
@@ -13,7 +13,7 @@ out_known : (outs : List Out) (s : ℕ) → 0 < (out_at outs s).order → IsKnow
 out_known outs zero some = absurd (omega arith)
 out_known outs (suc k) some = ⊎_elim (λ lt. (omega arith, omega arith)) (λ past. absurd (let none = ap (λ (o : Out). o.order) (get_or_past outs k at_home past) in omega arith)) (cases_lt k (length outs))
 
-pub stays_out : (outs : List Out) (s order : ℕ) (paused kept : Bool) → out_at outs s ≡ record { order = order; paused = paused } → 0 < order → is_home (with_out outs s record { order = order; paused = kept }) s ≡ false
-stays_out outs s order paused kept is positive =
-    let out : Out = record { order = order; paused = kept } in
-    is_out (with_out outs s out) s out (out_set_here outs s out (out_known outs s (subst (λ (o : Out). 0 < o.order) (sym is) positive))) positive
+pub stays_out : (core : CoreData) (run : RunData) (kept : Bool) → IsAway core run → is_home (with_out core.outs run.stream record { order = run.order; paused = kept }) run.stream ≡ false
+stays_out core run kept away =
+    let out : Out = record { order = run.order; paused = kept } in
+    is_out _ run.stream out (out_set_here core.outs run.stream out (out_known core.outs run.stream (subst (λ (o : Out). 0 < o.order) (sym away.out) away.positive))) away.positive

@@ -1,5 +1,5 @@
 -- A step keeps the invariant of the core, and leaves its run at the next command.
-use Rattle.std.proofs.Common.{◌≡◌, ℕ, ◌+◌, ◌%◌, false, List, ◌∷◌, length, refl, sym, ap, subst, ◌∙◌, arith}
+use Rattle.std.proofs.Common.{◌≡◌, ℕ, ◌+◌, ◌%◌, Bool, false, List, ◌∷◌, length, refl, sym, ap, subst, ◌∙◌, arith}
 use Rattle.std.specs.Prelude.{slice_get}
 use Rattle.gpu_word.specs.Header.{size_of}
 use Rattle.gpu_cmd.specs.declared.facts.StreamFacts.{StreamFacts}
@@ -29,13 +29,12 @@ use Rattle.serial_laws.proofs.Fronts.{left_open}
 use Rattle.serial_laws.proofs.Knowns.{step_state, step_ordered, step_finished, step_greatest}
 use Rattle.step_parts.specs.declared.acted.Acted.{Acted}
 use Rattle.house_core.specs.Desks.{Out, DeskData, RunData, Agree, desk_at, run_of}
-use Rattle.house_core.specs.Core.{CoreData, IsOfPlans, IsRunOf, book_at, out_at}
+use Rattle.house_core.specs.Core.{CoreData, IsOfPlans, IsOfCore, IsAway, IsRunOf}
 use Rattle.house_core.specs.Answers.{WasExecuted, IsMovedBy, further}
 use Rattle.house_core.specs.Stepping.{stepped_desk}
 use Rattle.house_core.specs.Invariant.{Parts, DeskFits, CoreInvariant, seen}
 use Rattle.house_core.proofs.Rows.{book_at_desk, out_at_desk}
-use Rattle.house_core.proofs.Again.{Place}
-use Rattle.house_core.proofs.Seen.{place_seen}
+use Rattle.house_core.proofs.Again.{Place, place_of}
 use Rattle.house_core.proofs.Meeting.{run_shows}
 use Rattle.house_core.proofs.Taking.{first_positive}
 use Rattle.house_core.proofs.Moving.{moves_further}
@@ -44,7 +43,7 @@ use Rattle.house_core.proofs.Walking.{walked_on, greatest_grows}
 
 -- the desk of stream s after a step on these words
 abbrev pub desk_after : PlansData → ℕ → List (ℕ × ℕ) → Acted → DeskData → DeskData
-desk_after p s words acted desk = stepped_desk (noted acted.answer (stepped (plan_of p s).areas words desk.state)) acted desk
+desk_after p s words acted desk = stepped_desk (noted acted.answer (stepped (plan_of p s).areas words desk.state)) acted desk.out.order desk
 
 -- it fits
 pub fits_step : (p : PlansData) (h : List Event) (s : ℕ) (words : List (ℕ × ℕ)) (acted : Acted) (desk : DeskData) → DeskFits p h s desk → WasExecuted p h s words acted → MayGoOn p h s desk.out.order false
@@ -78,15 +77,19 @@ pub record IsOut (c : Parts) (run : RunData) : Type 0 where
   pub book : run.book ≡ (desk_at c.desks run.stream).book
   pub shows : IsRunOf c.plans c.past run
 
-pub out_seen : (c : Parts) (v : CoreData) (run : RunData) → seen c ≡ v → CoreInvariant c → IsOfPlans v.plans run → run.book ≡ book_at v.books run.stream → out_at v.outs run.stream ≡ record { order = run.order; paused = false } → run.paused ≡ false → IsRunOf v.plans v.past run → IsOut c run
-out_seen c v run was invariant plan book out going shows = record {
-  place = place_seen c v run.stream was invariant plan.known;
-  plan = subst (λ (v : CoreData). IsOfPlans v.plans run) (sym was) plan;
-  out = sym (out_at_desk c.desks run.stream) ∙ ap (λ (v : CoreData). out_at v.outs run.stream) was ∙ out;
-  going = going;
-  book = book ∙ ap (λ (v : CoreData). book_at v.books run.stream) (sym was) ∙ book_at_desk c.desks run.stream;
-  shows = subst (λ (v : CoreData). IsRunOf v.plans v.past run) (sym was) shows;
-}
+pub out_seen : (c : Parts) (v : CoreData) (run : RunData) (words : List (ℕ × ℕ)) → seen c ≡ v → CoreInvariant c → IsOfCore v run → IsAway v run → run.paused ≡ false → Obeys v.plans v.past (Step run.stream words) → IsOut c run
+out_seen c v run words was invariant own away going obeys =
+    let mine = subst (λ (v : CoreData). IsOfCore v run) (sym was) own in
+    let is = subst (λ (v : CoreData). IsAway v run) (sym was) away in
+    let may = subst (λ (v : CoreData). Obeys v.plans v.past (Step run.stream words)) (sym was) obeys in
+    record {
+      place = place_of c run.stream invariant mine.plan.known;
+      plan = mine.plan;
+      out = sym (out_at_desk c.desks run.stream) ∙ is.out ∙ ap (λ (paused : Bool). record { order = run.order; paused = paused }) going;
+      going = going;
+      book = mine.book ∙ book_at_desk c.desks run.stream;
+      shows = is.shows (left_open c.plans c.past run.stream invariant.legal may.rule_4).0;
+    }
 
 pub agrees : (c : Parts) (run : RunData) → IsOut c run → Agree run (desk_at c.desks run.stream)
 agrees c run is =

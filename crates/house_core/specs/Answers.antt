@@ -1,4 +1,4 @@
--- What a step of the core answers.
+-- What calls of the core answer.
 use Rattle.std.specs.Prelude.{◌≡◌, ℕ, ◌+◌, ◌==◌, Bool, true, false, List, length, Err, IsOk, if◌then◌else◌}
 use Rattle.gpu_word.specs.Header.{size_of}
 use Rattle.gpu_cmd.specs.declared.error.CmdError.{CmdError}
@@ -16,8 +16,24 @@ use Rattle.step_parts.specs.declared.acted.Acted.{Acted}
 use Rattle.step_parts.specs.Executing.{IsToldOf}
 use Rattle.house_core.specs.declared.steps.Stepped.{Stepped}
 use Rattle.house_core.specs.declared.steps.Stepped.TheVariants as stepped
-use Rattle.house_core.specs.Desks.{RunData}
-use Rattle.house_core.specs.Core.{CoreData, Stays, Grows, IsRunOf, with_out}
+use Rattle.house_core.specs.Desks.{RunData, at_home}
+use Rattle.house_core.specs.Core.{CoreData, Stays, Grows, KeepsJournal, IsOfCore, IsAway, IsRunOf, out_at, with_out}
+
+-- a run left: it is what the journal says, its stream was at home, and it is away now
+pub record Leaves (old new : CoreData) (out : RunData) : Type 0 where
+  pub own : IsOfCore old out
+  pub run : IsRunOf old.plans old.past out
+  pub going : out.paused ≡ false
+  pub home : out_at old.outs out.stream ≡ at_home
+  pub outs : new.outs ≡ with_out old.outs out.stream record { order = out.order; paused = false }
+  pub away : IsAway new out
+
+-- a run that was out came home, and where its stream was open the journal notes this event
+pub record ComesHome (old new : CoreData) (run : RunData) (e : Event) : Type 0 where
+  pub event : is_open (standing_of old.plans old.past run.stream) ≡ true → Grows old new e
+  pub over : is_open (standing_of old.plans old.past run.stream) ≡ false → KeepsJournal old new
+  pub outs : new.outs ≡ with_out old.outs run.stream at_home
+  pub away : IsAway old run
 
 -- the report of a step of stream s on these words, by the journal before it
 abbrev pub WasExecuted : PlansData → List Event → ℕ → List (ℕ × ℕ) → Acted → Type 0

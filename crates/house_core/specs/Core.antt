@@ -1,15 +1,15 @@
 -- What contracts see of the core of the house.
-use Rattle.std.specs.Prelude.{◌≡◌, ℕ, zero, suc, ◌-◌, ◌==◌, ◌≤◌, Bool, not, ◌&&◌, List, [], ◌∷◌, length, map, slice_get, slice_set, slice_index_or, Some}
+use Rattle.std.specs.Prelude.{◌≡◌, ℕ, zero, suc, ◌-◌, ◌==◌, ◌<◌, ◌≤◌, Bool, true, not, ◌&&◌, List, [], ◌∷◌, length, map, slice_get, slice_set, slice_index_or, Some}
 use Rattle.atomic_table.specs.Seated.{TableId}
 use Rattle.gpu_books.specs.Seen.{HalfData, blank_half, no_book}
 use Rattle.gpu_plan.specs.Plans.{PlansData, plan_of, is_closed}
 use Rattle.gpu_plan.specs.Places.{flush_places}
 use Rattle.gpu_plan.specs.Passes.{bound, flushes, greatest}
 use Rattle.gpu_plan.specs.MayHold.{MayHold}
-use Rattle.sync_core.specs.Standing.{IsKnown, first_order}
+use Rattle.sync_core.specs.Standing.{IsKnown, is_open, first_order}
 use Rattle.gpu_journal.specs.declared.event.Event.{Event}
 use Rattle.gpu_journal.specs.World.{known, state_of}
-use Rattle.gpu_journal.specs.Waits.{left_of}
+use Rattle.gpu_journal.specs.Waits.{standing_of, left_of}
 use Rattle.gpu_journal.specs.Facts.{flush_of, put_in, facts_at}
 use Rattle.house_core.specs.Desks.{Out, at_home, DeskData, RunData}
 
@@ -97,6 +97,17 @@ pub record IsRunOf (p : PlansData) (h : List Event) (run : RunData) : Type 0 whe
   pub entries : run.entries ≡ (state_of p h run.stream).entries
   pub finished : run.finished ≡ (known p h run.stream).finished
   pub greatest : run.greatest ≡ greatest (known p h run.stream).tokens
+
+-- the run is of the plans of this core, and of the book of its stream
+pub record IsOfCore (core : CoreData) (run : RunData) : Type 0 where
+  pub plan : IsOfPlans core.plans run
+  pub book : run.book ≡ book_at core.books run.stream
+
+-- the run is the one of its stream that is out, and what it carries is what the journal says, while the stream is open
+pub record IsAway (core : CoreData) (run : RunData) : Type 0 where
+  pub out : out_at core.outs run.stream ≡ record { order = run.order; paused = run.paused }
+  pub positive : 0 < run.order
+  pub shows : is_open (standing_of core.plans core.past run.stream) ≡ true → IsRunOf core.plans core.past run
 
 -- the plan of stream s has no Close, and all its flushes are ordered and finished
 abbrev pub is_done : PlansData → List Event → ℕ → Bool

@@ -2,7 +2,7 @@ ghost use Rattle.std.specs.Prelude.{◌≡◌, ◌↔◌, ◌==◌, ◌<◌, ◌
 ghost use Rattle.gpu_cmd.specs.Lawful.{IsLawfulFacts};
 ghost use Rattle.house_core.specs.Desks.{Agree, at_home, run_of};
 ghost use Rattle.gpu_journal.specs.World.{greatest_after};
-ghost use Rattle.step_parts.specs.Executing.{areas_of, IsReady, Executes};
+ghost use Rattle.step_parts.specs.Executing.{areas_of, IsReady, AnswersAct};
 ghost use Rattle.house_core.specs.Stepping.{stepped_desk};
 ghost use Rattle.stream_state.specs.State.{facts_of};
 
@@ -181,17 +181,15 @@ impl Carried {
         taken: &Taken<'_>,
     ) -> Result<Acted, Memory>
         requires book { self.old.book ≡ desk.old.book }
-        requires agree { Agree self.old desk.old }
         requires areas { self.old.facts.areas ≡ areas_of taken.now }
         requires ready { IsReady taken.now scene.old.sync desk.old.state }
-        ensures executes { IfOk result
-            (Executes taken.now scene.old scene.new desk.old.state desk.new.state) }
+        ensures acts { AnswersAct taken.now scene.old scene.new desk.old.state desk.new.state
+            result }
         ensures desk { IfOk result
-            (λ acted. desk.new ≡ stepped_desk desk.new.state acted desk.old) }
+            (λ acted. desk.new ≡ stepped_desk desk.new.state acted self.old.order desk.old) }
         ensures run { OnOk result (self.new
             ≡ run_of self.old.stream
             (areas_of taken.now) self.old.place self.old.facts.put desk.new) }
-        ensures same_scene { OnErr result (scene.new ≡ scene.old) }
         ensures same_desk { OnErr result (desk.new ≡ desk.old) }
         ensures same_run { OnErr result (self.new ≡ self.old) }
     {

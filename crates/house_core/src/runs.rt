@@ -1,5 +1,5 @@
 //! Runs leave the house and come back.
-ghost use Rattle.std.specs.Prelude.{◌≡◌, ◌<◌, ◌≤◌, [], true, false, option_map, IfSome, IfNone};
+ghost use Rattle.std.specs.Prelude.{◌≡◌, ◌≤◌, [], true, false, option_map, IfSome, IfNone};
 ghost use Rattle.sync_core.specs.Standing.{is_open};
 ghost use Rattle.gpu_journal.specs.declared.event.Event.TheVariants.{Finish, Lost};
 ghost use Rattle.gpu_journal.specs.declared.event.Why.TheVariants.{Memory};
@@ -9,7 +9,8 @@ ghost use Rattle.serial_laws.specs.Scripts.{AreLawfulPlans};
 ghost use Rattle.serial_laws.specs.Runs.{MayGoOn};
 ghost use Rattle.serial_laws.specs.Choosing.{choice_at_home};
 ghost use Rattle.house_core.specs.Desks.{RunData, at_home};
-ghost use Rattle.house_core.specs.Core.{Stays, Grows, KeepsJournal, IsOfPlans, IsRunOf, is_home, with_out, book_at, out_at};
+ghost use Rattle.house_core.specs.Core.{Stays, Grows, KeepsJournal, IsOfCore, IsAway, is_home, with_out};
+ghost use Rattle.house_core.specs.Answers.{Leaves, ComesHome};
 
 use crate::carried::Carried;
 use crate::core_of::Core;
@@ -23,17 +24,7 @@ impl Core {
             ≡ choice_at_home self.old.plans self.old.past (is_home self.old.outs) }
         ensures none { IfNone result (Stays self.old self.new) }
         ensures same { KeepsJournal self.old self.new }
-        ensures plan { IfSome result (IsOfPlans self.old.plans) }
-        ensures run { IfSome result (IsRunOf self.old.plans self.old.past) }
-        ensures book { IfSome result (λ run. run.book ≡ book_at self.old.books run.stream) }
-        ensures going { IfSome result (λ run. run.paused ≡ false) }
-        ensures home { IfSome result (λ run. out_at self.old.outs run.stream ≡ at_home) }
-        ensures outs { IfSome result
-            (λ run. self.new.outs ≡ with_out self.old.outs run.stream
-            record { order = run.order; paused = false }) }
-        ensures out { IfSome result
-            (λ run. out_at self.new.outs run.stream
-            ≡ record { order = run.order; paused = false }) }
+        ensures leaves { IfSome result (Leaves self.old self.new) }
     {
         let Core {
             plans,
@@ -58,15 +49,10 @@ impl Core {
 
     /// What a run carries is what the house keeps, and that is what the journal says.
     pub fn shows_run(&mut self, run: &mut Carried)
-        requires plan { IsOfPlans self.old.plans run.old }
-        requires book { run.old.book ≡ book_at self.old.books run.old.stream }
+        requires { IsOfCore self.old run.old }
         ensures core { self.new ≡ self.old }
         ensures run { run.new ≡ run.old }
-        ensures out { out_at self.old.outs run.old.stream
-            ≡ record { order = run.old.order; paused = run.old.paused } }
-        ensures positive { 0 < run.old.order }
-        ensures shows { is_open (standing_of self.old.plans self.old.past run.old.stream) ≡ true
-            → IsRunOf self.old.plans self.old.past run.old }
+        ensures away { IsAway self.old run.old }
         ensures runs { MayGoOn self.old.plans self.old.past run.old.stream run.old.order
             run.old.paused }
         ensures lawful { AreLawfulPlans self.old.plans }
@@ -78,15 +64,11 @@ impl Core {
 
     /// Takes a run back. The journal stays.
     pub fn back(&mut self, mut run: Carried)
-        requires plan { IsOfPlans self.old.plans run }
-        requires book { run.book ≡ book_at self.old.books run.stream }
+        requires { IsOfCore self.old run }
         ensures same { KeepsJournal self.old self.new }
         ensures outs { self.new.outs ≡ with_out self.old.outs run.stream at_home }
         ensures spare { self.old.spare ≤ self.new.spare }
-        ensures out { out_at self.old.outs run.stream
-            ≡ record { order = run.order; paused = run.paused } }
-        ensures shows { is_open (standing_of self.old.plans self.old.past run.stream) ≡ true
-            → IsRunOf self.old.plans self.old.past run }
+        ensures away { IsAway self.old run }
     {
         self.shows_run(&mut run);
         let stream = run.stream();
@@ -101,14 +83,11 @@ impl Core {
 
     // The journal notes that the order of a run is finished, and the run comes back.
     fn enter_finish(&mut self, run: Carried)
-        requires plan { IsOfPlans self.old.plans run }
-        requires book { run.book ≡ book_at self.old.books run.stream }
+        requires own { IsOfCore self.old run }
         requires going { run.paused ≡ false }
         requires end { run.facts.get ≡ run.facts.put }
-        requires out { out_at self.old.outs run.stream
-            ≡ record { order = run.order; paused = run.paused } }
+        requires away { IsAway self.old run }
         requires open { is_open (standing_of self.old.plans self.old.past run.stream) ≡ true }
-        requires shows { IsRunOf self.old.plans self.old.past run }
         ensures event { Grows self.old self.new (Finish run.stream run.order) }
         ensures outs { self.new.outs ≡ with_out self.old.outs run.stream at_home }
     {
@@ -134,19 +113,10 @@ impl Core {
     /// run back. It takes no memory.
     #[inline(always)]
     pub fn finish(&mut self, mut run: Carried)
-        requires plan { IsOfPlans self.old.plans run }
-        requires book { run.book ≡ book_at self.old.books run.stream }
+        requires own { IsOfCore self.old run }
         requires going { run.paused ≡ false }
         requires end { run.facts.get ≡ run.facts.put }
-        ensures event { is_open (standing_of self.old.plans self.old.past run.stream) ≡ true
-            → Grows self.old self.new (Finish run.stream run.order) }
-        ensures over { is_open (standing_of self.old.plans self.old.past run.stream) ≡ false
-            → KeepsJournal self.old self.new }
-        ensures outs { self.new.outs ≡ with_out self.old.outs run.stream at_home }
-        ensures out { out_at self.old.outs run.stream
-            ≡ record { order = run.order; paused = false } }
-        ensures shows { is_open (standing_of self.old.plans self.old.past run.stream) ≡ true
-            → IsRunOf self.old.plans self.old.past run }
+        ensures { ComesHome self.old self.new run (Finish run.stream run.order) }
     {
         self.shows_run(&mut run);
         if self.is_open(run.stream()) {
@@ -159,17 +129,8 @@ impl Core {
     /// Loses the stream of a run as out of memory, where it is neither lost nor closed, and takes the run back. It takes no
     /// memory.
     pub fn lose(&mut self, mut run: Carried)
-        requires plan { IsOfPlans self.old.plans run }
-        requires book { run.book ≡ book_at self.old.books run.stream }
-        ensures event { is_open (standing_of self.old.plans self.old.past run.stream) ≡ true
-            → Grows self.old self.new (Lost run.stream Memory []) }
-        ensures over { is_open (standing_of self.old.plans self.old.past run.stream) ≡ false
-            → KeepsJournal self.old self.new }
-        ensures outs { self.new.outs ≡ with_out self.old.outs run.stream at_home }
-        ensures out { out_at self.old.outs run.stream
-            ≡ record { order = run.order; paused = run.paused } }
-        ensures shows { is_open (standing_of self.old.plans self.old.past run.stream) ≡ true
-            → IsRunOf self.old.plans self.old.past run }
+        requires { IsOfCore self.old run }
+        ensures { ComesHome self.old self.new run (Lost run.stream Memory []) }
     {
         self.shows_run(&mut run);
         self.lose_client(run.stream());

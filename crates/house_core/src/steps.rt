@@ -1,13 +1,12 @@
 //! Steps: the next command of a run is executed, or its stream is lost.
-ghost use Rattle.std.specs.Prelude.{◌≡◌, length, true, false, Ok, IfOk, OnErr};
+ghost use Rattle.std.specs.Prelude.{◌≡◌, length, false, Ok, IfOk, OnErr};
 ghost use Rattle.std.specs.List.{All};
-ghost use Rattle.sync_core.specs.Standing.{IsKnown, is_open};
+ghost use Rattle.sync_core.specs.Standing.{IsKnown};
 ghost use Rattle.gpu_journal.specs.declared.event.Event.TheVariants.{Step};
-ghost use Rattle.gpu_journal.specs.Waits.{standing_of};
 ghost use Rattle.gpu_journal.specs.Facts.{facts_at, verdict_at};
 ghost use Rattle.gpu_journal.specs.Legal.{Obeys};
 ghost use Rattle.house_core.specs.Answers.{HasStepped, AnswersStep};
-ghost use Rattle.house_core.specs.Core.{Stays, IsOfPlans, IsRunOf, MayHavePut, book_at, out_at};
+ghost use Rattle.house_core.specs.Core.{Stays, IsOfCore, IsAway, MayHavePut};
 
 use crate::carried::Carried;
 use crate::core_of::{Core, take_room};
@@ -52,12 +51,9 @@ impl Core {
         command: &Command,
         words: &[(u32, u32)],
     ) -> Result<Acted, Memory>
-        requires plan { IsOfPlans self.old.plans run.old }
-        requires book { run.old.book ≡ book_at self.old.books run.old.stream }
-        requires out { out_at self.old.outs run.old.stream
-            ≡ record { order = run.old.order; paused = false } }
+        requires own { IsOfCore self.old run.old }
+        requires away { IsAway self.old run.old }
         requires going { run.old.paused ≡ false }
-        requires shows { IsRunOf self.old.plans self.old.past run.old }
         requires obeys { Obeys self.old.plans self.old.past (Step run.old.stream words.now) }
         requires command { verdict_at self.old.plans self.old.past run.old.stream words.now
             ≡ Ok command.now }
@@ -92,16 +88,12 @@ impl Core {
     /// `Memory`: nothing has changed.
     #[inline(always)]
     pub fn step(&mut self, run: &mut Carried, fetched: &Fetched<'_>) -> Result<Stepped, Memory>
-        requires plan { IsOfPlans self.old.plans run.old }
-        requires book { run.old.book ≡ book_at self.old.books run.old.stream }
+        requires own { IsOfCore self.old run.old }
         requires going { run.old.paused ≡ false }
         requires facts { fetched.now.facts ≡ run.old.facts }
         requires may { All (MayHavePut self.old.plans run.old) fetched.now.words }
         ensures steps { IfOk result (AnswersStep self.old self.new run.old run.new fetched.now.words) }
-        ensures out { out_at self.old.outs run.old.stream
-            ≡ record { order = run.old.order; paused = false } }
-        ensures shows { is_open (standing_of self.old.plans self.old.past run.old.stream) ≡ true
-            → IsRunOf self.old.plans self.old.past run.old }
+        ensures away { IsAway self.old run.old }
         ensures err { OnErr result (Stays self.old self.new) }
         ensures same { OnErr result (run.new ≡ run.old) }
     {

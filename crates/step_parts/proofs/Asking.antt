@@ -1,6 +1,6 @@
 -- What a step of a stream's own state answers: its step tells what it writes, and counts no error.
-use Rattle.std.proofs.Common.{◌≡◌, ◌<◌, Result, Ok, Err, List, [], ◌∷◌, get_or, ℕ, refl, sym, ap, subst, ◌∙◌}
-use Rattle.std.specs.Prelude.{IfOk, OnOk}
+use Rattle.std.proofs.Common.{◌≡◌, ◌-◌, ◌<◌, ◌≤◌, Some, List, [], ◌∷◌, get_or, ℕ, refl, sym, ap, subst, ◌∙◌}
+use Rattle.std.specs.Prelude.{slice_get}
 use Rattle.std.specs.List.{All}
 use Rattle.gpu_cmd.specs.declared.areas.Areas.{Areas}
 use Rattle.gpu_cmd.specs.Lawful.{IsLawfulAreas}
@@ -14,20 +14,31 @@ use Rattle.stream_state.specs.Writes.{Writes}
 use Rattle.stream_state.proofs.Telling.{effects_tell}
 use Rattle.stream_state.proofs.Places.{writes_are_there}
 use Rattle.stream_state.proofs.Runs.{stepped_errors}
+use Rattle.gpu_plan.specs.Plans.{PlanData}
+use Rattle.gpu_journal.specs.Replaying.{total_errors}
 use Rattle.gpu_journal.proofs.Worlds.{few_errors}
 use Rattle.step_parts.specs.declared.taken.Taken.{Taken}
-use Rattle.step_parts.specs.Executing.{areas_of, HasPassed, Asks}
+use Rattle.step_parts.specs.Executing.{areas_of, asks, HasPassed}
+use Rattle.step_parts.proofs.Plans.{areas_here}
+
+-- what the step of a stream's own state answers, and the state that it leaves
+pub record Asks (taken : Taken) (before after : State) (asked : Effect) : Type 0 where
+  pub effect : asked ≡ asks taken before
+  pub writes : writes_told asked ≡ writes (areas_of taken) taken.words.now before
+  pub places : All (λ write. write.0 < words_in (areas_of taken).results) (writes_told asked)
+  pub texels : BringsItsTexels asked
+  pub state : after ≡ stepped (areas_of taken) taken.words.now before
+  pub few : total_errors after.errors ≤ 1048576
 
 -- the header is the value of the first word
 pub first_value : (words : List (ℕ × ℕ)) → (get_or words 0 (0, 0)).1 ≡ header_in words
 first_value [] = refl
 first_value (word ∷ words) = refl
 
-pub asked : {E : Type 0} (taken : Taken) (areas : Areas) (state left : State) (result : Result Effect E) → HasPassed taken state
-    → IsLawfulAreas areas → areas ≡ areas_of taken → IfOk result (λ given. given ≡ effect areas taken.words.now state)
-    → IfOk result BringsItsTexels → OnOk result (left ≡ stepped areas taken.words.now state) → IfOk result (Asks taken state left)
-asked taken areas state left (Err e) passed lawful same is texels after = tt
-asked taken areas state left (Ok given) passed lawful same is texels after =
+pub asked : (taken : Taken) (plan : PlanData) (areas : Areas) (state left : State) (given : Effect) → HasPassed taken state → slice_get taken.plans.now.plans (taken.stream - 1) ≡ Some plan → areas ≡ plan.areas → IsLawfulAreas areas → given ≡ effect areas taken.words.now state
+    → BringsItsTexels given → left ≡ stepped areas taken.words.now state → Asks taken state left given
+asked taken plan areas state left given passed at here lawful is texels after =
+    let same = areas_here taken.plans.now taken.stream plan areas passed.known at here in
     let own = areas_of taken in
     let words = taken.words.now in
     let effect_is : given ≡ effect own words state = is ∙ ap (λ (a : Areas). effect a words state) same in

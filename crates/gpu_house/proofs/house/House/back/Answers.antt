@@ -9,7 +9,7 @@ use Rattle.gpu_house.specs.Marks.{AreMarked}
 use Rattle.gpu_house.specs.House.{HouseData, OutData}
 use Rattle.gpu_house.proofs.Cases.{known_here}
 use Rattle.gpu_house.proofs.Writings.{AllFit}
-use Rattle.gpu_house.proofs.Homes.{came_back, is_out, order_positive, side_seen}
+use Rattle.gpu_house.proofs.Homes.{came_back, is_away, side_seen}
 use Rattle.gpu_house.proofs.house.House.back.Goals as goal
 
 pub invariant_of-self : goal.invariant_of-self
@@ -28,7 +28,7 @@ invariant_of-self g c =
     let whole : is_open (standing_of p core.past run.stream) ≡ true → length (S.side c.run.inside.side).fetched ≡ run.facts.fetched =
     subst (λ (o : OutData g.row.P.Denot g.row.P-Note.Denot). is_open (standing_of p core.past o.run.stream) ≡ true → length (S.side o.side).fetched ≡ o.run.facts.fetched) (sym c.run.view_is)
     (subst (λ (h : HouseData g.row.P.Denot g.row.P-Note.Denot g.row.P-Results.Denot). is_open (standing_of p h.core.past c.args.run.run.stream) ≡ true → length (S.side c.args.run.side).fetched ≡ c.args.run.run.facts.fetched) (sym c.self.view_is) c.requires.list) in
-    let run_of : is_open (standing_of p core.past run.stream) ≡ true → IsRunOf p core.past run = subst (λ (q : PlansData). is_open (standing_of q core.past run.stream) ≡ true → IsRunOf q core.past run) was.plans c.back.ensures.shows in
+    let run_of : is_open (standing_of p core.past run.stream) ≡ true → IsRunOf p core.past run = subst (λ (q : PlansData). is_open (standing_of q core.past run.stream) ≡ true → IsRunOf q core.past run) was.plans c.back.ensures.away.shows in
     record {
       core = c.shows_core.ensures;
       plans = waits.plans ∙ was.plans;
@@ -36,7 +36,7 @@ invariant_of-self g c =
       slots = length-set slots (t - 1) c.come.new.self ∙ was.slots;
       homes = came_back S.side S.table S.mark S.note_of p (table_at g.N.Naming.words) (book_at g.N.Naming.books) run core now slots t c.index_mut.result.now c.come.new.self c.run.inside.side c.run.inside.note
           c.stream-stream.ensures there c.index_mut.ensures.value c.come.ensures c.run.invariant waits.past c.back.ensures.outs
-          (λ o. (run_of o, whole o, is_out core.outs run.stream record { order = run.order; paused = run.paused } c.back.ensures.out (order_positive p core.past run (run_of o)))) was.homes;
+          (λ o. (run_of o, whole o, is_away core run c.back.ensures.away)) was.homes;
       marked = subst (λ (h : List Event). AreMarked p g.N.Naming.base h c.self.inside.hooks) (sym waits.past) was.marked;
       result_count = was.result_count;
       results = subst (λ (h : List Event). AllFit S.takes S.written S.results_of (table_at g.N.Naming.result_words) p h results) (sym waits.past) was.results;

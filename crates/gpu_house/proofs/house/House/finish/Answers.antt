@@ -15,7 +15,7 @@ use Rattle.gpu_house.specs.House.{OutData}
 use Rattle.gpu_house.specs.Changes.{StillBelongs, CameDone}
 use Rattle.gpu_house.proofs.Rows.{slot_changed}
 use Rattle.gpu_house.proofs.Stepping.{note_marked}
-use Rattle.gpu_house.proofs.Homes.{came_back, came_done, is_out, order_positive, side_seen}
+use Rattle.gpu_house.proofs.Homes.{came_back, came_done, is_away, side_seen}
 use Rattle.gpu_house.proofs.Cases.{open_here, known_here}
 use Rattle.gpu_house.proofs.Endings.{grown_quietly}
 use Rattle.gpu_house.proofs.Counting.{counted_next}
@@ -98,7 +98,7 @@ invariant_of-self-2 g c =
     let was = c.self.invariant in
     let still_open = open_here core t run.stream c.is_open.result true c.stream-stream.ensures c.is_open.ensures c.if-not-is_open.false in
     let grows = c.finish-2.ensures.event still_open in
-    let run_of : IsRunOf p core.past run = subst (λ (q : PlansData). IsRunOf q core.past run) was.plans (c.finish-2.ensures.shows still_open) in
+    let run_of : IsRunOf p core.past run = subst (λ (q : PlansData). IsRunOf q core.past run) was.plans (c.finish-2.ensures.away.shows still_open) in
     let end : run.facts.get ≡ run.facts.put = subst (λ (o : OutData g.row.P.Denot g.row.P-Note.Denot). o.run.facts.get ≡ o.run.facts.put) (sym c.run.view_is) c.requires.end in
     let there = known_here p slots t run.stream was.slots c.stream-stream.ensures c.run.invariant.of_plans.known in
     let met = c.meet.ensures in
@@ -107,7 +107,7 @@ invariant_of-self-2 g c =
     c.shows_core-2.ensures grows.plans grows.books c.follow.ensures (length-set slots (t - 1) c.finish-3.new.self)
     (came_done g.P.ServiceSide.side g.P.ServiceSide.table g.P.ServiceSide.mark g.P.ServiceSide.note_of p (table_at g.N.Naming.words) (book_at g.N.Naming.books) run core c.finish-2.new.self slots t c.index_mut-slot.result.now c.finish-3.new.self c.run.inside.side c.publish_finish.new.self c.run.inside.note
     c.stream-stream.ensures there c.index_mut-slot.ensures.value c.finish-3.ensures c.run.invariant grows.past c.finish-2.ensures.outs (subst (λ (q : PlansData). is_open (standing_of q core.past run.stream) ≡ true) was.plans still_open) run_of end
-    (is_out core.outs run.stream record { order = run.order; paused = false } c.finish-2.ensures.out (order_positive p core.past run run_of))
+    (is_away core run c.finish-2.ensures.away)
     (c.publish_finish.ensures.finished ∙ ap finish_published met.told) (c.publish_finish.ensures.table ∙ met.table) was.homes)
     (length-set results (t - 1) c.count_finish.new.results)
     (subst (λ (h : List Event). AllFit takes told results_of answers p h results') (sym grows.past)
@@ -150,7 +150,7 @@ publish_finish-requires-clause-counted g c =
     let results = c.self.inside.results.items in
     let was = c.self.invariant in
     let still_open = open_here core t run.stream c.is_open.result true c.stream-stream.ensures c.is_open.ensures c.if-not-is_open.false in
-    let run_of : IsRunOf p core.past run = subst (λ (q : PlansData). IsRunOf q core.past run) was.plans (c.finish-2.ensures.shows still_open) in
+    let run_of : IsRunOf p core.past run = subst (λ (q : PlansData). IsRunOf q core.past run) was.plans (c.finish-2.ensures.away.shows still_open) in
     let known = known_here p results t run.stream was.result_count c.stream-stream.ensures c.run.invariant.of_plans.known in
     let fit = at_stream S.takes S.written S.results_of (table_at g.N.Naming.result_words) p core.past results t c.index_mut-own.result.now known c.index_mut-own.ensures.value was.results in
     let next = counted_next p core.past t (S.written c.index_mut-own.result.now) (S.written c.count_finish.new.results) fit.are_written c.count_finish.ensures.written in

@@ -27,7 +27,7 @@ use Rattle.gpu_house.proofs.Out.{stays_out}
 use Rattle.gpu_house.proofs.Parts.{first_of_all}
 use Rattle.gpu_house.proofs.Endings.{waits_made, step_makes, grown_follow}
 use Rattle.gpu_house.proofs.Writings.{AllFit, all_still, all_more, at_stream, read_belongs, wrote, wrote_none}
-use Rattle.gpu_house.proofs.Homes.{stepped_homes, is_out, order_positive}
+use Rattle.gpu_house.proofs.Homes.{stepped_homes, is_away}
 use Rattle.gpu_house.proofs.Keeping.{kept, kept_still, ended_homes}
 use Rattle.house_core.specs.Desks.{RunData}
 use Rattle.gpu_house.specs.Slots.{RunFits}
@@ -172,12 +172,12 @@ invariant_of-self-2 g c =
     let is = made g path.In-Done in
     let own = is.stepped in
     let grows = own.event in
-    let positive = order_positive core.plans core.past run (c.in_ok-step.ensures.shows is.still_open) in
+    let away = c.in_ok-step.ensures.away in
     let wrote : writes_told c.in-Done.acted.effect ≡ writes (plan_of p s).areas words (state_of p core.past s) = subst (λ (q : PlansData). writes_told c.in-Done.acted.effect ≡ writes (plan_of q s).areas words (state_of q core.past s)) was.plans own.acted.writes in
     kept _ _ _ _ _ _ _ _ _ _ _ _ c.self.inside.hooks _ _ _ was c.shows_core-2.ensures grows.plans grows.books (subst (λ (b : ℕ). AreMarked now.plans b now.past c.follow-2.new.hooks) c.take_room.ensures.base c.follow-2.ensures) refl
     (stepped_homes _ _ _ _ _ _ core now c.self.inside.slots.items s words record { order = run.order; paused = c.in-Done.acted.kept } c.run.invariant.of_plans.known.0 grows.past own.outs
-    (ap (λ (q : PlansData). is_open (standing_of q core.past s)) (sym was.plans) ∙ is.still_open) (is_out core.outs s record { order = run.order; paused = false } c.in_ok-step.ensures.out positive)
-    (ap (λ (row : List Out). is_home row s) own.outs ∙ stays_out core.outs s run.order false c.in-Done.acted.kept c.in_ok-step.ensures.out positive) was.homes)
+    (ap (λ (q : PlansData). is_open (standing_of q core.past s)) (sym was.plans) ∙ is.still_open) (is_away core run away)
+    (ap (λ (row : List Out). is_home row s) own.outs ∙ stays_out core run c.in-Done.acted.kept away) was.homes)
     (length-set results (t - 1) c.tell.new.results)
     (subst (λ (h : List Event). AllFit S.takes S.written S.results_of (table_at g.N.Naming.result_words) p h (slice_set results (t - 1) c.tell.new.results)) (sym grows.past)
     (all_more S.takes S.written S.results_of (table_at g.N.Naming.result_words) p (Step s words) core.past results t c.tell.new.results c.index_mut.result.now (its g there) (known g there) c.index_mut.ensures.value
@@ -213,7 +213,7 @@ invariant_of-run-2 g c =
     let is = made g (goal.at.invariant_of-run-2 g c).In-Done in
     let own = is.stepped in
     let grows = own.event in
-    let run_of : IsRunOf p core.past run = subst (λ (q : PlansData). IsRunOf q core.past run) was.plans (c.in_ok-step.ensures.shows is.still_open) in
+    let run_of : IsRunOf p core.past run = subst (λ (q : PlansData). IsRunOf q core.past run) was.plans (c.in_ok-step.ensures.away.shows is.still_open) in
     let now_of : IsRunOf p now.past c.step.new.run = subst (λ (q : PlansData). IsRunOf q now.past c.step.new.run) (grows.plans ∙ was.plans) own.run in
     let asked : c.in-Done.acted.effect ≡ asked_by p run.stream words (world p core.past) = subst (λ (q : PlansData). c.in-Done.acted.effect ≡ asked_by q run.stream words (world q core.past)) was.plans own.acted.effect in
     let met = met_fits S.side S.table S.mark S.note_of p tables books run c.run.inside.side c.meet-2.new.side c.run.inside.note c.run.invariant c.meet-2.ensures.told c.meet-2.ensures.bounded c.meet-2.ensures.table in

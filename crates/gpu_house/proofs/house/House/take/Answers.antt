@@ -10,7 +10,7 @@ use Rattle.gpu_house.specs.Marks.{AreMarked}
 use Rattle.gpu_house.proofs.Keeping.{kept_still}
 use Rattle.gpu_house.proofs.Writings.{AllFit}
 use Rattle.gpu_house.proofs.Sides.{taken_fits}
-use Rattle.gpu_house.proofs.Homes.{Taken, taken, taken_list, went_out, is_out, order_positive}
+use Rattle.gpu_house.proofs.Homes.{Taken, taken, taken_list, went_out, is_away}
 use Rattle.gpu_house.proofs.house.House.take.Given.{Over}
 use Rattle.gpu_house.proofs.house.House.take.Goals as goal
 use Rattle.gpu_house.proofs.house.House.take.Goals.{After-index_mut}
@@ -33,14 +33,14 @@ it : (g : Over) (c : goal.After-index_mut g) (left : SlotData g.row.P.Denot g.ro
 it g c left =
     let S = g.P.ServiceSide in
     let core = c.self.inside.core in
-    let told = c.in_ok-carried.ensures in
+    let told = c.in_ok-carried.ensures.leaves in
     let was = c.self.invariant in
     taken S.side S.table S.mark S.note_of g.N.Naming.plans (table_at g.N.Naming.words) (book_at g.N.Naming.books) c.in_ok-carried.carried core c.take.new.self c.self.inside.slots.items c.stream.result c.index_mut.result.now left
-    was.plans told.plan told.run (core_legal core was.core) was.slots c.stream.ensures c.index_mut.ensures.value was.homes
+    was.plans told.own.plan told.run (core_legal core was.core) was.slots c.stream.ensures c.index_mut.ensures.value was.homes
 
 -- the stream is at home, so its slot has a side
 has_side : (g : Over) (c : goal.After-index_mut g) → is_some c.index_mut.result.now.side ≡ true
-has_side g c = (it g c c.index_mut.result.now).fits.at_home ∙ ap (λ (o : Out). eqb o.order 0) c.in_ok-carried.ensures.home
+has_side g c = (it g c c.index_mut.result.now).fits.at_home ∙ ap (λ (o : Out). eqb o.order 0) c.in_ok-carried.ensures.leaves.home
 
 pub leave-requires : goal.leave-requires
 leave-requires g c = has_side g c
@@ -58,10 +58,10 @@ invariant_of-result g c =
     let S = g.P.ServiceSide in
     let core = c.self.inside.core in
     let run = c.in_ok-carried.carried in
-    let told = c.in_ok-carried.ensures in
+    let told = c.in_ok-carried.ensures.leaves in
     let known = it g (goal.at.invariant_of-result g c).After-index_mut c.leave.new.self in
     taken_fits S.side S.table S.mark S.note_of g.N.Naming.plans (table_at g.N.Naming.words) (book_at g.N.Naming.books) run core.past (is_home core.outs run.stream) c.in-Some.side c.in-Some.note c.index_mut.result.now
-    known.legal known.plan known.run_of (told.book ∙ ap (λ books. book_at books run.stream) c.self.invariant.booked) (sym c.in-Some.ensures.side) c.in-Some.ensures.note known.fits
+    known.legal known.plan known.run_of (told.own.book ∙ ap (λ books. book_at books run.stream) c.self.invariant.booked) (sym c.in-Some.ensures.side) c.in-Some.ensures.note known.fits
 
 pub invariant_of-self-2 : goal.invariant_of-self-2
 invariant_of-self-2 g c =
@@ -70,13 +70,13 @@ invariant_of-self-2 g c =
     let core = c.self.inside.core in
     let now = c.take.new.self in
     let run = c.in_ok-carried.carried in
-    let told = c.in_ok-carried.ensures in
+    let told = c.in_ok-carried.ensures.leaves in
     let was = c.self.invariant in
     let slots = c.self.inside.slots.items in
     let t = c.stream.result in
     let results = c.self.inside.results.items in
     let known = it g (goal.at.invariant_of-self-2 g c).After-index_mut c.leave.new.self in
-    let waits = told.same in
+    let waits = c.in_ok-carried.ensures.same in
     let out : Out = record { order = run.order; paused = false } in
     record {
       core = c.shows_core.ensures;
@@ -84,7 +84,7 @@ invariant_of-self-2 g c =
       booked = waits.books ∙ was.booked;
       slots = length-set slots (t - 1) c.leave.new.self ∙ was.slots;
       homes = went_out S.side S.table S.mark S.note_of p (table_at g.N.Naming.words) (book_at g.N.Naming.books) run core now slots t c.index_mut.result.now c.leave.new.self known c.leave.ensures.slot waits.past out told.outs
-          (is_out now.outs run.stream out told.out (order_positive p core.past run known.run_of)) was.homes;
+          (is_away now run told.away) was.homes;
       marked = subst (λ (h : List Event). AreMarked p g.N.Naming.base h c.self.inside.hooks) (sym waits.past) was.marked;
       result_count = was.result_count;
       results = subst (λ (h : List Event). AllFit S.takes S.written S.results_of (table_at g.N.Naming.result_words) p h results) (sym waits.past) was.results;

@@ -7,7 +7,7 @@ use Rattle.gpu_journal.specs.Legal.{Obeys}
 use Rattle.gpu_journal.proofs.Worlds.{images_then}
 use Rattle.serial_laws.proofs.Needs.{need_finish}
 use Rattle.house_core.specs.Desks.{DeskData, at_home, desk_at}
-use Rattle.house_core.specs.Core.{CoreData, IsOfPlans, IsRunOf, out_at, with_out}
+use Rattle.house_core.specs.Core.{CoreData, IsOfCore, IsAway, with_out}
 use Rattle.house_core.specs.Invariant.{Parts, DeskFits, seen}
 use Rattle.house_core.proofs.Rows.{books_stay, outs_set}
 use Rattle.house_core.proofs.Fits.{fits_finish}
@@ -18,19 +18,19 @@ use Rattle.house_core.proofs.Finishing.{finish_legal}
 use Rattle.house_core.proofs.core_of.Core.enter_finish.Goals as goal
 
 pub overflow_sub-owed : goal.overflow_sub-owed
-overflow_sub-owed c = (room_of_finish _ _ c.args.run.stream c.args.run c.self.view_is c.self.invariant refl c.requires.plan c.requires.«open»).0
+overflow_sub-owed c = (room_of_finish _ _ c.args.run.stream c.args.run c.self.view_is c.self.invariant refl c.requires.own.plan c.requires.«open»).0
 
 pub finish-requires-2-clause-room : goal.finish-requires-2-clause-room
 finish-requires-2-clause-room c =
     let s = c.stream-stream.result in
-    let place = place_of_run _ _ s c.args.run c.self.view_is c.self.invariant c.stream-stream.ensures c.requires.plan in
+    let place = place_of_run _ _ s c.args.run c.self.view_is c.self.invariant c.stream-stream.ensures c.requires.own.plan in
     let read = ap (λ (desk : DeskData). desk.finished) (c.index_mut.ensures.value ∙ place.there _) in
-    let few = (room_of_finish _ _ s c.args.run c.self.view_is c.self.invariant c.stream-stream.ensures c.requires.plan c.requires.«open»).1 in
+    let few = (room_of_finish _ _ s c.args.run c.self.view_is c.self.invariant c.stream-stream.ensures c.requires.own.plan c.requires.«open»).1 in
     omega (arith, read, few)
 
 pub push-requires : goal.push-requires
 push-requires c =
-    let room = (room_of_finish _ _ c.args.run.stream c.args.run c.self.view_is c.self.invariant refl c.requires.plan c.requires.«open»).0 in
+    let room = (room_of_finish _ _ c.args.run.stream c.args.run c.self.view_is c.self.invariant refl c.requires.own.plan c.requires.«open»).0 in
     let all = c.self.invariant.spare in
     omega (arith, room, all)
 
@@ -42,7 +42,7 @@ module _ (c : goal.After-push) where
   s = c.stream-stream.result
 
   place : Place now s
-  place = place_of_run now _ s c.args.run c.self.view_is c.self.invariant c.stream-stream.ensures c.requires.plan
+  place = place_of_run now _ s c.args.run c.self.view_is c.self.invariant c.stream-stream.ensures c.requires.own.plan
 
   -- the event is the one that is owed
   event_is : Finish s c.order-order.result ≡ Finish c.args.run.stream c.args.run.order
@@ -54,10 +54,8 @@ module _ (c : goal.After-push) where
   obeys : Obeys c.args.self.now.plans c.args.self.now.past (Finish c.args.run.stream c.args.run.order)
   obeys =
       let run = c.args.run in
-      subst (λ (v : CoreData). IsOfPlans v.plans run → out_at v.outs run.stream ≡ record { order = run.order; paused = run.paused } → is_open (standing_of v.plans v.past run.stream) ≡ true → IsRunOf v.plans v.past run
-      → Obeys v.plans v.past (Finish run.stream run.order))
-      c.self.view_is (λ plan out stays shows. finish_legal now run c.self.invariant c.order-order.ensures.positive plan c.requires.going c.requires.end out stays shows)
-      c.requires.plan c.requires.out c.requires.«open» c.requires.shows
+      subst (λ (v : CoreData). IsOfCore v run → IsAway v run → is_open (standing_of v.plans v.past run.stream) ≡ true → Obeys v.plans v.past (Finish run.stream run.order)) c.self.view_is
+      (λ own away stays. finish_legal now run c.self.invariant own.plan away c.requires.going c.requires.end stays) c.requires.own c.requires.away c.requires.«open»
 
 pub invariant_of-self : goal.invariant_of-self
 invariant_of-self c =
@@ -67,7 +65,7 @@ invariant_of-self c =
     let event = Finish (s c) n in
     let was = c.self.invariant in
     let legal = subst (Obeys p h) (sym (event_is c)) (subst (λ (v : CoreData). Obeys v.plans v.past (Finish c.args.run.stream c.args.run.order)) (sym c.self.view_is) (obeys c)) in
-    let room = (room_of_finish (now c) _ (s c) c.args.run c.self.view_is was c.stream-stream.ensures c.requires.plan c.requires.«open»).0 in
+    let room = (room_of_finish (now c) _ (s c) c.args.run c.self.view_is was c.stream-stream.ensures c.requires.own.plan c.requires.«open»).0 in
     let less = need_finish p h (s c) n (subst IsSome (sym legal.rule_4) refl) in
     goes_on (now c) _ event c.finish-2.new.desk was (place c) record {
       plans = refl;

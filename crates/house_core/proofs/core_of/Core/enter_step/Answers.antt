@@ -2,7 +2,8 @@ use Rattle.std.proofs.Common.{◌≡◌, ◌-◌, ℕ, List, ◌∷◌, get_or, 
 use Rattle.sync_core.specs.Core.{StandsFor}
 use Rattle.sync_core.specs.Events.{happened}
 use Rattle.stream_state.specs.declared.effect.Effect.{Effect}
-use Rattle.stream_state.specs.State.{State}
+use Rattle.stream_state.specs.State.{State, noted}
+use Rattle.stream_state.specs.Steps.{stepped}
 use Rattle.gpu_store.specs.Images.{Pictures}
 use Rattle.gpu_plan.specs.Plans.{plan_of}
 use Rattle.gpu_journal.specs.declared.event.Event.{Event}
@@ -14,7 +15,7 @@ use Rattle.gpu_journal.specs.Legal.{Obeys}
 use Rattle.serial_laws.proofs.Needs.{need_step}
 use Rattle.serial_laws.proofs.Knowns.{step_images}
 use Rattle.step_parts.specs.declared.acted.Acted.{Acted}
-use Rattle.house_core.specs.Desks.{Out, DeskData, RunData, Agree, desk_at, run_of}
+use Rattle.house_core.specs.Desks.{Out, DeskData, RunData, desk_at, run_of}
 use Rattle.house_core.specs.Answers.{WasExecuted, IsMovedBy, HasStepped}
 use Rattle.house_core.specs.Stepping.{stepped_desk}
 use Rattle.house_core.specs.Core.{CoreData, IsRunOf, books_of, outs_of, with_out}
@@ -23,20 +24,8 @@ use Rattle.house_core.proofs.Rows.{books_stay, outs_set}
 use Rattle.house_core.proofs.Again.{Place, seats_stay, goes_on}
 use Rattle.house_core.proofs.Seen.{parts_of, place_seen}
 use Rattle.house_core.proofs.Executing.{ready, executed}
-use Rattle.house_core.proofs.AfterStep.{desk_after, IsOut, out_seen, agrees, may_step, fits_step, run_after, run_goes_on, run_moves}
+use Rattle.house_core.proofs.AfterStep.{desk_after, IsOut, out_seen, may_step, fits_step, run_after, run_goes_on, run_moves}
 use Rattle.house_core.proofs.core_of.Core.enter_step.Goals as goal
-
--- the desk that was found is that of the run's stream
-at_run : (desks : List DeskData) (s t : ℕ) (desk there : DeskData) → desk ≡ get_or desks (s - 1) desk → s ≡ t → get_or desks (t - 1) desk ≡ there → desk ≡ there
-at_run desks s t desk there found same is = found ∙ ap (λ (s : ℕ). get_or desks (s - 1) desk) same ∙ is
-
-pub step-requires-clause-agree : goal.step-requires-clause-agree
-step-requires-clause-agree c =
-    let now = parts_of c.self.inside in
-    let run = c.args.run.now in
-    let out = out_seen now _ run c.self.view_is c.self.invariant c.requires.plan c.requires.book c.requires.out c.requires.going c.requires.shows in
-    let read = at_run now.desks c.stream-stream.result run.stream c.index_mut-desk.result.now _ c.index_mut-desk.ensures.value c.stream-stream.ensures (out.place.there _) in
-    subst (Agree run) (sym read) (agrees now run out)
 
 pub step-requires-clause-ready : goal.step-requires-clause-ready
 step-requires-clause-ready c =
@@ -44,7 +33,7 @@ step-requires-clause-ready c =
     let run = c.args.run.now in
     let words = c.args.words.now in
     let desk = c.index_mut-desk.result.now in
-    let at = place_seen now _ run.stream c.self.view_is c.self.invariant c.requires.plan.known in
+    let at = place_seen now _ run.stream c.self.view_is c.self.invariant c.requires.own.plan.known in
     let place = subst (Place now) (sym c.stream-stream.ensures) at in
     let obeys = subst (λ (v : CoreData). Obeys v.plans v.past (Step run.stream words)) (sym c.self.view_is) c.requires.obeys in
     let verdict = ap (λ (v : CoreData). verdict_at v.plans v.past run.stream words) c.self.view_is ∙ c.requires.command in
@@ -67,10 +56,10 @@ module _ (c : goal.After-push) where
   event = Step run.stream c.args.words.now
 
   out : IsOut now run
-  out = out_seen now _ run c.self.view_is c.self.invariant c.requires.plan c.requires.book c.requires.out c.requires.going c.requires.shows
+  out = out_seen now _ run c.args.words.now c.self.view_is c.self.invariant c.requires.own c.requires.away c.requires.going c.requires.obeys
 
   read : c.index_mut-desk.result.now ≡ desk_at now.desks run.stream
-  read = at_run now.desks c.stream-stream.result run.stream c.index_mut-desk.result.now _ c.index_mut-desk.ensures.value c.stream-stream.ensures (out.place.there _)
+  read = c.index_mut-desk.ensures.value ∙ ap (λ (s : ℕ). get_or now.desks (s - 1) c.index_mut-desk.result.now) c.stream-stream.ensures ∙ out.place.there _
 
   obeys : Obeys now.plans now.past event
   obeys = subst (λ (v : CoreData). Obeys v.plans v.past event) (sym c.self.view_is) c.requires.obeys
@@ -79,13 +68,13 @@ module _ (c : goal.After-push) where
   told =
       let place = subst (Place now) (sym c.stream-stream.ensures) out.place in
       let state = ap (λ (desk : DeskData). desk.state) (c.index_mut-desk.ensures.value ∙ place.there _) ∙ place.fits.state in
-      let here = executed now _ _ _ _ _ acted c.self.invariant place refl refl state c.in_ok-acted.ensures.executes in
+      let here = executed now _ _ _ _ _ acted c.self.invariant place refl refl state c.in_ok-acted.ensures.acts.executes in
       subst (λ (s : ℕ). WasExecuted now.plans now.past s c.args.words.now acted) c.stream-stream.ensures here
 
   came : c.step.new.desk ≡ desk_after now.plans run.stream c.args.words.now acted (desk_at now.desks run.stream)
   came =
-      c.in_ok-acted.ensures.desk ∙ ap (λ (left : State). stepped_desk left acted c.index_mut-desk.result.now) c.in_ok-acted.ensures.executes.state
-      ∙ (λ i. desk_after now.plans (c.stream-stream.ensures i) c.args.words.now acted (read i))
+      c.in_ok-acted.ensures.desk ∙ ap (λ (left : State). stepped_desk left acted run.order c.index_mut-desk.result.now) c.in_ok-acted.ensures.acts.executes.state
+      ∙ (λ i. stepped_desk (noted acted.answer (stepped (plan_of now.plans (c.stream-stream.ensures i)).areas c.args.words.now (read i).state)) acted (sym out.out i).order (read i))
 
   -- at the place of the run's stream
   set_there : set now.desks (c.stream-stream.result - 1) c.step.new.desk ≡ set now.desks (run.stream - 1) c.step.new.desk
@@ -104,16 +93,16 @@ invariant_of-self-2 c =
     let s = (run c).stream in
     let words = c.args.words.now in
     let was = c.self.invariant in
-    let does = c.in_ok-acted.ensures.executes in
+    let does = c.in_ok-acted.ensures.acts.executes in
     goes_on (now c) _ (event c) c.step.new.desk was (out c).place record {
       plans = refl;
       past = past c;
       obeys = obeys c;
       stands = subst (λ (effect : Effect). StandsFor c.step.new.scene.sync (happened s (deed_asked p effect) (sync_of p h))) (told c).effect
-          (subst (λ (s : ℕ). StandsFor c.step.new.scene.sync (happened s (deed_asked p (acted c).effect) (sync_of p h))) c.stream-stream.ensures (does.waits (sync_of p h) was.sync));
-      count = does.count;
+          (subst (λ (s : ℕ). StandsFor c.step.new.scene.sync (happened s (deed_asked p (acted c).effect) (sync_of p h))) c.stream-stream.ensures (does.scene.waits (sync_of p h) was.sync));
+      count = does.scene.count;
       endings = c.shows_room.ensures;
-      images = does.images ∙ ap (λ (effect : Effect). (drawn_by effect (now c).images).images) (told c).effect ∙ ap (λ (images : Pictures). (drawn_by (asked_by p s words (world p h)) images).images) was.images ∙ sym (step_images p h s words);
+      images = does.scene.images ∙ ap (λ (effect : Effect). (drawn_by effect (now c).images).images) (told c).effect ∙ ap (λ (images : Pictures). (drawn_by (asked_by p s words (world p h)) images).images) was.images ∙ sym (step_images p h s words);
       owed = let same = need_step p h s words in omega (arith, same);
       spare = let room = c.in_ok-take_room.ensures.room in let same = c.reserve_words.ensures.spare in let left = c.push.ensures.spare in omega (arith, room, same, left);
       desks = set_there c;

@@ -48,7 +48,7 @@ enter_step-requires-clause-obeys c =
     let same = c.shows_run.ensures.run in
     let stream = c.stream-stream.ensures in
     let open' = open_there v now run met s core same stream c.is_lost.result c.is_closed.result c.is_lost.ensures c.if-is_lost.false c.is_closed.ensures c.if-is_closed.false in
-    let is = fetched_for v.plans v.past run c.args.fetched.now.facts c.words-words.result.now words c.requires.plan.known open' c.shows_run.ensures.shows c.shows_run.ensures.runs c.requires.going c.requires.facts c.words-words.ensures.more c.words-words.ensures.copy.places c.words-words.ensures.value c.requires.may in
+    let is = fetched_for v.plans v.past run c.args.fetched.now.facts c.words-words.result.now words c.requires.own.plan.known open' c.shows_run.ensures.away.shows c.shows_run.ensures.runs c.requires.going c.requires.facts c.words-words.ensures.more c.words-words.ensures.copy.places c.words-words.ensures.value c.requires.may in
     step_there v now run met s core same stream c.words-words.result.now words c.words-words.ensures.value
     (fetched_step_obeys v.plans v.past run c.args.fetched.now.facts words is c.in-Ok.command c.shows_run.ensures.lawful c.shows_run.ensures.legal
     (judged v now run met s core same stream words (Ok c.in-Ok.command) c.in-Ok.ensures.verdict))
@@ -65,7 +65,7 @@ enter_lost-requires-clause-obeys c =
     let same = c.shows_run.ensures.run in
     let stream = c.stream-stream.ensures in
     let open' = open_there v now run met s core same stream c.is_lost.result c.is_closed.result c.is_lost.ensures c.if-is_lost.false c.is_closed.ensures c.if-is_closed.false in
-    let is = fetched_for v.plans v.past run c.args.fetched.now.facts c.words-words.result.now words c.requires.plan.known open' c.shows_run.ensures.shows c.shows_run.ensures.runs c.requires.going c.requires.facts c.words-words.ensures.more c.words-words.ensures.copy.places c.words-words.ensures.value c.requires.may in
+    let is = fetched_for v.plans v.past run c.args.fetched.now.facts c.words-words.result.now words c.requires.own.plan.known open' c.shows_run.ensures.away.shows c.shows_run.ensures.runs c.requires.going c.requires.facts c.words-words.ensures.more c.words-words.ensures.copy.places c.words-words.ensures.value c.requires.may in
     lost_there v now run met s core same stream c.in-Err.error c.words-words.result.now words c.words-words.ensures.value
     (fetched_error_obeys v.plans v.past run c.args.fetched.now.facts words is c.in-Err.error c.shows_run.ensures.lawful c.shows_run.ensures.legal
     (judged v now run met s core same stream words (Err c.in-Err.error) c.in-Err.ensures.verdict))

@@ -1,4 +1,4 @@
-use Rattle.std.proofs.Common.{◌≡◌, ◌-◌, ℕ, false, List, eqb, set, ap, sym, subst, ◌∙◌, Some, None, option_map, slice_get}
+use Rattle.std.proofs.Common.{◌≡◌, ◌-◌, ◌<◌, ℕ, false, List, eqb, set, ap, sym, subst, ◌∙◌, Some, None, option_map, slice_get}
 use Rattle.gpu_plan.specs.declared.plan.Action.{Action}
 use Rattle.gpu_plan.specs.Plans.{PlanData, plan_of}
 use Rattle.sync_core.specs.Standing.{first_order}
@@ -89,29 +89,27 @@ returns-clause-same c = record {
   books = books_stay (now c).desks (s c) c.take-2.new.desk (is c).place.desk (ap (λ (desk : DeskData). desk.book) (left c)) ∙ ap (λ (v : CoreData). v.books) c.self.view_is;
 }
 
-pub returns-clause-plan : goal.returns-clause-plan
-returns-clause-plan c = subst (λ (v : CoreData). IsOfPlans v.plans c.take-2.result) c.self.view_is (subst (IsOfPlans (now c).plans) (sym (run c)) (all c).plan)
-
-pub returns-clause-run : goal.returns-clause-run
-returns-clause-run c = subst (λ (v : CoreData). IsRunOf v.plans v.past c.take-2.result) c.self.view_is (subst (IsRunOf (now c).plans (now c).past) (sym (run c)) (all c).run)
-
-pub returns-clause-book : goal.returns-clause-book
-returns-clause-book c =
-    ap (λ (run : RunData). run.book) (run c) ∙ sym (book_at_desk (now c).desks (s c)) ∙ ap (λ (v : CoreData). book_at v.books (s c)) c.self.view_is ∙ ap (λ (run : RunData). book_at c.args.self.now.books run.stream) (sym (run c))
-
-pub returns-clause-home : goal.returns-clause-home
-returns-clause-home c =
-    ap (λ (run : RunData). out_at c.args.self.now.outs run.stream) (run c) ∙ ap (λ (v : CoreData). out_at v.outs (s c)) (sym c.self.view_is) ∙ out_at_desk (now c).desks (s c)
-    ∙ ap (λ (desk : DeskData). desk.out) (sym (read c)) ∙ c.take-2.ensures.home
-
-pub returns-clause-outs : goal.returns-clause-outs
-returns-clause-outs c = outs_set (now c).desks (s c) c.take-2.new.desk ∙ ap (λ (desk : DeskData). with_out (seen (now c)).outs (s c) desk.out) (left c)
-    ∙ ap (λ (v : CoreData). with_out v.outs (s c) (away c).out) c.self.view_is
-    ∙ ap (λ (run : RunData). with_out c.args.self.now.outs run.stream record { order = run.order; paused = false }) (sym (run c))
-
-pub returns-clause-out : goal.returns-clause-out
-returns-clause-out c =
+pub returns-clause-leaves : goal.returns-clause-leaves
+returns-clause-leaves c =
     let desks = set (now c).desks (s c - 1) c.take-2.new.desk in
-    ap (λ (run : RunData). out_at (outs_of desks) run.stream) (run c) ∙ out_at_desk desks (s c)
-    ∙ ap (λ (desk : DeskData). desk.out) (desk_set_here (now c).desks (s c) c.take-2.new.desk (is c).place.desk ∙ left c)
-    ∙ ap (λ (run : RunData). record { order = run.order; paused = false }) (sym (run c))
+    let run' = sym (run c) in
+    record {
+      own = record {
+        plan = subst (λ (v : CoreData). IsOfPlans v.plans c.take-2.result) c.self.view_is (subst (IsOfPlans (now c).plans) run' (all c).plan);
+        book = ap (λ (run : RunData). run.book) (run c) ∙ sym (book_at_desk (now c).desks (s c)) ∙ ap (λ (v : CoreData). book_at v.books (s c)) c.self.view_is ∙ ap (λ (run : RunData). book_at c.args.self.now.books run.stream) run';
+      };
+      run = subst (λ (v : CoreData). IsRunOf v.plans v.past c.take-2.result) c.self.view_is (subst (IsRunOf (now c).plans (now c).past) run' (all c).run);
+      going = ap (λ (run : RunData). run.paused) (run c);
+      home = ap (λ (run : RunData). out_at c.args.self.now.outs run.stream) (run c) ∙ ap (λ (v : CoreData). out_at v.outs (s c)) (sym c.self.view_is) ∙ out_at_desk (now c).desks (s c)
+          ∙ ap (λ (desk : DeskData). desk.out) (sym (read c)) ∙ c.take-2.ensures.home;
+      outs = outs_set (now c).desks (s c) c.take-2.new.desk ∙ ap (λ (desk : DeskData). with_out (seen (now c)).outs (s c) desk.out) (left c)
+          ∙ ap (λ (v : CoreData). with_out v.outs (s c) (away c).out) c.self.view_is
+          ∙ ap (λ (run : RunData). with_out c.args.self.now.outs run.stream record { order = run.order; paused = false }) run';
+      away = record {
+        out = ap (λ (run : RunData). out_at (outs_of desks) run.stream) (run c) ∙ out_at_desk desks (s c)
+            ∙ ap (λ (desk : DeskData). desk.out) (desk_set_here (now c).desks (s c) c.take-2.new.desk (is c).place.desk ∙ left c)
+            ∙ ap (λ (run : RunData). record { order = run.order; paused = run.paused }) run';
+        positive = subst (λ (run : RunData). 0 < run.order) run' (first_positive (now c).plans (now c).past (s c) c.in-Some.order (first c));
+        shows = λ open'. subst (IsRunOf (now c).plans (now c).past) run' (all c).run;
+      };
+    }

@@ -88,8 +88,8 @@ returns-clause-entered c =
       moved = subst (λ (e : Effect). counts_of c.tell.new.watch ≡ record (counts_of c.index_mut-2.result.now) { token = greatest_after e c.index_mut-2.result.now.token }) told c.in_ok-tell.ensures.counts;
       put = refl;
       drawn = refl;
-      core = λ g stands. subst (λ (e : Effect). StandsFor c.act.new.scene.sync (sync.happened s (deed_asked p e) g)) told (does.waits g stands);
-      images = does.images ∙ ap (λ (e : Effect). (drawn_by e old.images).images) told;
+      core = λ g stands. subst (λ (e : Effect). StandsFor c.act.new.scene.sync (sync.happened s (deed_asked p e) g)) told (does.scene.waits g stands);
+      images = does.scene.images ∙ ap (λ (e : Effect). (drawn_by e old.images).images) told;
       states = ap (λ (x : State). set old.states (s - 1) x) (does.state ∙ (λ i. noted (answer i) (stepped areas words (state i))));
     }
 
@@ -109,4 +109,4 @@ returns-clause-fits c =
     let does = c.in_ok-acted.ensures.executes in
     let next : IsWithinQuota c.act.new.state = subst IsWithinQuota (sym does.state) (within_stepped (plan_of p s).areas words c.index_mut.result.now c.in_ok-acted.acted.answer lawful before (subst (IsTaken (plan_of p s).areas words) (sym state) taken)) in
     let is = subst (λ (plan : PlanData). IsWatch plan c.tell.new.watch) (sym plan) c.in_ok-tell.ensures.watch in
-    fits_turned p old _ s c.tell.new.watch fits known (does.drawn ∙ fits.drawn) does.count (length-set old.states (s - 1) c.act.new.state) (All-set IsWithinQuota old.states (s - 1) c.act.new.state next fits.within) refl is
+    fits_turned p old _ s c.tell.new.watch fits known (does.scene.drawn ∙ fits.drawn) does.scene.count (length-set old.states (s - 1) c.act.new.state) (All-set IsWithinQuota old.states (s - 1) c.act.new.state next fits.within) refl is
