@@ -37,12 +37,13 @@ impl Parts {
         ensures { OnOk result ((plans : List PlanData) → AreFreshFor plans self.old
             → AreFreshFor (plans ++ plan.now ∷ []) self.new) }
     {
-        let (client, side) = Client::make(alloc, plan)?;
+        // What is pushed at once does not end at the further `?`, and so takes no check there.
         let book = gpu_books::make(alloc)?;
-        self.clients.push(client)?;
-        self.sides.push(side)?;
-        self.results.push(())?;
         self.books.push(book)?;
+        self.results.push(())?;
+        let (client, side) = Client::make(alloc, plan)?;
+        self.sides.push(side)?;
+        self.clients.push(client)?;
         Ok(())
     }
 

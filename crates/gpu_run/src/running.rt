@@ -1,12 +1,6 @@
 //! The third phase of a round: streams run, one after the other.
-ghost use Rattle.std.specs.Prelude.{◌≡◌, ◌≢◌, ◌<◌, ◌≤◌, length, true, false, Some, IfOk, OnOk};
-ghost use Rattle.gpu_journal.specs.Serial.{is_runnable, begins_round, count, runner, choice, IsPlayed};
-ghost use Rattle.serial_laws.specs.Scripts.{AreLawfulPlans};
-ghost use Rattle.gpu_run.specs.Clients.{done_at};
-ghost use Rattle.gpu_run.specs.Reading.{HaveRead};
-ghost use Rattle.gpu_run.specs.Rounds.{IsRunning};
-ghost use Rattle.gpu_run.specs.Served.{IsServed, IsOut};
-ghost use Rattle.gpu_run.specs.Turning.{HasTakenNext};
+ghost use Rattle.std.specs.Prelude.{◌≢◌, ◌≤◌, length, IfOk, OnOk};
+ghost use Rattle.gpu_run.specs.Turning.{IsInTurn, HasTakenNext, HasRunOut};
 ghost use Rattle.gpu_run.specs.Stands.{Acting, Running, Stands, EndsWhereNoneCame};
 
 use crate::client::Client;
@@ -26,12 +20,7 @@ fn turn<N: Naming, H: Hook>(
     run: &mut Run<N, PlainPass>,
     list: &mut Vec<(u32, u32)>,
 ) -> Result<bool, Memory>
-    requires lawful { AreLawfulPlans N.plans }
-    requires played { IsPlayed N.plans house.old.core.past }
-    requires out { IsOut N.plans house.old clients.now run.old }
-    requires runs { is_runnable N.plans house.old.core.past run.old.run.stream ≡ true }
-    requires there { done_at clients.now run.old.run.stream
-        ≡ count N.plans house.old.core.past run.old.run.stream }
+    requires turn { IsInTurn N.plans house.old clients.now run.old }
     requires more { run.old.run.facts.get ≢ run.old.run.facts.put }
     ensures { IfOk result (HasTakenNext N.plans house.old house.new clients.now
         run.old.run.stream run.new) }
@@ -58,21 +47,8 @@ fn run_out<N: Naming, H: Hook>(
     run: Run<N, PlainPass>,
     list: &mut Vec<(u32, u32)>,
 ) -> Result<(), Memory>
-    requires lawful { AreLawfulPlans N.plans }
-    requires played { IsPlayed N.plans house.old.core.past }
-    requires out { IsOut N.plans house.old clients.now run }
-    requires running { IsRunning N.plans house.old.core.past (done_at clients.now) }
-    requires chosen { runner N.plans house.old.core.past ≡ Some run.run.stream }
-    requires runs { is_runnable N.plans house.old.core.past run.run.stream ≡ true }
-    requires read { HaveRead N.plans house.old.core.past clients.now }
-    ensures played { OnOk result (IsPlayed N.plans house.new.core.past) }
-    ensures served { OnOk result (IsServed N.plans house.new clients.now) }
-    ensures read { OnOk result (HaveRead N.plans house.new.core.past clients.now) }
-    ensures chosen { OnOk result
-        (runner N.plans house.new.core.past ≡ choice N.plans house.new.core.past) }
-    ensures running { OnOk result (begins_round N.plans house.new.core.past ≡ false
-        → IsRunning N.plans house.new.core.past (done_at clients.now)) }
-    ensures longer { OnOk result (length house.old.core.past < length house.new.core.past) }
+    requires { IsInTurn N.plans house.old clients.now run }
+    ensures { OnOk result (HasRunOut N.plans house.old house.new clients.now) }
 {
     let mut out = run;
     while !out.at_end() {

@@ -1,11 +1,13 @@
-ghost use Rattle.std.specs.Prelude.{◌≡◌, map, IfOk};
+ghost use Rattle.std.specs.Prelude.{◌≡◌, map, IfOk, OnOk};
 ghost use Rattle.gpu_fetch.specs.Side.{SideData, no_table};
 ghost use Rattle.house_core.specs.Core.{names_of};
 ghost use Rattle.gpu_journal.specs.Serial.{serial};
 ghost use Rattle.serial_laws.specs.Scripts.{AreLawfulPlans};
 ghost use Rattle.gpu_run.specs.Dumps.{all_dumps};
 ghost use Rattle.gpu_run.specs.Making.{AreFreshFor};
+ghost use Rattle.gpu_run.specs.Stands.{Acting, Stands};
 
+use crate::client::Client;
 use crate::parts::Parts;
 use crate::reading::all_dumps;
 use crate::rounds::play;
@@ -18,6 +20,21 @@ use serial_laws::plans_are_lawful;
 use std::alloc::Global;
 use std::marker::Brand;
 use wait_hooks::Hook;
+
+// Plays a house that has done nothing until no event follows, and gives what its clients have read then.
+fn play_out<N: Naming, H: Hook>(
+    alloc: Global,
+    house: &mut House<N, PlainPass, H>,
+    mut clients: Vec<Client>,
+) -> Result<Vec<Dumps>, Memory>
+    requires { Stands (Acting 0) N.plans house.old clients.items }
+    ensures serial { OnOk result (house.new.core.past ≡ serial N.plans) }
+    ensures dumps { IfOk result (λ all. all.items ≡ all_dumps N.plans (serial N.plans)) }
+{
+    let mut list = Vec::new(alloc);
+    play(house, &mut clients, &mut list)?;
+    all_dumps(alloc, house, clients)
+}
 
 // What the house over these parts leaves, and what the clients have read, once no event follows. N names the plans, the base and the books.
 fn run_named<N: Naming, H: Hook>(
@@ -38,15 +55,13 @@ fn run_named<N: Naming, H: Hook>(
     ensures dumps { IfOk result (λ ran. ran.1.items ≡ all_dumps N.plans (serial N.plans)) }
 {
     let Parts {
-        mut clients,
+        clients,
         sides,
         results,
         books,
     } = parts;
     let mut house = House::<N, PlainPass, H>::make(alloc, plans, hook, sides, results, books)?;
-    let mut list = Vec::new(alloc);
-    play(&mut house, &mut clients, &mut list)?;
-    let dumps = all_dumps(alloc, &house, clients)?;
+    let dumps = play_out(alloc, &mut house, clients)?;
     Ok((house.report(), dumps))
 }
 

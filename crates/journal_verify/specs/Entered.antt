@@ -1,5 +1,5 @@
 -- What an event that obeys all rules changes of the record.
-use Rattle.std.specs.Prelude.{◌≡◌, ℕ, ◌+◌, ◌-◌, ◌≤◌, Bool, false, Option, Some, List, length, slice_get, slice_set}
+use Rattle.std.specs.Prelude.{◌≡◌, ℕ, ◌+◌, ◌-◌, ◌≤◌, Bool, false, Option, Some, None, Result, IfOk, IfErr, List, length, slice_get, slice_set}
 use Rattle.std.specs.List.{All}
 use Rattle.gpu_store.specs.Images.{Pictures, Applied}
 use Rattle.gpu_plan.specs.Plans.{PlansData, plan_of}
@@ -15,7 +15,7 @@ use Rattle.gpu_journal.specs.World.{drawn_by, greatest_after}
 use Rattle.gpu_journal.specs.Waits.{fences_in, deed_asked}
 use Rattle.gpu_journal.specs.Replaying.{IsWithinQuota}
 use Rattle.journal_verify.specs.Kept.{WatchData, JudgeData, watch_of, AreWatched}
-use Rattle.journal_verify.specs.Faults.{kept_state}
+use Rattle.journal_verify.specs.Faults.{kept_state, fault_of, fault_in}
 
 -- the record has a part for each stream of the plans, which fits its plan
 pub record FitsPlans (p : PlansData) (judge : JudgeData) : Type 0 where
@@ -81,3 +81,12 @@ IsEffect p judge (Step s words) effect = effect ≡ effect_in p judge s words
 IsEffect p judge (Finish s n) effect = effect ≡ Nothing
 IsEffect p judge (Lost s why words) effect = effect ≡ Nothing
 IsEffect p judge (Close s) effect = effect ≡ Nothing
+
+-- how an event is judged: the first rule that it breaks, which changes nothing; or where it breaks none, it is taken up, and this
+-- is what it asks of the rest of the service
+pub record JudgesSo (p : PlansData) (e : Event) (old new : JudgeData) (taken : Result Effect ℕ) : Type 0 where
+  pub fault : fault_in taken ≡ fault_of p old e
+  pub entered : fault_in taken ≡ None → HasEntered p e old new
+  pub effect : IfOk taken (IsEffect p old e)
+  pub kept : IfErr taken (λ rule. new ≡ old)
+  pub fits : FitsPlans p new

@@ -95,7 +95,7 @@ impl Followed {
         Ok(())
     }
 
-    /// The first rule that an event breaks. Where it breaks none, it is taken up.
+    /// The first rule that an event breaks, which changes nothing. Where it breaks none, it is taken up.
     pub(crate) fn take(&mut self, plans: &Plans, event: &Event<'_>) -> Result<Option<u32>, Memory>
         requires fits { FitsPlans plans.now self.old.judge }
         requires counted { CountsAtMost 4294967294 self.old.judge }
@@ -103,6 +103,7 @@ impl Followed {
         ensures fault { IfOk result (λ fault. fault ≡ fault_of plans.now self.old.judge event.now) }
         ensures followed { IfOk result
             (λ fault. fault ≡ None → HasFollowed plans.now event.now self.old self.new) }
+        ensures kept { IfOk result (λ fault. IfSome fault (λ rule. self.new ≡ self.old)) }
         ensures fits { OnOk result (FitsPlans plans.now self.new.judge) }
     {
         match self.judge.enter(plans, event)? {

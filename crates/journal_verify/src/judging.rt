@@ -1,7 +1,7 @@
 //! The rules of each event, and then what it does.
-ghost use Rattle.std.specs.Prelude.{◌≡◌, None, IfOk, OnOk};
-ghost use Rattle.journal_verify.specs.Faults.{order_fault, step_fault, lost_fault, fetch_outcome, finish_fault, memory_fault, close_fault, fault_of, fault_in};
-ghost use Rattle.journal_verify.specs.Entered.{FitsPlans, CountsAtMost, HasEntered, IsEffect};
+ghost use Rattle.std.specs.Prelude.{◌≡◌, None, IfOk, IfSome, OnOk};
+ghost use Rattle.journal_verify.specs.Faults.{finish_fault, close_fault, fault_of};
+ghost use Rattle.journal_verify.specs.Entered.{FitsPlans, CountsAtMost, HasEntered, JudgesSo};
 
 use crate::judge::Judge;
 use crate::outcome::Outcome;
@@ -52,12 +52,7 @@ impl Judge {
     ) -> Result<Result<Effect, u32>, Memory>
         requires fits { FitsPlans plans.now self.old }
         requires counted { CountsAtMost 4294967294 self.old }
-        ensures fault { IfOk result (λ taken. fault_in taken ≡ order_fault self.old s n c) }
-        ensures entered { IfOk result
-            (λ taken. fault_in taken ≡ None → HasEntered plans.now (Event.Order s n c) self.old self.new) }
-        ensures effect { IfOk result (λ taken. IfOk taken (λ effect. IsEffect plans.now self.old
-            (Event.Order s n c) effect)) }
-        ensures fits { OnOk result (FitsPlans plans.now self.new) }
+        ensures { IfOk result (JudgesSo plans.now (Event.Order s n c) self.old self.new) }
     {
         if let Some(rule) = self.order_fault(s, n, c) {
             return Ok(Err(rule));
@@ -74,14 +69,7 @@ impl Judge {
         words: &[(u32, u32)],
     ) -> Result<Result<Effect, u32>, Memory>
         requires fits { FitsPlans plans.now self.old }
-        ensures fault { IfOk result
-            (λ taken. fault_in taken ≡ step_fault (fetch_outcome plans.now self.old s words.now)) }
-        ensures entered { IfOk result
-            (λ taken. fault_in taken ≡ None → HasEntered plans.now
-            (Event.Step s words.now) self.old self.new) }
-        ensures effect { IfOk result (λ taken. IfOk taken (λ effect. IsEffect plans.now self.old
-            (Event.Step s words.now) effect)) }
-        ensures fits { OnOk result (FitsPlans plans.now self.new) }
+        ensures { IfOk result (JudgesSo plans.now (Event.Step s words.now) self.old self.new) }
     {
         match self.fetch_outcome(plans, s, words) {
             Outcome::Broken(rule) => Ok(Err(rule)),
@@ -102,14 +90,8 @@ impl Judge {
         words: &[(u32, u32)],
     ) -> Result<Result<Effect, u32>, Memory>
         requires fits { FitsPlans plans.now self.old }
-        ensures fault { IfOk result
-            (λ taken. fault_in taken ≡ lost_fault error (fetch_outcome plans.now self.old s words.now)) }
-        ensures entered { IfOk result
-            (λ taken. fault_in taken ≡ None
-            → HasEntered plans.now (Event.Lost s (Why.Error error) words.now) self.old self.new) }
-        ensures effect { IfOk result (λ taken. IfOk taken (λ effect. IsEffect plans.now self.old
-            (Event.Lost s (Why.Error error) words.now) effect)) }
-        ensures fits { OnOk result (FitsPlans plans.now self.new) }
+        ensures { IfOk result
+            (JudgesSo plans.now (Event.Lost s (Why.Error error) words.now) self.old self.new) }
     {
         match self.fetch_outcome(plans, s, words) {
             Outcome::Broken(rule) => Ok(Err(rule)),
@@ -128,12 +110,7 @@ impl Judge {
     fn finish(&mut self, plans: &Plans, s: u32, n: u32) -> Result<Result<Effect, u32>, Memory>
         requires fits { FitsPlans plans.now self.old }
         requires counted { CountsAtMost 4294967294 self.old }
-        ensures fault { IfOk result (λ taken. fault_in taken ≡ finish_fault plans.now self.old s n) }
-        ensures entered { IfOk result
-            (λ taken. fault_in taken ≡ None → HasEntered plans.now (Event.Finish s n) self.old self.new) }
-        ensures effect { IfOk result (λ taken. IfOk taken (λ effect. IsEffect plans.now self.old
-            (Event.Finish s n) effect)) }
-        ensures fits { OnOk result (FitsPlans plans.now self.new) }
+        ensures { IfOk result (JudgesSo plans.now (Event.Finish s n) self.old self.new) }
     {
         if let Some(rule) = self.finish_fault(plans, s, n) {
             return Ok(Err(rule));
@@ -150,12 +127,7 @@ impl Judge {
         words: &[(u32, u32)],
     ) -> Result<Effect, u32>
         requires fits { FitsPlans plans.now self.old }
-        ensures fault { fault_in result ≡ memory_fault self.old s words.now }
-        ensures entered { fault_in result ≡ None
-            → HasEntered plans.now (Event.Lost s Why.Memory words.now) self.old self.new }
-        ensures effect { IfOk result (λ effect. IsEffect plans.now self.old
-            (Event.Lost s Why.Memory words.now) effect) }
-        ensures fits { FitsPlans plans.now self.new }
+        ensures { JudgesSo plans.now (Event.Lost s Why.Memory words.now) self.old self.new result }
     {
         if !self.is_open(s) || !words.is_empty() {
             return Err(11);
@@ -167,11 +139,7 @@ impl Judge {
     // A close: rule 12.
     fn close(&mut self, plans: &Plans, s: u32) -> Result<Effect, u32>
         requires fits { FitsPlans plans.now self.old }
-        ensures fault { fault_in result ≡ close_fault plans.now self.old s }
-        ensures entered { fault_in result ≡ None → HasEntered plans.now (Event.Close s) self.old self.new }
-        ensures effect { IfOk result (λ effect. IsEffect plans.now self.old
-            (Event.Close s) effect) }
-        ensures fits { FitsPlans plans.now self.new }
+        ensures { JudgesSo plans.now (Event.Close s) self.old self.new result }
     {
         if let Some(rule) = self.close_fault(plans, s) {
             return Err(rule);
@@ -180,8 +148,8 @@ impl Judge {
         Ok(Effect::Nothing)
     }
 
-    /// The first rule that an event breaks; or where it breaks none, it is taken up, and this is what it asks of the rest of
-    /// the service.
+    /// The first rule that an event breaks, which changes nothing; or where it breaks none, it is taken up, and this is what
+    /// it asks of the rest of the service.
     pub(crate) fn enter(
         &mut self,
         plans: &Plans,
@@ -189,12 +157,7 @@ impl Judge {
     ) -> Result<Result<Effect, u32>, Memory>
         requires fits { FitsPlans plans.now self.old }
         requires counted { CountsAtMost 4294967294 self.old }
-        ensures fault { IfOk result (λ taken. fault_in taken ≡ fault_of plans.now self.old event.now) }
-        ensures entered { IfOk result
-            (λ taken. fault_in taken ≡ None → HasEntered plans.now event.now self.old self.new) }
-        ensures effect { IfOk result
-            (λ taken. IfOk taken (λ effect. IsEffect plans.now self.old event.now effect)) }
-        ensures fits { OnOk result (FitsPlans plans.now self.new) }
+        ensures { IfOk result (JudgesSo plans.now event.now self.old self.new) }
     {
         match event {
             Event::Order {
@@ -212,13 +175,14 @@ impl Judge {
         }
     }
 
-    /// The first rule that an event breaks. Where it breaks none, it is taken up.
+    /// The first rule that an event breaks, which changes nothing. Where it breaks none, it is taken up.
     pub(crate) fn take(&mut self, plans: &Plans, event: &Event<'_>) -> Result<Option<u32>, Memory>
         requires fits { FitsPlans plans.now self.old }
         requires counted { CountsAtMost 4294967294 self.old }
         ensures fault { IfOk result (λ fault. fault ≡ fault_of plans.now self.old event.now) }
         ensures entered { IfOk result
             (λ fault. fault ≡ None → HasEntered plans.now event.now self.old self.new) }
+        ensures kept { IfOk result (λ fault. IfSome fault (λ rule. self.new ≡ self.old)) }
         ensures fits { OnOk result (FitsPlans plans.now self.new) }
     {
         match self.enter(plans, event)? {

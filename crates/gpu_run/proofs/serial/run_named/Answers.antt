@@ -13,12 +13,12 @@ use Rattle.gpu_run.proofs.serial.run_named.Goals as goal
 pub make-requires-clause-results : goal.make-requires-clause-results
 make-requires-clause-results g c = plain_results (table_at g.N.Naming.result_words) 1 c.args.plans.plans c.args.parts.results.items (c.requires.fresh.results ∙ ap (λ (p : PlansData). length p.plans) (sym c.requires.plans))
 
-pub play-requires : goal.play-requires
-play-requires g c =
+pub play_out-requires : goal.play_out-requires
+play_out-requires g c =
     let p = g.N.Naming.plans in
     let e = c.in_ok-house.ensures in
-    let clients = c.deref_mut.result.now in
-    let begun = c.deref_mut.ensures.value ∙ c.requires.fresh.clients in
+    let clients = c.args.parts.clients.items in
+    let begun = c.requires.fresh.clients in
     record {
       lawful = c.requires.lawful;
       rising = subst (IsRising p) (sym e.past) (begins p);
