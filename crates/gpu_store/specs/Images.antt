@@ -5,6 +5,7 @@ use Rattle.std.specs.Map.{lookup, set_value, remove_entry, keys_of, values_of}
 use Rattle.std.specs.BTreeMap.{is_at, insert_entry}
 use Rattle.std.specs.List.{sum_by, All}
 use Rattle.gpu_word.specs.Outcome.{◌>>=◌, unless}
+use Rattle.gpu_store.specs.declared.canvas.TheConstants.{MOST_SIDE}
 use Rattle.gpu_store.specs.declared.op.Op.{Op}
 use Rattle.gpu_store.specs.declared.op.Op.TheVariants.{Create, Delete, Clear, Copy, Upload}
 use Rattle.gpu_store.specs.declared.op.Answer.{Answer}
@@ -64,7 +65,7 @@ IsCreate (Upload image rect texels) = ⊥
 
 -- an image may have a side of 1 to 4,096 texels
 abbrev pub is_side : ℕ → Bool
-is_side side = nat_le 1 side && nat_le side 4096
+is_side side = nat_le 1 side && nat_le side MOST_SIDE
 
 -- the picture that was found, or refused where there is none
 abbrev pub present : Option Picture → Result Picture Answer
