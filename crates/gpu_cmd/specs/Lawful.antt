@@ -1,13 +1,14 @@
 -- The areas of a stream that a script may declare, and the facts that a stream may have.
 use Rattle.std.specs.Prelude.{ℕ, ◌+◌, ◌-◌, ◌≤◌, ◌<◌, nat_lt, if◌then◌else◌}
 use Rattle.gpu_cmd.specs.declared.areas.Areas.{Areas}
+use Rattle.gpu_cmd.specs.declared.areas.TheConstants.{LEAST_RING, MOST_RING}
 use Rattle.gpu_cmd.specs.declared.facts.StreamFacts.{StreamFacts}
 use Rattle.gpu_cmd.specs.Spans.{AreTiles, words_in}
 
 -- a ring of 16 to 4,096 entries, transfer memories that follow it, and result memories that count from 0
 pub record IsLawfulAreas (areas : Areas) : Type 0 where
-  pub ring_least : 16 ≤ areas.ring
-  pub ring_most : areas.ring ≤ 4096
+  pub ring_least : LEAST_RING ≤ areas.ring
+  pub ring_most : areas.ring ≤ MOST_RING
   pub memories : AreTiles areas.ring areas.memories
   pub results : AreTiles 0 areas.results
 

@@ -4,6 +4,7 @@ use Rattle.std.specs.Option.{option_map_or}
 use Rattle.std.specs.List.{list_all}
 use Rattle.gpu_cmd.specs.declared.areas.Areas.{Areas}
 use Rattle.gpu_cmd.specs.declared.areas.Span.{Span}
+use Rattle.gpu_cmd.specs.declared.areas.TheConstants.{LEAST_RING, MOST_RING}
 use Rattle.gpu_cmd.specs.Spans.{words_in}
 
 -- the span has a word, and lies between two places
@@ -29,4 +30,4 @@ are_tiles first spans = nat_le (words_in spans) 65536 && (each_declared (lies_am
 
 -- the areas are lawful
 abbrev pub are_lawful : Areas → Bool
-are_lawful areas = nat_le 16 areas.ring && (nat_le areas.ring 4096 && (are_tiles areas.ring areas.memories && are_tiles 0 areas.results))
+are_lawful areas = nat_le LEAST_RING areas.ring && (nat_le areas.ring MOST_RING && (are_tiles areas.ring areas.memories && are_tiles 0 areas.results))

@@ -27,6 +27,7 @@ pub struct StreamState {
 
 impl Model for StreamState {
     ghost use Rattle.std.specs.Prelude.{◌≤◌, ◌*◌};
+    ghost use Rattle.gpu_cmd.specs.declared.areas.TheConstants.{MOST_RING};
     ghost use Rattle.stream_state.specs.State.{State, IsBounded};
 
     ghost Value = { State };
@@ -47,7 +48,7 @@ impl Model for StreamState {
     } };
 
     ghost invariant = { λ state. (state.fetched ≤ 1048576)
-        × (state.entries ≤ 4096 * state.fetched) };
+        × (state.entries ≤ MOST_RING * state.fetched) };
 }
 
 impl StreamState {
