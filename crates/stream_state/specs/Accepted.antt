@@ -1,10 +1,9 @@
 -- The commands that a step takes, and what it finds in their words.
-use Rattle.std.specs.Prelude.{◌≡◌, ◌≢◌, ℕ, ◌+◌, ◌-◌, ◌*◌, ◌%◌, ◌≤◌, ◌<◌, Bool, List, length, Ok}
+use Rattle.std.specs.Prelude.{◌≡◌, ◌≢◌, ℕ, ◌+◌, ◌-◌, ◌*◌, ◌%◌, ◌≤◌, ◌<◌, Bool, List, length, Ok, IfSome}
 use Rattle.gpu_word.specs.Header.{size_of}
 use Rattle.gpu_cmd.specs.declared.command.Command.{Command}
-use Rattle.gpu_cmd.specs.declared.command.Command.TheVariants.{SetBucketData, SetBucketDataImmediate, UploadRect, BufferData}
 use Rattle.gpu_cmd.specs.declared.areas.Areas.{Areas}
-use Rattle.gpu_cmd.specs.Ranges.{texel_bytes}
+use Rattle.gpu_cmd.specs.Ranges.{named}
 use Rattle.gpu_cmd.specs.Copied.{value_in, IsCopy}
 use Rattle.gpu_store.specs.Images.{HasItsTexels}
 use Rattle.stream_state.specs.declared.effect.Effect.{Effect}
@@ -28,11 +27,8 @@ pub record HasTransfer (words : List (ℕ × ℕ)) (offset count : ℕ) : Type 0
 
 -- the words hold the bytes that the command reads of them
 abbrev pub HoldItsBytes : List (ℕ × ℕ) → Command → Type 0
-HoldItsBytes words (SetBucketData bucket offset size memory memory_offset) = HasTransfer words memory_offset size
-HoldItsBytes words (SetBucketDataImmediate bucket offset size) = size ≤ 4 * (length words - 4)
-HoldItsBytes words (UploadRect image x y w h format memory memory_offset) = HasTransfer words memory_offset (w * h * texel_bytes format)
-HoldItsBytes words (BufferData buffer offset size memory memory_offset) = HasTransfer words memory_offset size
-HoldItsBytes words _ = Unit {0}
+HoldItsBytes words command =
+    IfSome (named command).transfer_range (λ range. HasTransfer words range.offset range.bytes) × IfSome (named command).immediate_size (λ size. size ≤ 4 * (length words - 4))
 
 -- an upload that is asked for brings as many texels as its rectangle has
 abbrev pub BringsItsTexels : Effect → Type 0
