@@ -88,7 +88,7 @@ PLANTED = (
     ("prose", "docs/CHANGING.md", "| seconds to a minute |", f"| {'seconds to ' * 13}a minute |"),
     ("prose", "README.md", "debug the order of GPU work", "see the order of GPU work"),
     ("figures", "README.md", "while it holds 16 notes", "while it holds 17 notes"),
-    ("figures", "crates/gpu_store/src/images.rt", "const MOST_SIDE: u32 = 4096;",
+    ("figures", "crates/gpu_store/src/canvas.rt", "const MOST_SIDE: u32 = 4096;",
      "const MOST_SIDE: u32 = 8192;"),
     ("agreeing", "docs/FORMATS.md", "| 265 | DeleteBuffer | 2 |", "| 265 | DeleteBuffer | 3 |"),
     ("agreeing", "CHANGELOG.md", "## 0.1.0", "## 0.1.1"),

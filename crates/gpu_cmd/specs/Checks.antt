@@ -9,6 +9,7 @@ use Rattle.gpu_cmd.specs.declared.command.Command.{Command}
 use Rattle.gpu_cmd.specs.declared.areas.Areas.{Areas}
 use Rattle.gpu_cmd.specs.declared.areas.Span.{Span}
 use Rattle.gpu_cmd.specs.declared.facts.StreamFacts.{StreamFacts}
+use Rattle.gpu_cmd.specs.declared.facts.TheConstants.{MOST_FETCHED}
 use Rattle.gpu_cmd.specs.declared.range.Range.{Range}
 use Rattle.gpu_cmd.specs.declared.shape.Shape.{Shape}
 use Rattle.gpu_cmd.specs.declared.decoded.Decoded.{Decoded}
@@ -16,12 +17,12 @@ use Rattle.gpu_cmd.specs.declared.checks.TheConstants.{SLOTS, MOST_SLOT_BYTES}
 use Rattle.gpu_word.specs.Outcome.{◌>>=◌, unless, or_error}
 use Rattle.gpu_cmd.specs.Table.{row_of, fits, ring_words_of, argument}
 use Rattle.gpu_cmd.specs.Spans.{span_at}
-use Rattle.gpu_cmd.specs.Lawful.{most_fetched, room}
+use Rattle.gpu_cmd.specs.Lawful.{room}
 use Rattle.gpu_cmd.specs.Ranges.{named, transfer_places}
 
 -- this number of words is no more than a stream may fetch
 abbrev pub is_within_quota : ℕ → Bool
-is_within_quota words = nat_le words most_fetched
+is_within_quota words = nat_le words MOST_FETCHED
 
 -- checks 1 to 5, of the header alone
 unfoldable pub headed : ℕ → StreamFacts → Result Shape CmdError

@@ -7,9 +7,10 @@ use Rattle.gpu_cmd.specs.declared.command.Command.{Command}
 use Rattle.gpu_cmd.specs.declared.error.CmdError.{CmdError}
 use Rattle.gpu_cmd.specs.declared.error.CmdError.TheVariants.{OutOfBounds}
 use Rattle.gpu_cmd.specs.declared.facts.StreamFacts.{StreamFacts}
+use Rattle.gpu_cmd.specs.declared.facts.TheConstants.{MOST_FETCHED}
 use Rattle.gpu_cmd.specs.declared.shape.Shape.{Shape}
 use Rattle.gpu_cmd.specs.declared.decoded.Decoded.{Decoded}
-use Rattle.gpu_cmd.specs.Lawful.{IsLawfulFacts, places_of, most_fetched}
+use Rattle.gpu_cmd.specs.Lawful.{IsLawfulFacts, places_of}
 use Rattle.gpu_cmd.specs.Checks.{headed, decoded}
 use Rattle.gpu_cmd.specs.Copied.{value_in, copied, fetched_places, fetched, judged, words_at, places_listed, IsCopy}
 
@@ -49,7 +50,7 @@ PlacesAreThere = (words : List (ℕ × ℕ)) (facts : StreamFacts) → IsLawfulF
 pub record LeavesRoom (words : List (ℕ × ℕ)) (facts : StreamFacts) : Type 0 where
   pub some : 1 ≤ size_of (value_in words facts.get)
   pub ends : facts.get + size_of (value_in words facts.get) ≤ facts.areas.ring
-  pub quota : facts.fetched + length words ≤ most_fetched
+  pub quota : facts.fetched + length words ≤ MOST_FETCHED
 
 -- each accepted command leaves room: its facts with get and the words fetched moved on are lawful again
 abbrev pub AcceptedLeavesRoom : Type 0

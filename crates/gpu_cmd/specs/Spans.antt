@@ -2,6 +2,7 @@
 use Rattle.std.specs.Prelude.{◌≡◌, ℕ, ◌+◌, ◌≤◌, ◌<◌, ◌⊎◌, List, Option, Some, None, unwrap_or, slice_get, sum_by}
 use Rattle.std.specs.Option.{option_map_or}
 use Rattle.gpu_cmd.specs.declared.areas.Span.{Span}
+use Rattle.gpu_cmd.specs.declared.areas.TheConstants.{MOST_WORDS}
 
 -- the span of a memory, where it is declared
 abbrev pub span_at : List (Option Span) → ℕ → Option Span
@@ -22,4 +23,4 @@ pub record AreTiles (first : ℕ) (spans : List (Option Span)) : Type 0 where
   pub begun : (i : ℕ) (s : Span) → span_at spans i ≡ Some s → first ≤ s.base
   pub ended : (i : ℕ) (s : Span) → span_at spans i ≡ Some s → s.base + s.words ≤ first + words_in spans
   pub apart : (i j : ℕ) (s t : Span) → i < j → span_at spans i ≡ Some s → span_at spans j ≡ Some t → AreApart s t
-  pub few : words_in spans ≤ 65536
+  pub few : words_in spans ≤ MOST_WORDS

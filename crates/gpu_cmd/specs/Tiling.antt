@@ -4,6 +4,7 @@ use Rattle.std.specs.Option.{option_map_or}
 use Rattle.std.specs.List.{list_all}
 use Rattle.gpu_cmd.specs.declared.areas.Areas.{Areas}
 use Rattle.gpu_cmd.specs.declared.areas.Span.{Span}
+use Rattle.gpu_cmd.specs.declared.areas.TheConstants.{LEAST_RING, MOST_RING, MOST_WORDS}
 use Rattle.gpu_cmd.specs.Spans.{words_in}
 
 -- the span has a word, and lies between two places
@@ -25,8 +26,8 @@ all_apart (span ∷ spans) = option_map_or (λ s. each_declared (is_apart s) spa
 
 -- the declared spans are tiles from a first place on
 abbrev pub are_tiles : ℕ → List (Option Span) → Bool
-are_tiles first spans = nat_le (words_in spans) 65536 && (each_declared (lies_among first (first + words_in spans)) spans && all_apart spans)
+are_tiles first spans = nat_le (words_in spans) MOST_WORDS && (each_declared (lies_among first (first + words_in spans)) spans && all_apart spans)
 
 -- the areas are lawful
 abbrev pub are_lawful : Areas → Bool
-are_lawful areas = nat_le 16 areas.ring && (nat_le areas.ring 4096 && (are_tiles areas.ring areas.memories && are_tiles 0 areas.results))
+are_lawful areas = nat_le LEAST_RING areas.ring && (nat_le areas.ring MOST_RING && (are_tiles areas.ring areas.memories && are_tiles 0 areas.results))

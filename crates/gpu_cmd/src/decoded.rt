@@ -1,6 +1,6 @@
 ghost use Rattle.std.specs.Prelude.{◌≡◌, ◌+◌, ◌<◌, ◌≤◌, ◌^◌, IfOk, IsOkAnd, length, slice_index};
 ghost use Rattle.gpu_word.specs.Bytes.{values_of};
-ghost use Rattle.gpu_cmd.specs.Lawful.{IsLawfulFacts, most_fetched, places_of};
+ghost use Rattle.gpu_cmd.specs.Lawful.{IsLawfulFacts, places_of};
 ghost use Rattle.gpu_cmd.specs.Checks.{headed, checked, decoded};
 
 use crate::command::Command;
@@ -32,7 +32,7 @@ fn checked(ring_words: usize, command: Command, facts: &StreamFacts) -> Result<D
     ensures transfer { IfOk result (λ found. 0 < found.count → facts.now.areas.ring ≤ found.from) }
     ensures places { IfOk result (λ found. found.from + found.count ≤ places_of facts.now.areas) }
     ensures quota { IfOk result
-        (λ found. facts.now.fetched + ring_words + found.count ≤ most_fetched) }
+        (λ found. facts.now.fetched + ring_words + found.count ≤ MOST_FETCHED) }
 {
     if !command.has_arguments(ring_words) {
         return Err(CmdError::InvalidArguments);
@@ -69,7 +69,7 @@ pub fn decode(words: &[(u32, u32)], facts: &StreamFacts) -> Result<Decoded, CmdE
     ensures transfer { IfOk result (λ found. 0 < found.count → facts.now.areas.ring ≤ found.from) }
     ensures places { IfOk result (λ found. found.from + found.count ≤ places_of facts.now.areas) }
     ensures quota { IfOk result
-        (λ found. facts.now.fetched + length words.now + found.count ≤ most_fetched) }
+        (λ found. facts.now.fetched + length words.now + found.count ≤ MOST_FETCHED) }
 {
     let command = table::command(split(words[0].1).id, words);
     checked(words.len(), command, facts)

@@ -4,7 +4,7 @@ ghost use Rattle.gpu_cmd.specs.Lawful.{IsLawfulFacts, room};
 use crate::areas::Areas;
 
 /// How many words a stream may fetch for the commands that it executes.
-pub(crate) const MOST_FETCHED: u64 = 1_048_576;
+pub const MOST_FETCHED: u64 = 1_048_576;
 
 /// What checks 1 to 10 read of a stream beside the words.
 #[derive(Clone, Copy, Debug, PartialEq, Eq)]

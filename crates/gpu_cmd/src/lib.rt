@@ -34,7 +34,7 @@ pub use checks::{MOST_SLOT_BYTES, SLOTS, texels_bytes};
 pub use command::Command;
 pub use decoded::{Decoded, decode};
 pub use error::CmdError;
-pub use facts::StreamFacts;
+pub use facts::{MOST_FETCHED, StreamFacts};
 pub use laws::{accepted_commands, command_places, copied_words, fetched_words};
 pub use name::Name;
 pub use priority::Priority;

@@ -1,6 +1,6 @@
 ghost use Rattle.std.specs.Prelude.{◌≡◌, ◌≢◌, ◌+◌, ◌<◌, ◌≤◌, IfOk};
 ghost use Rattle.gpu_word.specs.Header.{size_of, id_of};
-ghost use Rattle.gpu_cmd.specs.Lawful.{IsLawfulFacts, most_fetched, room};
+ghost use Rattle.gpu_cmd.specs.Lawful.{IsLawfulFacts, room};
 ghost use Rattle.gpu_cmd.specs.Checks.{headed};
 
 use crate::error::CmdError;
@@ -34,7 +34,7 @@ pub fn head(entry: u32, facts: &StreamFacts) -> Result<Shape, CmdError>
     ensures some { IfOk result (λ shape. 1 ≤ shape.ring_words) }
     ensures fetched { IfOk result (λ shape. shape.ring_words ≤ shape.size) }
     ensures room { IfOk result (λ shape. shape.size ≤ room facts.now) }
-    ensures quota { IfOk result (λ shape. facts.now.fetched + shape.ring_words ≤ most_fetched) }
+    ensures quota { IfOk result (λ shape. facts.now.fetched + shape.ring_words ≤ MOST_FETCHED) }
     ensures within { IfOk result (λ shape. facts.now.get + shape.size ≤ facts.now.areas.ring) }
 {
     let header = split(entry);

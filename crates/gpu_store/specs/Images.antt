@@ -5,6 +5,8 @@ use Rattle.std.specs.Map.{lookup, set_value, remove_entry, keys_of, values_of}
 use Rattle.std.specs.BTreeMap.{is_at, insert_entry}
 use Rattle.std.specs.List.{sum_by, All}
 use Rattle.gpu_word.specs.Outcome.{◌>>=◌, unless}
+use Rattle.gpu_store.specs.declared.canvas.TheConstants.{MOST_SIDE}
+use Rattle.gpu_store.specs.declared.images.TheConstants.{MOST_TEXELS}
 use Rattle.gpu_store.specs.declared.op.Op.{Op}
 use Rattle.gpu_store.specs.declared.op.Op.TheVariants.{Create, Delete, Clear, Copy, Upload}
 use Rattle.gpu_store.specs.declared.op.Answer.{Answer}
@@ -43,7 +45,7 @@ numbers images = keys_of images
 -- the count of all texels is right and within 4,194,304, and no image is empty
 pub record AreCounted (texels : ℕ) (images : Pictures) : Type 0 where
   pub counted : texels ≡ total_texels images
-  pub within : texels ≤ 4194304
+  pub within : texels ≤ MOST_TEXELS
   pub filled : All (λ picture. 1 ≤ texel_count picture) (values_of images)
 
 -- an upload brings as many texels as its rectangle has
@@ -64,7 +66,7 @@ IsCreate (Upload image rect texels) = ⊥
 
 -- an image may have a side of 1 to 4,096 texels
 abbrev pub is_side : ℕ → Bool
-is_side side = nat_le 1 side && nat_le side 4096
+is_side side = nat_le 1 side && nat_le side MOST_SIDE
 
 -- the picture that was found, or refused where there is none
 abbrev pub present : Option Picture → Result Picture Answer
@@ -76,7 +78,7 @@ abbrev pub created : Pictures → ℕ → ℕ → ℕ → Result Pictures Answer
 created images image width height = do
   _ ← unless (is_none (picture_of images image)) InvalidOperation
   _ ← unless (is_side width && is_side height) InvalidValue
-  _ ← unless (nat_le (total_texels images + width * height) 4194304) OutOfTexels
+  _ ← unless (nat_le (total_texels images + width * height) MOST_TEXELS) OutOfTexels
   Ok (with_image images image (painted width height (λ x y. 0)))
 
 -- one image less, unless it is missing

@@ -1,6 +1,7 @@
 -- One image, its rectangles, and what is drawn into them.
 use Rattle.std.specs.Prelude.{◌≡◌, ◌≤◌, ℕ, ◌+◌, ◌-◌, ◌*◌, ◌/◌, ◌%◌, Bool, ◌&&◌, nat_le, nat_lt, List, length, map, take, drop, slice_index, if◌then◌else◌}
 use Rattle.std.specs.List.{range_with_len}
+use Rattle.gpu_store.specs.declared.canvas.TheConstants.{MOST_SIDE}
 use Rattle.gpu_store.specs.declared.rect.Rect.{Rect}
 
 -- an image: its width, its height, and its texels row after row
@@ -19,8 +20,8 @@ IsWhole picture = length picture.texels ≡ texel_count picture
 
 -- what holds of every stored image: no side is above 4,096, and it has as many texels as its size says
 pub record IsStored (width height : ℕ) (texels : List ℕ) : Type 0 where
-  pub wide : width ≤ 4096
-  pub high : height ≤ 4096
+  pub wide : width ≤ MOST_SIDE
+  pub high : height ≤ MOST_SIDE
   pub whole : length texels ≡ width * height
 
 -- the texel in column x of row y

@@ -1,5 +1,6 @@
 -- What a step of drawing leaves in a list of texels.
 use Rattle.std.specs.Prelude.{◌≡◌, ℕ, ◌+◌, ◌-◌, ◌*◌, ◌<◌, ◌≤◌, ◌&&◌, ◌++◌, min, replicate, nat_le, nat_lt, List, length, slice_index, if◌then◌else◌}
+use Rattle.gpu_store.specs.declared.canvas.TheConstants.{MOST_SIDE}
 use Rattle.gpu_store.specs.declared.rect.Rect.{Rect}
 
 -- `count` places from `from` on hold what `texel` gives for their distance from it, and each other place stays
@@ -22,4 +23,4 @@ canvas_texels count items = items ++ replicate (count - length items) 0
 pub record IsCanvas (count capacity : ℕ) (items : List ℕ) : Type 0 where
   pub within : length items ≤ count
   pub room : count ≤ capacity
-  pub blank : length items < count → items ≡ replicate (min count 4096) 0
+  pub blank : length items < count → items ≡ replicate (min count MOST_SIDE) 0

@@ -8,8 +8,8 @@ use gpu_word::Memory;
 use std::alloc::Global;
 use std::marker::Model;
 
-/// How many texels the longest row of an image may have.
-const MOST_WIDTH: usize = 4096;
+/// How many texels the longest side of an image may have.
+pub(crate) const MOST_SIDE: u32 = 4096;
 
 // Writes zeros after these texels, up to `count` of them. There is room for them.
 fn settle(texels: &mut Vec<u32>, count: usize)
@@ -54,7 +54,7 @@ impl Canvas {
         ensures { IfOk result (λ canvas. canvas ≡ replicate count 0) }
     {
         let mut texels = Vec::with_capacity(alloc, count)?;
-        settle(&mut texels, count.min(MOST_WIDTH));
+        settle(&mut texels, count.min(MOST_SIDE as usize));
         Ok(Canvas { texels, count })
     }
 
@@ -71,7 +71,7 @@ impl Canvas {
     /// `count` texels from the place `from` on, no more than a row may have.
     pub(crate) fn part(&self, from: usize, count: usize) -> &[u32]
         requires within { from + count ≤ length self.now }
-        requires narrow { count ≤ 4096 }
+        requires narrow { count ≤ MOST_SIDE }
         ensures { result.now ≡ take count (drop from self.now) }
     {
         if self.texels.len() < self.count {

@@ -1,7 +1,7 @@
 ghost use Rattle.std.specs.Prelude.{◌≡◌, ◌+◌, ◌*◌, ◌≤◌, ◌<◌, [], length, slice_index, IfOk, IsTrue};
 ghost use Rattle.gpu_store.specs.Picture.{texel_at, texel_row, IsWhole, painted, rectangle, has_rect, texel_count, redrawn};
 
-use crate::canvas::Canvas;
+use crate::canvas::{Canvas, MOST_SIDE};
 use crate::rect::Rect;
 use gpu_word::Memory;
 use std::alloc::Global;
@@ -32,8 +32,8 @@ impl Model for Image {
 impl Image {
     /// An image of this size whose texels are all 0.
     pub fn make(alloc: Global, width: u32, height: u32) -> Result<Image, Memory>
-        requires width { width ≤ 4096 }
-        requires height { height ≤ 4096 }
+        requires width { width ≤ MOST_SIDE }
+        requires height { height ≤ MOST_SIDE }
         ensures { IfOk result (λ image. image ≡ painted width height (λ x y. 0)) }
     {
         let texels = Canvas::zeros(alloc, width as usize * height as usize)?;
@@ -85,7 +85,7 @@ impl Image {
         requires { y < self.now.height }
         ensures row { result.now ≡ texel_row self.now y }
         ensures len { length result.now ≡ self.now.width }
-        ensures narrow { length result.now ≤ 4096 }
+        ensures narrow { length result.now ≤ MOST_SIDE }
     {
         let start = y as usize * self.width as usize;
         self.texels.part(start, self.width as usize)

@@ -5,6 +5,7 @@ ghost use Rattle.std.specs.List.Sorted.{IsStrictlyIncreasing, IsStrictlySortedBy
 ghost use Rattle.gpu_store.specs.Images.{picture_of, numbers, total_texels, apply, is_side, HasItsTexels, IsCreate};
 ghost use Rattle.gpu_store.specs.Picture.{texel_row, IsWhole};
 
+use crate::canvas::MOST_SIDE;
 use crate::image::Image;
 use crate::numbers::Numbers;
 use crate::op::{Answer, Op};
@@ -14,9 +15,6 @@ use std::alloc::Global;
 use std::collections::BTreeMap;
 use std::marker::Model;
 use std::mem;
-
-/// How many texels the longest side of an image may have.
-const MOST_SIDE: u32 = 4096;
 
 /// How many texels all images may have together.
 const MOST_TEXELS: u32 = 4_194_304;

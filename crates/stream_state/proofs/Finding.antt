@@ -1,12 +1,11 @@
 -- What a step finds: room in its words for the bytes that it reads, and room in the counts.
 use Rattle.std.proofs.Common.{◌≡◌, ℕ, ◌+◌, ◌-◌, ◌*◌, ◌%◌, ◌<◌, ◌≤◌, Bool, true, false, Option, Some, None, Ok, List, length, refl, sym, ap, ◌∙◌, arith, IsTrue}
-use Rattle.std.specs.Prelude.{◌==◌, ◌&&◌, nat_le}
+use Rattle.std.specs.Prelude.{◌==◌, ◌&&◌, nat_le, IfSome}
 use Rattle.std.specs.Option.{option_map_or}
 use Rattle.std.proofs.lemmas.Bool.{and_parts}
 use Rattle.std.proofs.lemmas.Bool.Decides.{nat_tests}
 use Rattle.gpu_word.specs.Header.{size_of}
 use Rattle.gpu_cmd.specs.declared.command.Command.{Command}
-use Rattle.gpu_cmd.specs.declared.command.Command.TheVariants.{SetBucketData, SetBucketDataImmediate, UploadRect, BufferData}
 use Rattle.gpu_cmd.specs.declared.error.CmdError.TheVariants.{InvalidArguments}
 use Rattle.gpu_cmd.specs.declared.areas.Areas.{Areas}
 use Rattle.gpu_cmd.specs.declared.areas.Span.{Span}
@@ -14,7 +13,7 @@ use Rattle.gpu_cmd.specs.declared.range.Range.{Range}
 use Rattle.gpu_cmd.specs.Spans.{span_at}
 use Rattle.gpu_cmd.specs.Lawful.{IsLawfulAreas, IsLawfulFacts}
 use Rattle.gpu_word.specs.Outcome.{◌>>=◌, unless}
-use Rattle.gpu_cmd.specs.Ranges.{texel_bytes, places_from, places_in, transfer_places}
+use Rattle.gpu_cmd.specs.Ranges.{named, places_from, places_in, transfer_places}
 use Rattle.gpu_cmd.specs.Checks.{has_format, has_slot, has_data, has_aligned_results, has_memories, lies_in}
 use Rattle.gpu_cmd.specs.Copied.{value_in}
 use Rattle.gpu_cmd.specs.Laws.{LeavesRoom}
@@ -38,23 +37,26 @@ by_span (Some span) spans range e h b = rw e (by_bytes (range.bytes == 0) span r
 range_room : (areas : Areas) (range : Range) (others : Bool) → IsTrue (lies_in areas.memories range && others) → 0 < range.bytes → range.offset % 4 + range.bytes ≤ 4 * (places_in areas.memories range).count
 range_room areas range others h = by_span (span_at areas.memories range.memory) areas.memories range refl (and_parts (lies_in areas.memories range) others h).0
 
-transfer_held : (areas : Areas) (words : List (ℕ × ℕ)) (range : Range) (others : Bool) → 0 < ring_words_in words → ring_words_in words + (places_in areas.memories range).count ≡ length words → IsTrue (lies_in areas.memories range && others) → HasTransfer words range.offset range.bytes
-transfer_held areas words range others some ring h = record {
+range_held : (areas : Areas) (words : List (ℕ × ℕ)) (range : Option Range) (others : Bool) → 0 < ring_words_in words → ring_words_in words + (option_map_or (places_in areas.memories) range (record { from = 0; count = 0 })).count ≡ length words → IsTrue (option_map_or (lies_in areas.memories) range true && others) → IfSome range (λ range. HasTransfer words range.offset range.bytes)
+range_held areas words None others some ring h = tt
+range_held areas words (Some range) others some ring h = record {
   some = omega arith;
   ring = omega arith;
   enough = λ b. let room = range_room areas range others h b in omega arith;
 }
 
+data_held : (words : List (ℕ × ℕ)) (entries : ℕ) (size : Option ℕ) → entries ≤ length words → IsTrue (option_map_or (λ size. nat_le size (4 * (entries - 4))) size true) → IfSome size (λ size. size ≤ 4 * (length words - 4))
+data_held words entries None within h = tt
+data_held words entries (Some size) within h = grind (arith, nat_tests)
+
 -- the words hold the bytes that the command reads of them
 words_held : (areas : Areas) (words : List (ℕ × ℕ)) (command : Command) → 0 < ring_words_in words → ring_words_in words + (transfer_places areas command).count ≡ length words → IsTrue (has_memories areas command) → IsTrue (has_data (ring_words_in words) command && has_aligned_results command) → HoldItsBytes words command
-words_held areas words (SetBucketData bucket offset size memory memory_offset) some ring memories bytes = transfer_held areas words (record { memory = memory; offset = memory_offset; bytes = size }) true some ring memories
-words_held areas words (SetBucketDataImmediate bucket offset size) some ring memories bytes =
-    let fits : IsTrue (nat_le size (4 * (ring_words_in words - 4))) = (and_parts (has_data (ring_words_in words) (SetBucketDataImmediate bucket offset size)) (has_aligned_results (SetBucketDataImmediate bucket offset size)) bytes).0 in
-    let whole : ring_words_in words + 0 ≡ length words = ring in
-    grind (arith, nat_tests)
-words_held areas words (UploadRect image x y w h format memory memory_offset) some ring memories bytes = transfer_held areas words (record { memory = memory; offset = memory_offset; bytes = w * h * texel_bytes format }) true some ring memories
-words_held areas words (BufferData buffer offset size memory memory_offset) some ring memories bytes = transfer_held areas words (record { memory = memory; offset = memory_offset; bytes = size }) true some ring memories
-words_held areas words _ some ring memories bytes = tt
+words_held areas words command some ring memories bytes =
+    let results = option_map_or (lies_in areas.results) (named command).size_range true && option_map_or (lies_in areas.results) (named command).data_range true in
+    let within : ring_words_in words ≤ length words = omega (arith, ring) in (
+      range_held areas words (named command).transfer_range results some ring memories,
+      data_held words (ring_words_in words) (named command).immediate_size within (and_parts (has_data (ring_words_in words) command) (has_aligned_results command) bytes).0,
+    )
 
 -- what a step finds in its words, and the room that it has in the counts
 pub record Finds (areas : Areas) (words : List (ℕ × ℕ)) (state : State) (command : Command) (size : ℕ) : Type 0 where

@@ -1,16 +1,15 @@
 -- The commands that a step takes, and what it finds in their words.
-use Rattle.std.specs.Prelude.{◌≡◌, ◌≢◌, ℕ, ◌+◌, ◌-◌, ◌*◌, ◌%◌, ◌≤◌, ◌<◌, Bool, true, false, List, length, Ok}
+use Rattle.std.specs.Prelude.{◌≡◌, ◌≢◌, ℕ, ◌+◌, ◌-◌, ◌*◌, ◌%◌, ◌≤◌, ◌<◌, Bool, List, length, Ok, IfSome}
 use Rattle.gpu_word.specs.Header.{size_of}
 use Rattle.gpu_cmd.specs.declared.command.Command.{Command}
-use Rattle.gpu_cmd.specs.declared.command.Command.TheVariants.{SetBucketSize, SetBucketData, SetBucketDataImmediate, GetBucketStart, GetBucketData, UploadRect, UploadBucket, CreateBuffer, BufferData, UploadBuffer}
 use Rattle.gpu_cmd.specs.declared.areas.Areas.{Areas}
-use Rattle.gpu_cmd.specs.Ranges.{texel_bytes}
+use Rattle.gpu_cmd.specs.Ranges.{named}
 use Rattle.gpu_cmd.specs.Copied.{value_in, IsCopy}
 use Rattle.gpu_store.specs.Images.{HasItsTexels}
 use Rattle.stream_state.specs.declared.effect.Effect.{Effect}
 use Rattle.stream_state.specs.declared.effect.Effect.TheVariants.{Pixels}
 use Rattle.stream_state.specs.State.{State, facts_of}
-use Rattle.stream_state.specs.Steps.{ring_words_in}
+use Rattle.stream_state.specs.Steps.{ring_words_in, work}
 
 -- for some put, the words are those to be fetched by the facts of the state, checks 1 to 10 make them this command, and
 -- the command's header has this size
@@ -28,11 +27,8 @@ pub record HasTransfer (words : List (ℕ × ℕ)) (offset count : ℕ) : Type 0
 
 -- the words hold the bytes that the command reads of them
 abbrev pub HoldItsBytes : List (ℕ × ℕ) → Command → Type 0
-HoldItsBytes words (SetBucketData bucket offset size memory memory_offset) = HasTransfer words memory_offset size
-HoldItsBytes words (SetBucketDataImmediate bucket offset size) = size ≤ 4 * (length words - 4)
-HoldItsBytes words (UploadRect image x y w h format memory memory_offset) = HasTransfer words memory_offset (w * h * texel_bytes format)
-HoldItsBytes words (BufferData buffer offset size memory memory_offset) = HasTransfer words memory_offset size
-HoldItsBytes words _ = Unit {0}
+HoldItsBytes words command =
+    IfSome (named command).transfer_range (λ range. HasTransfer words range.offset range.bytes) × IfSome (named command).immediate_size (λ size. size ≤ 4 * (length words - 4))
 
 -- an upload that is asked for brings as many texels as its rectangle has
 abbrev pub BringsItsTexels : Effect → Type 0
@@ -41,14 +37,4 @@ BringsItsTexels _ = Unit {0}
 
 -- a step of the command may need memory; no other ever does
 abbrev pub takes_memory : Command → Bool
-takes_memory (SetBucketSize bucket size) = true
-takes_memory (SetBucketData bucket offset size memory memory_offset) = true
-takes_memory (SetBucketDataImmediate bucket offset size) = true
-takes_memory (GetBucketStart bucket result_memory result_offset data_size data_memory data_offset) = true
-takes_memory (GetBucketData bucket offset size memory memory_offset) = true
-takes_memory (UploadRect image x y w h format memory memory_offset) = true
-takes_memory (UploadBucket image x y w h format bucket) = true
-takes_memory (CreateBuffer buffer size) = true
-takes_memory (BufferData buffer offset size memory memory_offset) = true
-takes_memory (UploadBuffer image x y w h format buffer offset) = true
-takes_memory _ = false
+takes_memory command = (work command).memory

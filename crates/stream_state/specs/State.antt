@@ -3,8 +3,9 @@ use Rattle.std.specs.Prelude.{ℕ, ◌+◌, ◌*◌, ◌%◌, ◌≤◌, List, [
 use Rattle.gpu_store.specs.declared.op.Answer.{Answer}
 use Rattle.gpu_store.specs.declared.op.Answer.TheVariants.{Done, InvalidValue, InvalidOperation, OutOfTexels}
 use Rattle.gpu_cmd.specs.declared.areas.Areas.{Areas}
+use Rattle.gpu_cmd.specs.declared.areas.TheConstants.{MOST_RING}
 use Rattle.gpu_cmd.specs.declared.facts.StreamFacts.{StreamFacts}
-use Rattle.gpu_cmd.specs.Lawful.{most_fetched}
+use Rattle.gpu_cmd.specs.declared.facts.TheConstants.{MOST_FETCHED}
 use Rattle.stream_state.specs.Blocks.{Blocks, no_blocks}
 
 -- how many answers of each kind other than Done the image operations of the steps got
@@ -35,8 +36,8 @@ first_state = record { entries = 0; fetched = 0; release = 0; token = 0; buckets
 
 -- a stream fetches no more words than it may, and each of its steps consumes at most a whole ring and fetches at least a word
 pub record IsBounded (state : State) : Type 0 where
-  pub fetched : state.fetched ≤ most_fetched
-  pub entries : state.entries ≤ 4096 * state.fetched
+  pub fetched : state.fetched ≤ MOST_FETCHED
+  pub entries : state.entries ≤ MOST_RING * state.fetched
 
 -- the facts that the checks of the next command read
 abbrev pub facts_of : Areas → ℕ → State → StreamFacts

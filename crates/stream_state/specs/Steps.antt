@@ -1,5 +1,5 @@
 -- What a command does to the state of its stream, and what it asks of the rest of the service.
-use Rattle.std.specs.Prelude.{ℕ, ◌+◌, ◌*◌, ◌/◌, ◌%◌, ◌^◌, max, Option, Some, None, option_map, unwrap_or, List, [], ◌∷◌, length, take, drop, slice_index}
+use Rattle.std.specs.Prelude.{ℕ, ◌+◌, ◌*◌, ◌/◌, ◌%◌, ◌^◌, max, Bool, true, false, not, Option, Some, None, is_some, option_map, unwrap_or, List, [], ◌∷◌, length, take, drop, slice_index}
 use Rattle.std.specs.Option.{option_map_or}
 use Rattle.gpu_word.specs.Header.{size_of, id_of}
 use Rattle.gpu_word.specs.Formats.{format_of}
@@ -20,7 +20,7 @@ use Rattle.gpu_store.specs.Picture.{rectangle}
 use Rattle.gpu_store.specs.Conversion.{texels_of}
 use Rattle.stream_state.specs.declared.effect.Effect.{Effect}
 use Rattle.stream_state.specs.declared.effect.Effect.TheVariants.{Nothing, Token, Release, Wait, WaitName, Pixels, Results}
-use Rattle.stream_state.specs.Blocks.{Blocks, bytes_in, part, zeros, with_block, without_block, sized, written_over}
+use Rattle.stream_state.specs.Blocks.{Blocks, block_of, bytes_in, part, has_range, zeros, with_block, without_block, sized, written_over}
 use Rattle.stream_state.specs.Writes.{Writes, words_written, with_write, after_writes}
 use Rattle.stream_state.specs.State.{State, first_state, noted}
 
@@ -46,7 +46,7 @@ transfer_bytes words offset count = take count (drop (offset % 4) (bytes_of (dro
 unfoldable pub immediate_bytes : List (ℕ × ℕ) → ℕ → List ℕ
 immediate_bytes words count = take count (bytes_of (drop 4 (values_of words)))
 
--- ---- what a command asks for
+-- ---- what a command finds in its words and in the result memories
 
 -- a number of 64 bits of its two halves
 abbrev pub joined : ℕ → ℕ → ℕ
@@ -65,55 +65,96 @@ abbrev pub start_written : Areas → List ℕ → ℕ → ℕ → ℕ → ℕ �
 start_written areas bytes result_memory result_offset data_size data_memory data_offset =
     with_write (place_at areas result_memory result_offset, length bytes) (words_written (place_at areas data_memory data_offset) (take data_size bytes))
 
--- what a command writes to result places
-abbrev pub writes_of : Areas → Command → State → Option Writes
-writes_of areas (GetBucketStart bucket result_memory result_offset data_size data_memory data_offset) state = Some (start_written areas (bytes_in state.buckets bucket) result_memory result_offset data_size data_memory data_offset)
-writes_of areas (GetBucketData bucket offset size memory memory_offset) state = Some (words_written (place_at areas memory memory_offset) (part (bytes_in state.buckets bucket) offset size))
-writes_of areas _ state = None
+-- the upload of packed bytes
+abbrev pub uploaded : ℕ → Rect → ℕ → List ℕ → Op
+uploaded image rect format bytes = Upload image rect (texels_in format bytes)
 
--- what a command asks of the client and of other streams
-abbrev pub told : Command → Option Effect
-told (SetToken token) = Some (Token token)
-told (InsertFence low high) = Some (Release (joined low high))
-told (WaitToken stream low high) = Some (Wait stream (joined low high))
-told (WaitSyncToken namespace id_low id_high low high) = Some (WaitName (record { namespace = namespace; id = joined id_low id_high }) (joined low high))
-told _ = None
+-- ---- what a command does
+
+-- what a command does
+pub record Work : Type 0 where
+  pub found : State → Bool  -- its bucket is there, and so is its buffer; a buffer that it makes is not there
+  pub bytes : State → Bool  -- the bucket or the buffer has the bytes that it writes or reads
+  pub memory : Bool  -- its step may need memory for the state of its stream
+  pub token : Option ℕ  -- it sets a token
+  pub release : Option ℕ  -- it releases
+  pub wait : Option Effect  -- it waits
+  pub made : Option Op  -- it makes an image
+  pub drawn : Option Op  -- it takes an image away, or fills or copies a rectangle
+  pub transfer_upload : List (ℕ × ℕ) → Option Op  -- it uploads texels of the transfer words
+  pub block_upload : State → Option Op  -- it uploads texels of a bucket or of a buffer
+  pub writes : Areas → State → Option Writes  -- it writes to result places
+  pub buckets : List (ℕ × ℕ) → Blocks → Blocks  -- the buckets that it leaves
+  pub buffers : List (ℕ × ℕ) → Blocks → Blocks  -- the buffers that it leaves
+
+-- nothing
+abbrev pub no_work : Work
+no_work = record { found = λ state. true; bytes = λ state. true; memory = false; token = None; release = None; wait = None; made = None; drawn = None; transfer_upload = λ words. None; block_upload = λ state. None; writes = λ areas state. None; buckets = λ words buckets. buckets; buffers = λ words buffers. buffers }
+
+-- a bucket that is there, and bytes of it that are there
+abbrev pub bucket_work : ℕ → Work
+bucket_work bucket = record no_work { found = λ state. is_some (block_of state.buckets bucket); memory = true }
+
+abbrev pub bucket_range_work : ℕ → ℕ → ℕ → Work
+bucket_range_work bucket offset count = record (bucket_work bucket) { bytes = λ state. has_range state.buckets bucket offset count }
+
+-- a buffer that is there, and bytes of it that are there
+abbrev pub buffer_work : ℕ → Work
+buffer_work buffer = record no_work { found = λ state. is_some (block_of state.buffers buffer) }
+
+abbrev pub buffer_range_work : ℕ → ℕ → ℕ → Work
+buffer_range_work buffer offset count = record (buffer_work buffer) { bytes = λ state. has_range state.buffers buffer offset count; memory = true }
+
+-- what each command does; an upload from a bucket reads its first bytes
+abbrev pub work : Command → Work
+work Noop = no_work
+work (SetToken token) = record no_work { token = Some token }
+work (SetBucketSize bucket size) = record no_work { memory = true; buckets = λ words buckets. sized buckets bucket size }
+work (SetBucketData bucket offset size memory memory_offset) = record (bucket_range_work bucket offset size) { buckets = λ words buckets. written_over buckets bucket offset (transfer_bytes words memory_offset size) }
+work (SetBucketDataImmediate bucket offset size) = record (bucket_range_work bucket offset size) { buckets = λ words buckets. written_over buckets bucket offset (immediate_bytes words size) }
+work (GetBucketStart bucket result_memory result_offset data_size data_memory data_offset) =
+    record (bucket_work bucket) { writes = λ areas state. Some (start_written areas (bytes_in state.buckets bucket) result_memory result_offset data_size data_memory data_offset) }
+work (GetBucketData bucket offset size memory memory_offset) =
+    record (bucket_range_work bucket offset size) { writes = λ areas state. Some (words_written (place_at areas memory memory_offset) (part (bytes_in state.buckets bucket) offset size)) }
+work (InsertFence low high) = record no_work { release = Some (joined low high) }
+work (WaitToken stream low high) = record no_work { wait = Some (Wait stream (joined low high)) }
+work (CreateImage image width height) = record no_work { made = Some (Create image width height) }
+work (DeleteImage image) = record no_work { drawn = Some (Delete image) }
+work (ClearRect image x y w h texel) = record no_work { drawn = Some (Clear image (rectangle x y w h) texel) }
+work (CopyRect source sx sy target dx dy w h) = record no_work { drawn = Some (Copy source sx sy target dx dy w h) }
+work (UploadRect image x y w h format memory offset) =
+    record no_work { memory = true; transfer_upload = λ words. Some (uploaded image (rectangle x y w h) format (transfer_bytes words offset (w * h * texel_bytes format))) }
+work (UploadBucket image x y w h format bucket) =
+    record (bucket_range_work bucket 0 (w * h * texel_bytes format)) { block_upload = λ state. Some (uploaded image (rectangle x y w h) format (part (bytes_in state.buckets bucket) 0 (w * h * texel_bytes format))) }
+work (CreateBuffer buffer size) = record no_work { found = λ state. not (is_some (block_of state.buffers buffer)); memory = true; buffers = λ words buffers. with_block buffers buffer (zeros size) }
+work (DeleteBuffer buffer) = record (buffer_work buffer) { buffers = λ words buffers. without_block buffers buffer }
+work (BufferData buffer offset size memory memory_offset) = record (buffer_range_work buffer offset size) { buffers = λ words buffers. written_over buffers buffer offset (transfer_bytes words memory_offset size) }
+work (UploadBuffer image x y w h format buffer offset) =
+    record (buffer_range_work buffer offset (w * h * texel_bytes format)) { block_upload = λ state. Some (uploaded image (rectangle x y w h) format (part (bytes_in state.buffers buffer) offset (w * h * texel_bytes format))) }
+work (WaitSyncToken namespace id_low id_high low high) = record no_work { wait = Some (WaitName (record { namespace = namespace; id = joined id_low id_high }) (joined low high)) }
+
+-- ---- what a command asks for
 
 -- the first that there is
 abbrev pub either : {A : Type 0} → Option A → Option A → Option A
 either (Some x) other = Some x
 either None other = other
 
--- the image operation of a command that makes an image or takes one away
-abbrev pub image_op : Command → Option Op
-image_op (CreateImage image width height) = Some (Create image width height)
-image_op (DeleteImage image) = Some (Delete image)
-image_op _ = None
+-- what a command writes to result places
+abbrev pub writes_of : Areas → Command → State → Option Writes
+writes_of areas command state = (work command).writes areas state
 
--- the image operation of a command that fills or copies a rectangle
-abbrev pub rect_op : Command → Option Op
-rect_op (ClearRect image x y w h texel) = Some (Clear image (rectangle x y w h) texel)
-rect_op (CopyRect source sx sy target dx dy w h) = Some (Copy source sx sy target dx dy w h)
-rect_op _ = None
+-- what a command asks of the client and of other streams
+abbrev pub told : Command → Option Effect
+told command = either (option_map Token (work command).token) (either (option_map Release (work command).release) (work command).wait)
 
 -- the image operation of a command without texels of its own
 abbrev pub plain_op : Command → Option Op
-plain_op command = either (image_op command) (rect_op command)
-
--- the upload of packed bytes
-abbrev pub uploaded : ℕ → Rect → ℕ → List ℕ → Op
-uploaded image rect format bytes = Upload image rect (texels_in format bytes)
-
--- the image operation of a command that uploads texels of a bucket's first bytes, or of a buffer's bytes from an offset on
-abbrev pub block_upload : Command → State → Option Op
-block_upload (UploadBucket image x y w h format bucket) state = Some (uploaded image (rectangle x y w h) format (part (bytes_in state.buckets bucket) 0 (w * h * texel_bytes format)))
-block_upload (UploadBuffer image x y w h format buffer offset) state = Some (uploaded image (rectangle x y w h) format (part (bytes_in state.buffers buffer) offset (w * h * texel_bytes format)))
-block_upload _ state = None
+plain_op command = either (work command).made (work command).drawn
 
 -- the image operation of a command that uploads texels: of the transfer words, or of a bucket or a buffer
 abbrev pub upload_op : Command → List (ℕ × ℕ) → State → Option Op
-upload_op (UploadRect image x y w h format memory offset) words state = Some (uploaded image (rectangle x y w h) format (transfer_bytes words offset (w * h * texel_bytes format)))
-upload_op command words state = block_upload command state
+upload_op command words state = either ((work command).transfer_upload words) ((work command).block_upload state)
 
 -- what a command that writes no results asks of the rest of the service
 unfoldable pub asked : Command → List (ℕ × ℕ) → State → Effect
@@ -127,27 +168,19 @@ effect_of areas command words state = option_map_or Results (writes_of areas com
 
 -- the last token
 abbrev pub token_after : Command → ℕ → ℕ
-token_after (SetToken token) before = token
-token_after _ before = before
+token_after command before = unwrap_or (work command).token before
 
 -- the release count, which never falls
 abbrev pub release_after : Command → ℕ → ℕ
-release_after (InsertFence low high) before = max before (joined low high)
-release_after _ before = before
+release_after command before = option_map_or (max before) (work command).release before
 
 -- the buckets
 abbrev pub buckets_after : Command → List (ℕ × ℕ) → Blocks → Blocks
-buckets_after (SetBucketSize bucket size) words buckets = sized buckets bucket size
-buckets_after (SetBucketData bucket offset size memory memory_offset) words buckets = written_over buckets bucket offset (transfer_bytes words memory_offset size)
-buckets_after (SetBucketDataImmediate bucket offset size) words buckets = written_over buckets bucket offset (immediate_bytes words size)
-buckets_after _ words buckets = buckets
+buckets_after command words buckets = (work command).buckets words buckets
 
 -- the buffers
 abbrev pub buffers_after : Command → List (ℕ × ℕ) → Blocks → Blocks
-buffers_after (CreateBuffer buffer size) words buffers = with_block buffers buffer (zeros size)
-buffers_after (DeleteBuffer buffer) words buffers = without_block buffers buffer
-buffers_after (BufferData buffer offset size memory memory_offset) words buffers = written_over buffers buffer offset (transfer_bytes words memory_offset size)
-buffers_after _ words buffers = buffers
+buffers_after command words buffers = (work command).buffers words buffers
 
 -- the values of the result places
 abbrev pub results_after : Areas → Command → State → List ℕ

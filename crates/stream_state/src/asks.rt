@@ -3,7 +3,7 @@ ghost use Rattle.std.specs.Prelude.{◌≡◌, IsTrue, IsErr, IfOk, IfSome};
 ghost use Rattle.gpu_cmd.specs.Checks.{has_format};
 ghost use Rattle.gpu_store.specs.Images.{HasItsTexels};
 ghost use Rattle.stream_state.specs.Verdict.{has_bytes};
-ghost use Rattle.stream_state.specs.Steps.{joined, told, block_upload, upload_op, asked};
+ghost use Rattle.stream_state.specs.Steps.{joined, work, told, upload_op, asked};
 ghost use Rattle.stream_state.specs.Accepted.{HoldItsBytes, BringsItsTexels, takes_memory};
 
 use crate::effect::Effect;
@@ -64,7 +64,7 @@ impl StreamState {
     fn block_upload(&self, command: &Command) -> Result<Option<Op>, Memory>
         requires bytes { IsTrue (has_bytes command.now self.now) }
         requires format { IsTrue (has_format command.now) }
-        ensures op { IfOk result (λ op. op ≡ block_upload command.now self.now) }
+        ensures op { IfOk result (λ op. op ≡ (work command.now).block_upload self.now) }
         ensures texels { IfOk result (λ op. IfSome op HasItsTexels) }
         ensures free { IsErr result → IsTrue (takes_memory command.now) }
     {

@@ -3,16 +3,16 @@ ghost use Rattle.std.specs.Prelude.{◌≡◌, ◌*◌, length, IfOk, IsSome};
 ghost use Rattle.gpu_word.specs.Formats.{format_of};
 ghost use Rattle.gpu_cmd.specs.Ranges.{texel_bytes};
 ghost use Rattle.gpu_store.specs.Images.{HasItsTexels};
-ghost use Rattle.stream_state.specs.Steps.{image_op, rect_op, plain_op, uploaded};
+ghost use Rattle.stream_state.specs.Steps.{work, plain_op, uploaded};
 
 use gpu_cmd::Command;
 use gpu_store::{Op, Rect, unpack};
 use gpu_word::{Format, Memory};
 use std::alloc::Global;
 
-// The operation of a command that makes an image or takes one away.
-fn image_op(command: &Command) -> Option<Op>
-    ensures { result ≡ image_op command.now }
+// The operation of a command that makes an image.
+fn made(command: &Command) -> Option<Op>
+    ensures { result ≡ (work command.now).made }
 {
     match *command {
         Command::CreateImage {
@@ -24,16 +24,16 @@ fn image_op(command: &Command) -> Option<Op>
             width,
             height,
         }),
-        Command::DeleteImage { image } => Some(Op::Delete { image }),
         _ => None,
     }
 }
 
-// The operation of a command that fills or copies a rectangle.
-fn rect_op(command: &Command) -> Option<Op>
-    ensures { result ≡ rect_op command.now }
+// The operation of a command that takes an image away, or fills or copies a rectangle.
+fn drawn(command: &Command) -> Option<Op>
+    ensures { result ≡ (work command.now).drawn }
 {
     match *command {
+        Command::DeleteImage { image } => Some(Op::Delete { image }),
         Command::ClearRect {
             image,
             x,
@@ -73,9 +73,9 @@ fn rect_op(command: &Command) -> Option<Op>
 pub fn plain_op(command: &Command) -> Option<Op>
     ensures { result ≡ plain_op command.now }
 {
-    match image_op(command) {
+    match made(command) {
         Some(op) => Some(op),
-        None => rect_op(command),
+        None => drawn(command),
     }
 }
 

@@ -27,6 +27,8 @@ pub struct StreamState {
 
 impl Model for StreamState {
     ghost use Rattle.std.specs.Prelude.{◌≤◌, ◌*◌};
+    ghost use Rattle.gpu_cmd.specs.declared.areas.TheConstants.{MOST_RING};
+    ghost use Rattle.gpu_cmd.specs.declared.facts.TheConstants.{MOST_FETCHED};
     ghost use Rattle.stream_state.specs.State.{State, IsBounded};
 
     ghost Value = { State };
@@ -46,8 +48,8 @@ impl Model for StreamState {
       results = state.results;
     } };
 
-    ghost invariant = { λ state. (state.fetched ≤ 1048576)
-        × (state.entries ≤ 4096 * state.fetched) };
+    ghost invariant = { λ state. (state.fetched ≤ MOST_FETCHED)
+        × (state.entries ≤ MOST_RING * state.fetched) };
 }
 
 impl StreamState {

@@ -7,7 +7,8 @@ use Rattle.std.proofs.lemmas.List.Elements.{All-head, All-contains}
 use Rattle.std.proofs.lemmas.List.Kept.{AllPairs-from_increasing}
 use Rattle.gpu_word.specs.Header.{size_of, id_of, SplitsJoined, JoinsSplit}
 use Rattle.gpu_cmd.specs.declared.areas.Areas.{Areas}
-use Rattle.gpu_cmd.specs.Lawful.{IsLawfulAreas, most_fetched}
+use Rattle.gpu_cmd.specs.declared.facts.TheConstants.{MOST_FETCHED}
+use Rattle.gpu_cmd.specs.Lawful.{IsLawfulAreas}
 use Rattle.script_lines.specs.declared.fault.Kind.{Kind}
 use Rattle.gpu_plan.specs.declared.plan.Action.{Action}
 use Rattle.gpu_plan.specs.declared.plan.Action.TheVariants as actions
@@ -87,7 +88,7 @@ step_changes law areas words state lawful bounded taken same =
     omega (arith, more, entries)
 
 -- no stream fetches more words than it may
-never_more : StatesAreBounded → (areas : Areas) (steps : List Step) → IsLawfulAreas areas → AreTaken areas steps → (stream_of areas steps).fetched ≤ most_fetched
+never_more : StatesAreBounded → (areas : Areas) (steps : List Step) → IsLawfulAreas areas → AreTaken areas steps → (stream_of areas steps).fetched ≤ MOST_FETCHED
 never_more law areas steps lawful taken = (law areas steps lawful taken).fetched
 
 -- steps that write the same leave the same results
