@@ -1,7 +1,7 @@
 ghost use Rattle.std.specs.Prelude.{◌≡◌, ◌+◌, ◌≤◌, ◌∷◌, ◌++◌, length, reverse, IfOk, IfErr, IfSome, MatchOption};
 ghost use Rattle.verify_input.specs.Reading.{HasNoFeed, IsJournal, IsFault};
 
-use crate::event::event;
+use crate::event::read_event;
 use crate::fault::JournalFault;
 use gpu_journal::Journal;
 use script_lines::{cut_at, line_end};
@@ -34,7 +34,7 @@ pub fn read_journal(alloc: Global, text: &[u8]) -> Result<Journal, JournalFault>
         let Some((front, behind)) = first_line(rest) else {
             return Err(JournalFault::Refused { line });
         };
-        let Some(said) = event(&mut room, front)? else {
+        let Some(said) = read_event(&mut room, front)? else {
             return Err(JournalFault::Refused { line });
         };
         journal.add(said)?;
