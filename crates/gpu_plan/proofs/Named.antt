@@ -21,6 +21,7 @@ use Rattle.gpu_plan.specs.Plans.{PlanData, is_of, is_closed}
 use Rattle.gpu_plan.specs.Named.{names_in, HasSmallSpace, AreLawfulNames}
 use Rattle.gpu_plan.specs.Adding.{Draft, streams, fresh_plan, acting, fresh, added, puts, spans_with, may_follow, with_stream, with_memory, with_results, with_puts, with_fill, with_flush, with_finish, with_token, with_close, with_dump, with_keyword, with_line}
 use Rattle.gpu_plan.specs.Script.{is_remark, numbered}
+use Rattle.gpu_plan.specs.declared.acting.TheConstants.{MOST_ACTIONS}
 use Rattle.gpu_plan.proofs.Apart.{lawful_end, any_is, names_more}
 
 -- ---- what an answer that is right says of its steps
@@ -76,7 +77,7 @@ added_same : (actions : List Action) (q p : PlanData) (d before e : Draft) → b
 unfolding added
 added_same actions q p d before e done last name h =
     let next : Draft = record before { last = Some (record q { actions = q.actions ++ actions }); actions = before.actions + length actions } in
-    let is = same next e (passed (nat_le (before.actions + length actions) 1000000) Limit (λ _. Ok next) e h).1 in
+    let is = same next e (passed (nat_le (before.actions + length actions) MOST_ACTIONS) Limit (λ _. Ok next) e h).1 in
     changed d e p (record q { actions = q.actions ++ actions }) last name (ap (λ (x : Draft). x.done) (sym is) ∙ done) (ap (λ (x : Draft). x.last) (sym is))
 
 memory_same : (words : List (List ℕ)) (d e : Draft) → with_memory words d ≡ Ok e → SameNames d e

@@ -7,7 +7,7 @@ use Rattle.gpu_cmd.specs.Spans.{span_at, words_in}
 use Rattle.gpu_cmd.specs.declared.name.Name.{Name}
 use Rattle.script_lines.specs.declared.fault.Kind.{Kind}
 use Rattle.script_lines.specs.declared.fault.Kind.TheVariants.{Word, Order, Double, Place, Limit}
-use Rattle.gpu_plan.specs.declared.acting.TheConstants.{MOST_FENCES}
+use Rattle.gpu_plan.specs.declared.acting.TheConstants.{MOST_ACTIONS, MOST_FENCES}
 use Rattle.gpu_plan.specs.declared.plan.Action.{Action}
 use Rattle.gpu_plan.specs.declared.plan.Action.TheVariants.{Put, Flush, Finish, Token, Close}
 use Rattle.gpu_cmd.specs.declared.priority.Priority.{Priority}
@@ -49,7 +49,7 @@ fresh d = do
 -- the draft with some actions added to the stream begun last, whose plan this is
 unfoldable pub added : List Action → PlanData → Draft → Result Draft Kind
 added actions plan d = do
-  _ ← unless (nat_le (d.actions + length actions) 1000000) Limit
+  _ ← unless (nat_le (d.actions + length actions) MOST_ACTIONS) Limit
   Ok (record d { last = Some (record plan { actions = plan.actions ++ actions }); actions = d.actions + length actions })
 
 -- values at places that follow one another

@@ -2,6 +2,7 @@ ghost use Rattle.std.specs.Prelude.{◌≡◌, ◌+◌, ◌≤◌, length, vec_l
 ghost use Rattle.std.specs.List.{count_by};
 ghost use Rattle.std.specs.Option.{option_map_or};
 ghost use Rattle.gpu_plan.specs.Plans.{PlanData, is_flush, actions_in, flushes_in};
+ghost use Rattle.gpu_plan.specs.declared.acting.TheConstants.{MOST_ACTIONS};
 
 use crate::plan::Plan;
 
@@ -13,7 +14,7 @@ pub(crate) struct Draft {
     pub actions: usize,
     pub flushes: usize,
     ghost few: { vec_len done ≤ 15 },
-    ghost within: { actions ≤ 1000000 },
+    ghost within: { actions ≤ MOST_ACTIONS },
     ghost flushed: { flushes ≤ 100000 },
     ghost counted: { actions
         ≡ actions_in done.items + option_map_or (λ (plan : PlanData). length plan.actions) last 0 },

@@ -5,7 +5,7 @@ ghost use Rattle.script_lines.specs.Left.{values_left};
 ghost use Rattle.gpu_plan.specs.Plans.{IsWithin, is_closed, ring_alone};
 ghost use Rattle.gpu_plan.specs.Adding.{fresh_plan};
 ghost use Rattle.gpu_plan.specs.Putting.{can_put, word_puts, with_word_puts};
-ghost use Rattle.gpu_plan.specs.declared.acting.TheConstants.{MOST_FENCES};
+ghost use Rattle.gpu_plan.specs.declared.acting.TheConstants.{MOST_ACTIONS, MOST_FENCES};
 ghost use Rattle.gpu_plan.specs.declared.plan.Action.TheVariants.{Flush, Finish};
 ghost use Rattle.gpu_plan.specs.Fencing.{fences_in};
 
@@ -99,7 +99,7 @@ impl Plan {
     /// Adds an action that has no fences.
     pub(crate) fn add_action(&mut self, action: Action) -> Result<(), AllocError>
         requires unclosed { is_closed self.old.actions ≡ false }
-        requires few { length self.old.actions < 1000000 }
+        requires few { length self.old.actions < MOST_ACTIONS }
         requires within { IsWithin (places_of self.old.areas) action }
         requires unfenced { fences_in (Some action) ≡ [] }
         ensures added { OnOk result
@@ -113,7 +113,7 @@ impl Plan {
     /// Adds a flush that waits for these fences.
     pub(crate) fn add_flush(&mut self, put: u32, fences: Vec<(u32, u64)>) -> Result<(), AllocError>
         requires unclosed { is_closed self.old.actions ≡ false }
-        requires few { length self.old.actions < 1000000 }
+        requires few { length self.old.actions < MOST_ACTIONS }
         requires fenced { length fences.items ≤ MOST_FENCES }
         ensures added { OnOk result
             (self.new
@@ -147,7 +147,7 @@ impl Plan {
     ) -> Result<Option<usize>, AllocError>
         requires ordered { place ≤ end }
         requires unclosed { is_closed self.old.actions ≡ false }
-        requires few { length self.old.actions + end ≤ 1000000 + place }
+        requires few { length self.old.actions + end ≤ MOST_ACTIONS + place }
         requires fits { end ≤ places_of self.old.areas }
         ensures told { IfOk result
             (λ count. is_some count ≡ can_put place end (values_left values.entry)) }
@@ -177,7 +177,7 @@ impl Plan {
     /// Adds a Finish, after which this result place is read.
     pub(crate) fn add_dump(&mut self, place: u32) -> Result<(), AllocError>
         requires unclosed { is_closed self.old.actions ≡ false }
-        requires few { length self.old.actions < 1000000 }
+        requires few { length self.old.actions < MOST_ACTIONS }
         requires there { place < words_in self.old.areas.results }
         ensures added { OnOk result
             (self.new ≡ record self.old {

@@ -6,6 +6,7 @@ ghost use Rattle.gpu_store.specs.Images.{picture_of};
 ghost use Rattle.gpu_store.specs.Picture.{Picture};
 ghost use Rattle.gpu_plan.specs.Plans.{PlansData, plan_of};
 ghost use Rattle.gpu_plan.specs.Passes.{flush_count, flushes};
+ghost use Rattle.gpu_plan.specs.declared.acting.TheConstants.{MOST_ACTIONS};
 ghost use Rattle.gpu_journal.specs.declared.event.Event.{Event};
 ghost use Rattle.sync_core.specs.Standing.{IsKnown};
 ghost use Rattle.gpu_journal.specs.Ended.{streams_of};
@@ -147,7 +148,7 @@ fn flush_count(action: &Action) -> u32
 
 // How many of these actions are flushes.
 fn flushes_in(actions: &[Action]) -> u32
-    requires { length actions.now ≤ 1000000 }
+    requires { length actions.now ≤ MOST_ACTIONS }
     ensures value { result ≡ flushes actions.now }
     ensures few { result ≤ length actions.now }
 {
