@@ -21,7 +21,7 @@ use Rattle.gpu_plan.specs.Plans.{PlanData, is_of, is_closed}
 use Rattle.gpu_plan.specs.Named.{names_in, HasSmallSpace, AreLawfulNames}
 use Rattle.gpu_plan.specs.Adding.{Draft, streams, fresh_plan, acting, fresh, added, puts, spans_with, may_follow, with_stream, with_memory, with_results, with_puts, with_fill, with_flush, with_finish, with_token, with_close, with_dump, with_keyword, with_line}
 use Rattle.gpu_plan.specs.Script.{is_remark, numbered}
-use Rattle.gpu_plan.specs.declared.acting.TheConstants.{MOST_ACTIONS}
+use Rattle.gpu_plan.specs.declared.acting.TheConstants.{MOST_ACTIONS, MOST_FLUSHES, MOST_FENCES}
 use Rattle.gpu_plan.proofs.Apart.{lawful_end, any_is, names_more}
 
 -- ---- what an answer that is right says of its steps
@@ -122,7 +122,7 @@ unfolding with_flush
 flush_same version names words d e h =
     let said = bound (flush_said version names words) _ e h in
     let last = bound (acting d) _ e said.2 in
-    let fits = passed (nat_le (d.flushes + 1) 100000 && nat_le (length said.0.1) 16) Limit _ e last.2 in
+    let fits = passed (nat_le (d.flushes + 1) MOST_FLUSHES && nat_le (length said.0.1) MOST_FENCES) Limit _ e last.2 in
     added_same (Flush said.0.0 said.0.1 ∷ []) last.0 last.0 d (record d { flushes = d.flushes + 1 }) e refl (acting_last d last.0 last.1) refl fits.1
 
 finish_same : (words : List (List ℕ)) (d e : Draft) → with_finish words d ≡ Ok e → SameNames d e

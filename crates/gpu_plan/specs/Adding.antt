@@ -7,7 +7,7 @@ use Rattle.gpu_cmd.specs.Spans.{span_at, words_in}
 use Rattle.gpu_cmd.specs.declared.name.Name.{Name}
 use Rattle.script_lines.specs.declared.fault.Kind.{Kind}
 use Rattle.script_lines.specs.declared.fault.Kind.TheVariants.{Word, Order, Double, Place, Limit}
-use Rattle.gpu_plan.specs.declared.acting.TheConstants.{MOST_ACTIONS, MOST_FENCES}
+use Rattle.gpu_plan.specs.declared.acting.TheConstants.{MOST_ACTIONS, MOST_FLUSHES, MOST_FENCES}
 use Rattle.gpu_plan.specs.declared.plan.Action.{Action}
 use Rattle.gpu_plan.specs.declared.plan.Action.TheVariants.{Put, Flush, Finish, Token, Close}
 use Rattle.gpu_cmd.specs.declared.priority.Priority.{Priority}
@@ -67,7 +67,7 @@ with_actions actions d = do
 unfoldable pub flushed : ℕ → List (ℕ × ℕ) → Draft → Result Draft Kind
 flushed put fences d = do
   last ← acting d
-  _ ← unless (nat_le (d.flushes + 1) 100000 && nat_le (length fences) MOST_FENCES) Limit
+  _ ← unless (nat_le (d.flushes + 1) MOST_FLUSHES && nat_le (length fences) MOST_FENCES) Limit
   added (Flush put fences ∷ []) last (record d { flushes = d.flushes + 1 })
 
 -- the draft with a Finish, after which a word of a result memory is read
@@ -154,7 +154,7 @@ unfoldable pub with_flush : ℕ → List Name → List (List ℕ) → Draft → 
 with_flush version names words d = do
   said ← flush_said version names words
   last ← acting d
-  _ ← unless (nat_le (d.flushes + 1) 100000 && nat_le (length said.1) MOST_FENCES) Limit
+  _ ← unless (nat_le (d.flushes + 1) MOST_FLUSHES && nat_le (length said.1) MOST_FENCES) Limit
   added (Flush said.0 said.1 ∷ []) last (record d { flushes = d.flushes + 1 })
 
 unfoldable pub with_finish : List (List ℕ) → Draft → Result Draft Kind

@@ -8,7 +8,7 @@ use Rattle.gpu_cmd.specs.Lawful.{IsLawfulAreas, places_of}
 use Rattle.gpu_cmd.specs.Spans.{words_in}
 use Rattle.gpu_cmd.specs.declared.name.Name.{Name}
 use Rattle.script_lines.specs.Names.{is_name}
-use Rattle.gpu_plan.specs.declared.acting.TheConstants.{MOST_ACTIONS, MOST_FENCES}
+use Rattle.gpu_plan.specs.declared.acting.TheConstants.{MOST_ACTIONS, MOST_FLUSHES, MOST_FENCES}
 use Rattle.gpu_plan.specs.declared.plan.Action.{Action}
 use Rattle.gpu_plan.specs.declared.plan.Action.TheVariants.{Put, Flush, Finish, Token, Close}
 use Rattle.gpu_cmd.specs.declared.priority.Priority.{Priority}
@@ -90,7 +90,7 @@ flushes_in plans = sum_by (λ plan. count_by is_flush plan.actions) plans
 pub record IsLawfulScript (plans : List PlanData) : Type 0 where
   pub streams : length plans ≤ 16
   pub actions : actions_in plans ≤ MOST_ACTIONS
-  pub flushes : flushes_in plans ≤ 100000
+  pub flushes : flushes_in plans ≤ MOST_FLUSHES
 
 -- a script: its version, and its streams in the order of their lines
 pub record PlansData : Type 0 where

@@ -18,7 +18,7 @@ use std::alloc::AllocError;
 pub const MOST_ACTIONS: usize = 1_000_000;
 
 /// The most flushes of a script.
-const MOST_FLUSHES: usize = 100_000;
+pub const MOST_FLUSHES: usize = 100_000;
 
 /// The most fences of a flush.
 pub const MOST_FENCES: usize = 16;

@@ -44,7 +44,7 @@ mod renumbering;
 mod script;
 mod spans;
 
-pub use acting::{MOST_ACTIONS, MOST_FENCES};
+pub use acting::{MOST_ACTIONS, MOST_FENCES, MOST_FLUSHES};
 pub use fences::Fences;
 pub use laws::{bound_is_first, bound_never_falls, held_values, names_are_lawful, one_further};
 pub use place::Place;
