@@ -11,6 +11,7 @@ use Rattle.script_lines.specs.Names.{is_name}
 use Rattle.gpu_plan.specs.declared.acting.TheConstants.{MOST_ACTIONS, MOST_FLUSHES, MOST_FENCES}
 use Rattle.gpu_plan.specs.declared.plan.Action.{Action}
 use Rattle.gpu_plan.specs.declared.plan.Action.TheVariants.{Put, Flush, Finish, Token, Close}
+use Rattle.gpu_plan.specs.declared.adding.TheConstants.{MOST_STREAMS}
 use Rattle.gpu_cmd.specs.declared.priority.Priority.{Priority}
 use Rattle.gpu_cmd.specs.declared.priority.Priority.TheVariants.{Normal}
 
@@ -88,7 +89,7 @@ flushes_in plans = sum_by (λ plan. count_by is_flush plan.actions) plans
 
 -- what the format of scripts allows all streams together
 pub record IsLawfulScript (plans : List PlanData) : Type 0 where
-  pub streams : length plans ≤ 16
+  pub streams : length plans ≤ MOST_STREAMS
   pub actions : actions_in plans ≤ MOST_ACTIONS
   pub flushes : flushes_in plans ≤ MOST_FLUSHES
 

@@ -26,7 +26,7 @@ use std::mem::replace;
 const LAST_NAMESPACE: u32 = 255;
 
 /// The most streams of a script.
-const MOST_STREAMS: usize = 16;
+pub const MOST_STREAMS: usize = 16;
 
 /// A draft without a stream.
 pub(crate) fn no_stream(alloc: Global) -> Draft
@@ -51,7 +51,7 @@ fn has_plan(plans: &[Plan], name: Name) -> bool
 #[tactic(auto, unfolding(crate::specs::Adding::may_follow))]
 fn may_follow(version: u32, before: &[Plan], name: Name, ring: u32) -> Result<(), LineError>
     ensures follows { Gives (λ allowed. tt) result (may_follow version before.now name ring) }
-    ensures ring { IfOk result (λ allowed. (16 ≤ ring) × (ring ≤ 4096) × (length before.now < 16)) }
+    ensures ring { IfOk result (λ allowed. (16 ≤ ring) × (ring ≤ 4096) × (length before.now < MOST_STREAMS)) }
 {
     if version != 2 && name.id != before.len() as u64 + 1 {
         return Err(LineError::Refused(Kind::Order));
