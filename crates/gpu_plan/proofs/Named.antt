@@ -23,7 +23,7 @@ use Rattle.gpu_plan.specs.Adding.{Draft, streams, fresh_plan, acting, fresh, add
 use Rattle.gpu_plan.specs.Script.{is_remark, numbered}
 use Rattle.gpu_plan.specs.declared.acting.TheConstants.{MOST_ACTIONS, MOST_FLUSHES, MOST_FENCES}
 use Rattle.gpu_plan.proofs.Apart.{lawful_end, any_is, names_more}
-use Rattle.gpu_plan.specs.declared.adding.TheConstants.{MOST_STREAMS}
+use Rattle.gpu_plan.specs.declared.adding.TheConstants.{MOST_STREAMS, LAST_NAMESPACE}
 
 -- ---- what an answer that is right says of its steps
 
@@ -188,7 +188,7 @@ stream_begins version words d e h =
     let follows = bound (may_follow version (streams d) name said.0.2) _ e said.2 in
     let order = passed (version == 2 || name.id == length (streams d) + 1) Order _ tt follows.1 in
     let new = passed (not (list_any (is_of name) (streams d))) Double _ tt order.1 in
-    let limits = allowed (nat_le 16 said.0.2 && nat_le said.0.2 4096 && nat_le name.namespace 255 && nat_lt (length (streams d)) MOST_STREAMS) Limit new.1 in
+    let limits = allowed (nat_le 16 said.0.2 && nat_le said.0.2 4096 && nat_le name.namespace LAST_NAMESPACE && nat_lt (length (streams d)) MOST_STREAMS) Limit new.1 in
     let plan = fresh_plan name said.0.1 said.0.2 in
     let next : Draft = record d { done = streams d; last = Some plan } in
     let is = same next e follows.2 in

@@ -15,7 +15,7 @@ use Rattle.script_lines.specs.declared.keyword.Keyword.{Keyword}
 use Rattle.script_lines.specs.declared.keyword.Keyword.TheVariants.{StreamLine, MemoryLine, ResultsLine, PutLine, FillLine, FlushLine, FinishLine, TokenLine, CloseLine, DumpLine}
 use Rattle.script_lines.specs.Outcome.{◌>>=◌, or_error, unless}
 use Rattle.gpu_plan.specs.Plans.{PlanData, is_closed, is_of, ring_alone}
-use Rattle.gpu_plan.specs.declared.adding.TheConstants.{MOST_STREAMS}
+use Rattle.gpu_plan.specs.declared.adding.TheConstants.{MOST_STREAMS, LAST_NAMESPACE}
 use Rattle.script_lines.specs.Said.{keyword_of, none_said, one_said, two_said, stream_said, put_said, fill_said, flush_said}
 
 -- the streams before, the stream begun last, and how many actions and flushes the script has so far
@@ -104,7 +104,7 @@ unfoldable pub may_follow : ℕ → List PlanData → Name → ℕ → Result (U
 may_follow version before name ring = do
   _ ← unless (version == 2 || name.id == length before + 1) Order
   _ ← unless (not (list_any (is_of name) before)) Double
-  unless (nat_le 16 ring && nat_le ring 4096 && nat_le name.namespace 255 && nat_lt (length before) MOST_STREAMS) Limit
+  unless (nat_le 16 ring && nat_le ring 4096 && nat_le name.namespace LAST_NAMESPACE && nat_lt (length before) MOST_STREAMS) Limit
 
 -- a stream that has a ring and no memory, and has not acted
 abbrev pub fresh_plan : Name → Priority → ℕ → PlanData

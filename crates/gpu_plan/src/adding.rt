@@ -23,7 +23,7 @@ use std::alloc::{AllocError, Global};
 use std::mem::replace;
 
 /// The greatest namespace of a stream's name.
-const LAST_NAMESPACE: u32 = 255;
+pub const LAST_NAMESPACE: u32 = 255;
 
 /// The most streams of a script.
 pub const MOST_STREAMS: usize = 16;

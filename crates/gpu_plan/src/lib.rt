@@ -45,7 +45,7 @@ mod script;
 mod spans;
 
 pub use acting::{MOST_ACTIONS, MOST_FENCES, MOST_FLUSHES};
-pub use adding::MOST_STREAMS;
+pub use adding::{LAST_NAMESPACE, MOST_STREAMS};
 pub use fences::Fences;
 pub use laws::{bound_is_first, bound_never_falls, held_values, names_are_lawful, one_further};
 pub use place::Place;

@@ -6,7 +6,7 @@ ghost use Rattle.gpu_plan.specs.Plans.{IsLawfulPlan, IsLawfulScript, IsDump, Ris
 ghost use Rattle.gpu_plan.specs.Passes.{passes_behind};
 ghost use Rattle.gpu_plan.specs.Fencing.{fences_in};
 ghost use Rattle.gpu_plan.specs.Named.{names_in, IsVersion, AreLawfulNames};
-ghost use Rattle.gpu_plan.specs.declared.adding.TheConstants.{MOST_STREAMS};
+ghost use Rattle.gpu_plan.specs.declared.adding.TheConstants.{MOST_STREAMS, LAST_NAMESPACE};
 
 use crate::fenced::{Fenced, noted_at};
 use crate::fences::Fences;
@@ -217,7 +217,7 @@ impl Plans {
             ≡ Some result }
         ensures numbered { self.now.version ≡ 1 → result ≡ record { namespace = 0; id = stream } }
         ensures own { number_of self.now.plans result ≡ stream }
-        ensures space { result.namespace ≤ 255 }
+        ensures space { result.namespace ≤ LAST_NAMESPACE }
     {
         self.plans[stream as usize - 1].name()
     }
