@@ -15,6 +15,7 @@ use Rattle.script_lines.specs.Outcome.{◌>>=◌, or_error, unless, at_line}
 use Rattle.script_lines.specs.Said.{keyword_of, priority_of, none_said, one_said, two_said, stream_said, numbered_said, put_said, fill_said, flush_said}
 use Rattle.script_lines.specs.Numbers.{decimal_of}
 use Rattle.gpu_cmd.specs.Spans.{span_at}
+use Rattle.gpu_cmd.specs.declared.areas.TheConstants.{LEAST_RING, MOST_RING}
 use Rattle.gpu_plan.specs.declared.plan.Action.{Action}
 use Rattle.gpu_plan.specs.declared.plan.Action.TheVariants.{Flush, Finish, Token, Close}
 use Rattle.gpu_plan.specs.Plans.{PlanData, is_of, is_closed}
@@ -188,7 +189,7 @@ stream_begins version words d e h =
     let follows = bound (may_follow version (streams d) name said.0.2) _ e said.2 in
     let order = passed (version == 2 || name.id == length (streams d) + 1) Order _ tt follows.1 in
     let new = passed (not (list_any (is_of name) (streams d))) Double _ tt order.1 in
-    let limits = allowed (nat_le 16 said.0.2 && nat_le said.0.2 4096 && nat_le name.namespace LAST_NAMESPACE && nat_lt (length (streams d)) MOST_STREAMS) Limit new.1 in
+    let limits = allowed (nat_le LEAST_RING said.0.2 && nat_le said.0.2 MOST_RING && nat_le name.namespace LAST_NAMESPACE && nat_lt (length (streams d)) MOST_STREAMS) Limit new.1 in
     let plan = fresh_plan name said.0.1 said.0.2 in
     let next : Draft = record d { done = streams d; last = Some plan } in
     let is = same next e follows.2 in

@@ -51,7 +51,8 @@ fn has_plan(plans: &[Plan], name: Name) -> bool
 #[tactic(auto, unfolding(crate::specs::Adding::may_follow))]
 fn may_follow(version: u32, before: &[Plan], name: Name, ring: u32) -> Result<(), LineError>
     ensures follows { Gives (λ allowed. tt) result (may_follow version before.now name ring) }
-    ensures ring { IfOk result (λ allowed. (16 ≤ ring) × (ring ≤ 4096) × (length before.now < MOST_STREAMS)) }
+    ensures ring { IfOk result
+        (λ allowed. (LEAST_RING ≤ ring) × (ring ≤ MOST_RING) × (length before.now < MOST_STREAMS)) }
 {
     if version != 2 && name.id != before.len() as u64 + 1 {
         return Err(LineError::Refused(Kind::Order));

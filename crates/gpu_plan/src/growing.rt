@@ -1,6 +1,7 @@
 ghost use Rattle.std.specs.Prelude.{◌≡◌, ◌+◌, ◌<◌, ◌≤◌, ◌^◌, ◌++◌, [], ◌∷◌, false, length, take, Some, is_some, OnOk, OnErr, IfOk, IfSome, IfNone, OnSome};
 ghost use Rattle.gpu_cmd.specs.Lawful.{places_of};
 ghost use Rattle.gpu_cmd.specs.Spans.{AreTiles, words_in};
+ghost use Rattle.gpu_cmd.specs.declared.areas.TheConstants.{LEAST_RING, MOST_RING};
 ghost use Rattle.script_lines.specs.Left.{values_left};
 ghost use Rattle.gpu_plan.specs.Plans.{IsWithin, is_closed, ring_alone};
 ghost use Rattle.gpu_plan.specs.Adding.{fresh_plan};
@@ -74,8 +75,8 @@ impl Plan {
         priority: Priority,
         ring: u32,
     ) -> Result<Plan, AllocError>
-        requires least { 16 ≤ ring }
-        requires most { ring ≤ 4096 }
+        requires least { LEAST_RING ≤ ring }
+        requires most { ring ≤ MOST_RING }
         ensures { IfOk result (λ plan. plan ≡ fresh_plan name priority ring) }
     {
         let areas = Box::new(alloc, ring_alone(ring))?;

@@ -53,3 +53,4 @@ pub use places::flush_places;
 pub use plan::{Action, Plan, Plans};
 pub use script::parse;
 pub use script_lines::{Kind, ScriptFault};
+pub use spans::LAST_MEMORY;
