@@ -3,10 +3,11 @@ use Rattle.std.specs.Prelude.{ℕ, ◌-◌, ◌≤◌, ◌==◌, Bool, true, fal
 use Rattle.script_lines.specs.Numbers.{decimal_of}
 use Rattle.script_answers.specs.declared.command.Command.{Command}
 use Rattle.script_answers.specs.declared.command.Command.TheVariants.{Run, RunOnThreads, Check, Generate, Trial, Verify, VerifyWhole}
+use Rattle.script_generator.specs.declared.script.TheConstants.{MOST_SIZE}
 
 -- a size is a number from 1 to 2000
 abbrev pub size_said : Option ℕ → Option ℕ
-size_said (Some number) = if nat_le 1 number && nat_le number 2000 then Some number else None
+size_said (Some number) = if nat_le 1 number && nat_le number MOST_SIZE then Some number else None
 size_said None = None
 
 -- a command with a size and a seed, where both are there
@@ -101,5 +102,5 @@ IsSized (RunOnThreads workers views) = (1 ≤ workers) × (workers ≤ 8) × (vi
 IsSized Check = Unit {0}
 IsSized Verify = Unit {0}
 IsSized VerifyWhole = Unit {0}
-IsSized (Generate size seed) = (1 ≤ size) × (size ≤ 2000)
-IsSized (Trial size seed) = (1 ≤ size) × (size ≤ 2000)
+IsSized (Generate size seed) = (1 ≤ size) × (size ≤ MOST_SIZE)
+IsSized (Trial size seed) = (1 ≤ size) × (size ≤ MOST_SIZE)

@@ -16,7 +16,7 @@ use gpu_run::run_one;
 use gpu_word::Memory;
 use itoa::Buffer;
 use run_output::{PictureOutput, RunOutput};
-use script_generator::generate;
+use script_generator::{MOST_SIZE, generate};
 use script_laws::{dumps_may_be_told, generated_plans, trial_text};
 use serial_laws::{plans_are_lawful, serial_history_is_legal_and_complete};
 use std::alloc::Global;
@@ -73,7 +73,7 @@ fn check_answer(alloc: Global, input: &[u8]) -> Result<Answer, Memory>
 // The line of the trial of a size and a seed, whose script it runs.
 fn trial_line<H: Hook>(alloc: Global, size: u32, seed: u32, hook: H) -> Result<Vec<u8>, Memory>
     requires first { 1 ≤ size }
-    requires last { size ≤ 2000 }
+    requires last { size ≤ MOST_SIZE }
     ensures { IfOk result (λ text. IsTrial size seed text.items) }
 {
     let plans = generated_plans(alloc, size, seed)?;

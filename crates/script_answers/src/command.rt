@@ -4,10 +4,8 @@ ghost use Rattle.script_answers.specs.declared.command.Command.TheVariants.{Gene
 ghost use Rattle.script_answers.specs.Commands.{size_said, with_both, digit_in, workers_in, behind_equals, run_with, views_in, viewed_with, of_one, of_verify, of_two, of_workers, of_three, of_views, of_five, command_of, is_plain, IsSized};
 ghost use Rattle.script_answers.specs.Says.{reads};
 
+use script_generator::MOST_SIZE;
 use script_lines::decimal_u32;
-
-/// The largest size of a generated script.
-const MOST_SIZE: u32 = 2000;
 
 /// The most workers that a run may have.
 const MOST_WORKERS: u32 = 8;
