@@ -12,7 +12,7 @@ use crate::picture_line::{put_head, put_row};
 use crate::put::put;
 use crate::stream_line::put_stream;
 use crate::tally::Tally;
-use gpu_cmd::Name;
+use gpu_cmd::{MOST_RING, MOST_WORDS, Name};
 use gpu_journal::{End, Event};
 use gpu_store::Images;
 use gpu_word::Memory;
@@ -21,7 +21,10 @@ use std::marker::Model;
 use stream_state::StreamState;
 use sync_core::Ending;
 
-/// The bytes that a line has room for. The longest is that of an event with 69,632 words, each of them at most 15 bytes.
+/// The most words that an event has: those of the longest ring and of all memories. Each stands at a place below it.
+pub const MOST_EVENT_WORDS: u64 = MOST_RING as u64 + MOST_WORDS;
+
+/// The bytes that a line has room for. The longest is that of an event with all its words, each of them at most 15 bytes.
 const ROOM: usize = 1_048_576;
 
 /// Lines of the output with their line feeds, one after the other, seen as their bytes and as a limit.
@@ -90,11 +93,11 @@ impl Sheet {
         put_name(&mut self.bytes, stream, name);
     }
 
-    /// Puts the line of an event, which has at most 69,632 words, each at a place below 69,632.
+    /// Puts the line of an event, which has at most `MOST_EVENT_WORDS` words, each at a place below that.
     pub fn put_event(&mut self, event: &Event<'_>)
         requires room { length self.old.bytes ≤ self.old.limit }
-        requires few { length (event_words event.now) ≤ 69632 }
-        requires near { All (λ word. word.0 < 69632) (event_words event.now) }
+        requires few { length (event_words event.now) ≤ MOST_EVENT_WORDS }
+        requires near { All (λ word. word.0 < MOST_EVENT_WORDS) (event_words event.now) }
         ensures bytes { self.new.bytes ≡ self.old.bytes ++ event_text event.now }
         ensures limit { self.new.limit ≡ self.old.limit }
     {
