@@ -33,7 +33,7 @@ impl Model for Line {
 }
 
 impl Line {
-    /// No line yet, and room for 1,048,576 bytes.
+    /// No line yet, and room for one.
     pub fn make(alloc: Global) -> Result<Line, Memory>
         ensures { IfOk result (λ line. line ≡ []) }
     {
