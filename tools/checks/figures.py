@@ -91,7 +91,7 @@ def most_wrong_bodies(top: Path) -> int:
     return max(len(list(folder.glob("*.edit"))) for folder in top.glob("crates/*/must-fail"))
 
 
-MOST_BYTES = constant("gpu_io/src/reading.rt", "MOST_BYTES")
+MOST_BYTES = constant("gpu_plan/src/script.rt", "MOST_BYTES")
 MOST_RING = constant("gpu_cmd/src/areas.rt", "MOST_RING")
 MOST_WORDS = constant("gpu_cmd/src/areas.rt", "MOST_WORDS")
 MOST_FETCHED = constant("gpu_cmd/src/facts.rt", "MOST_FETCHED")
@@ -122,7 +122,6 @@ NUMBERS = "crates/script_lines/specs/Numbers.antt"
 
 FACTS = (
     Fact(r"# bytes (?:were|was) read|bytes of an input \| #|has at most # bytes", MOST_BYTES),
-    Fact(r"# reads that succeed", MOST_BYTES, 1),
     Fact(r"RING is not # to", constant("gpu_cmd/src/areas.rt", "LEAST_RING")),
     Fact(r"RING is not \d+ to #|entries of a ring \| #", MOST_RING),
     Fact(r"# words of one sort|at most # words together|memories of one sort \| #", MOST_WORDS),

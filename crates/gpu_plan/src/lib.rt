@@ -51,6 +51,6 @@ pub use laws::{bound_is_first, bound_never_falls, held_values, names_are_lawful,
 pub use place::Place;
 pub use places::flush_places;
 pub use plan::{Action, Plan, Plans};
-pub use script::parse;
+pub use script::{MOST_BYTES, parse};
 pub use script_lines::{Kind, ScriptFault};
 pub use spans::LAST_MEMORY;

@@ -15,6 +15,9 @@ use crate::renumbering::whole;
 use script_lines::{Kind, LineError, Lines, Names, ScriptFault, Words, all_lines};
 use std::alloc::Global;
 
+/// The most bytes of a script, and of any input.
+pub const MOST_BYTES: usize = 16_777_216;
+
 fn is_remark(word: &[u8]) -> bool
     ensures { result ≡ is_remark word.now }
 {
@@ -165,7 +168,7 @@ fn from_head(alloc: Global, text: Lines<'_>) -> Result<Plans, ScriptFault>
 /// The plans that a script says, or its first bad line with its first kind.
 #[tactic(auto, unfolding(crate::specs::Script::script_of))]
 pub fn parse(alloc: Global, text: &[u8]) -> Result<Plans, ScriptFault>
-    requires { length text.now ≤ 16777216 }
+    requires { length text.now ≤ MOST_BYTES }
     ensures { GivesScript (λ plans. plans) result (script_of text.now) }
 {
     from_head(alloc, all_lines(text))

@@ -5,6 +5,7 @@ use Rattle.script_generator.specs.Generator.{generated}
 use Rattle.script_generator.specs.declared.script.TheConstants.{MOST_SIZE}
 use Rattle.gpu_plan.specs.Plans.{PlansData}
 use Rattle.gpu_plan.specs.Script.{script_of}
+use Rattle.gpu_plan.specs.declared.script.TheConstants.{MOST_BYTES}
 use Rattle.gpu_journal.specs.declared.event.Event.{Event}
 use Rattle.gpu_journal.specs.Waits.{standing_of}
 use Rattle.gpu_journal.specs.Ended.{streams_of}
@@ -17,7 +18,7 @@ GeneratedIsScript = (size seed : ℕ) → size ≤ MOST_SIZE → IsOkAnd (script
 
 -- the text generated from a size of at most MOST_SIZE and a seed is no longer than a script may be
 abbrev pub GeneratedIsShort : Type 0
-GeneratedIsShort = (size seed : ℕ) → size ≤ MOST_SIZE → length (generated size seed) ≤ 16777216
+GeneratedIsShort = (size seed : ℕ) → size ≤ MOST_SIZE → length (generated size seed) ≤ MOST_BYTES
 
 -- how many streams of a script are lost after a history
 abbrev pub lost_streams : PlansData → List Event → ℕ
