@@ -107,7 +107,7 @@ MOST_NOTES = constant("flush_queue/src/queue.rt", "MOST_NOTES")
 MOST_SIZE = constant("script_generator/src/script.rt", "MOST_SIZE")
 MOST_WORKERS = constant("script_answers/src/command.rt", "MOST_WORKERS")
 MOST_VIEWS = constant("script_answers/src/command.rt", "MOST_VIEWS")
-ALL_LOOKS = constant("thread_parts/src/watch.rt", "ALL_LOOKS")
+ALL_LOOKS = constant("live_view/src/look.rt", "ALL_LOOKS")
 SIZE_BITS = constant("gpu_word/src/header.rt", "SIZE_BITS")
 ID_BITS = constant("gpu_word/src/header.rt", "ID_BITS")
 CLAUSES = counted("crates/script_main/src/program.rt", r"^    ensures ")
@@ -156,7 +156,7 @@ FACTS = (
     Fact(r"room for # words from the first", constant("gpu_fetch/src/fetch.rt", "USUAL_ENTRIES")),
     Fact(r"up to # commands", constant("gpu_house/src/batch.rt", "MOST_MEMBERS")),
     Fact(r"viewer has # looks|the # lines of each|viewers, # lines for each", ALL_LOOKS),
-    Fact(r"each looks # times", constant("thread_parts/src/watch.rt", "LOOKS")),
+    Fact(r"each looks # times", constant("live_view/src/look.rt", "LOOKS")),
     Fact(r"before # bytes are gathered", constant("run_output/src/page.rt", "PIECE_BYTES")),
     Fact(r"size up to #|that SIZE, from 1 to #", MOST_SIZE),
     Fact(r"marks over the base #|answered: #", constant("script_main/src/main.rt", "BASE")),

@@ -47,7 +47,7 @@ mod version;
 mod viewer;
 mod writer;
 
-pub use look::Look;
+pub use look::{ALL_LOOKS, LOOKS, Look};
 pub use making::make;
 pub use viewer::{Told, Viewer};
 pub use writer::ViewWriter;
