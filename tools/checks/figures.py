@@ -106,7 +106,7 @@ MOST_TEXELS = constant("gpu_store/src/images.rt", "MOST_TEXELS")
 MOST_NOTES = constant("flush_queue/src/queue.rt", "MOST_NOTES")
 MOST_SIZE = constant("script_generator/src/script.rt", "MOST_SIZE")
 MOST_WORKERS = constant("script_answers/src/command.rt", "MOST_WORKERS")
-MOST_VIEWS = constant("script_answers/src/command.rt", "MOST_VIEWS")
+MOST_VIEWERS = constant("live_view/src/making.rt", "MOST_VIEWERS")
 ALL_LOOKS = constant("live_view/src/look.rt", "ALL_LOOKS")
 SIZE_BITS = constant("gpu_word/src/header.rt", "SIZE_BITS")
 ID_BITS = constant("gpu_word/src/header.rt", "ID_BITS")
@@ -146,7 +146,7 @@ FACTS = (
     Fact(r"side is 0 or above #|side of an image, in texels \| #", MOST_SIDE),
     Fact(r"more than # texels|texels of all images \| #", MOST_TEXELS),
     Fact(r"\b(?:to|\|) # workers|workers \| #|with N workers, from 1 to #", MOST_WORKERS),
-    Fact(r"\b(?:to|\|) # viewers|viewers \| #|with V viewers, from 1 to #", MOST_VIEWS),
+    Fact(r"\b(?:to|\|) # viewers|viewers \| #|with V viewers, from 1 to #", MOST_VIEWERS),
     Fact(
         r"while (?:it holds )?# notes|are # notes in it|after # posts|that # flushes were posted"
         r"|queue has # places",

@@ -9,6 +9,7 @@ ghost use Rattle.gpu_threads.specs.Making.{HaveDoneNothing, AreNamed};
 ghost use Rattle.gpu_threads.specs.Runs.{IsThreadedRun};
 ghost use Rattle.thread_parts.specs.Watches.{HasNotLooked, HasWatched, HaveWatched};
 ghost use Rattle.live_view.specs.declared.look.TheConstants.{LOOKS};
+ghost use Rattle.live_view.specs.declared.making.TheConstants.{MOST_VIEWERS};
 
 use crate::full_pass::FullPass;
 use crate::ground::Ground;
@@ -258,7 +259,7 @@ pub fn run_threads<H: Hook + Send, G: Gate + Sync, R: Threads + Wait + Sync>(
 ) -> Result<ThreadedRun, Memory>
     requires some_workers { 1 ≤ team.workers }
     requires few_workers { team.workers ≤ 8 }
-    requires few_viewers { team.viewers ≤ 4 }
+    requires few_viewers { team.viewers ≤ MOST_VIEWERS }
     ensures { IfOk result (IsThreadedRun plans (H.base hook) team.viewers) }
 {
     let signals = Signals::make(alloc, plans.count(), team.workers)?;

@@ -11,7 +11,7 @@ use gpu_hall::{Hall, NamedSide, Shown};
 use gpu_house::{Naming, Report};
 use gpu_io::Gate;
 use gpu_word::Memory;
-use live_view::{LOOKS, Look, Told, ViewWriter, Viewer};
+use live_view::{LOOKS, Look, MOST_VIEWERS, Told, ViewWriter, Viewer};
 use std::alloc::Global;
 use std::sync::Wait;
 use std::thread;
@@ -29,7 +29,7 @@ pub(crate) struct Views {
 
 // These viewers, numbered, each with room for what it will see.
 fn watches_of(alloc: Global, viewers: Vec<Viewer>) -> Result<Vec<Watch>, Memory>
-    requires few { length viewers.items ≤ 4 }
+    requires few { length viewers.items ≤ MOST_VIEWERS }
     requires new { All (λ viewer. viewer.looks ≡ []) viewers.items }
     ensures { IfOk result (λ watches. watches.items ≡ viewers.items) }
 {
@@ -48,7 +48,7 @@ impl Views {
     ///
     /// `Memory`: for the view, or for what the viewers will see.
     pub(crate) fn make<R: Wait>(rt: &R, alloc: Global, count: u32) -> Result<Views, Memory>
-        requires { count ≤ 4 }
+        requires { count ≤ MOST_VIEWERS }
         ensures { IfOk result (AreFreshViews count) }
     {
         if count == 0 {

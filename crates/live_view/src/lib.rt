@@ -48,7 +48,7 @@ mod viewer;
 mod writer;
 
 pub use look::{ALL_LOOKS, LOOKS, Look};
-pub use making::make;
+pub use making::{MOST_VIEWERS, make};
 pub use viewer::{Told, Viewer};
 pub use writer::ViewWriter;
 

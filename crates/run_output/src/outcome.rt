@@ -7,7 +7,7 @@ use gpu_house::Report;
 use gpu_journal::End;
 use gpu_word::Memory;
 use journal_verify::ends_of;
-use live_view::Look;
+use live_view::{Look, MOST_VIEWERS};
 use result_words::Dumps;
 use serial_laws::plans_are_lawful;
 use std::alloc::Global;
@@ -66,7 +66,7 @@ impl Outcome {
         looks: Vec<Vec<Look>>,
     ) -> Result<Outcome, Memory>
         requires dumps { length dumps.items ≡ length report.plans.plans }
-        requires looks { length looks.items ≤ 4 }
+        requires looks { length looks.items ≤ MOST_VIEWERS }
         ensures { IfOk result (λ run. run
             ≡ record { report = report; dumps = dumps.items; looks = looks.items }) }
     {
@@ -99,7 +99,7 @@ impl Outcome {
     /// The looks of each viewer.
     pub(crate) fn looks(&self) -> &[Vec<Look>]
         ensures looks { result.now ≡ self.now.looks }
-        ensures few { length result.now ≤ 4 }
+        ensures few { length result.now ≤ MOST_VIEWERS }
     {
         &self.looks
     }

@@ -18,7 +18,7 @@ use crate::stream_lines::StreamLines;
 use gpu_io::{Failed, Sink};
 use gpu_plan::Plans;
 use gpu_store::Images;
-use live_view::Look;
+use live_view::{Look, MOST_VIEWERS};
 use result_words::Dumps;
 
 /// The sections of the output of a run.
@@ -96,7 +96,7 @@ fn put_dumps<K: Sink>(page: &mut Page, sink: &mut K, dumps: &[Dumps]) -> Result<
 
 // Puts the lines of what each viewer saw.
 fn put_looks<K: Sink>(page: &mut Page, sink: &mut K, looks: &[Vec<Look>]) -> Result<(), Failed>
-    requires { length looks.now ≤ 4 }
+    requires { length looks.now ≤ MOST_VIEWERS }
     ensures { Puts K.written K.faults sink.old page.old.gathered sink.new page.new.gathered result
         (concat (view_texts 1 looks.now)) }
 {

@@ -5,6 +5,7 @@ ghost use Rattle.script_answers.specs.Commands.{IsSized};
 ghost use Rattle.script_answers.specs.Runs.{IsViewedRun, IsOutput, run_ending};
 ghost use Rattle.script_answers.specs.Says.{Says};
 ghost use Rattle.script_answers.specs.Answers.{answer_ending, answer_text};
+ghost use Rattle.live_view.specs.declared.making.TheConstants.{MOST_VIEWERS};
 
 use gpu_io::Gate;
 use gpu_plan::{MOST_BYTES, Plans, ScriptFault, parse};
@@ -29,7 +30,7 @@ fn run_plans<H: Hook + Send, G: Gate + Sync, R: Threads + Wait + Sync>(
 ) -> Result<RunOutput, Memory>
     requires some_workers { 1 ≤ team.workers }
     requires few_workers { team.workers ≤ 8 }
-    requires few_viewers { team.viewers ≤ 4 }
+    requires few_viewers { team.viewers ≤ MOST_VIEWERS }
     ensures { IfOk result (λ run.
         IsOutput (IsViewedRun team.viewers) plans (H.base hook) (run_ending (reverse run.report.past))
         (run_text run)) }
@@ -50,7 +51,7 @@ fn run_answer<H: Hook + Send, G: Gate + Sync, R: Threads + Wait + Sync>(
     requires short { length input.now ≤ MOST_BYTES }
     requires some_workers { 1 ≤ team.workers }
     requires few_workers { team.workers ≤ 8 }
-    requires few_viewers { team.viewers ≤ 4 }
+    requires few_viewers { team.viewers ≤ MOST_VIEWERS }
     ensures { IfOk result (λ answer.
         Says (RunOnThreads team.workers team.viewers) (H.base hook) input.now (answer_ending answer)
         (answer_text answer)) }
