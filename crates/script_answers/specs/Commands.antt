@@ -3,6 +3,7 @@ use Rattle.std.specs.Prelude.{ℕ, ◌-◌, ◌≤◌, ◌==◌, Bool, true, fal
 use Rattle.script_lines.specs.Numbers.{decimal_of}
 use Rattle.script_answers.specs.declared.command.Command.{Command}
 use Rattle.script_answers.specs.declared.command.Command.TheVariants.{Run, RunOnThreads, Check, Generate, Trial, Verify, VerifyWhole}
+use Rattle.script_answers.specs.declared.command.TheConstants.{MOST_WORKERS}
 use Rattle.script_generator.specs.declared.script.TheConstants.{MOST_SIZE}
 use Rattle.live_view.specs.declared.making.TheConstants.{MOST_VIEWERS}
 
@@ -99,7 +100,7 @@ is_plain _ = true
 -- a size that was read is one that the generator takes, and numbers of workers and viewers are those that a run on threads may have
 abbrev pub IsSized : Command → Type 0
 IsSized Run = Unit {0}
-IsSized (RunOnThreads workers views) = (1 ≤ workers) × (workers ≤ 8) × (views ≤ MOST_VIEWERS)
+IsSized (RunOnThreads workers views) = (1 ≤ workers) × (workers ≤ MOST_WORKERS) × (views ≤ MOST_VIEWERS)
 IsSized Check = Unit {0}
 IsSized Verify = Unit {0}
 IsSized VerifyWhole = Unit {0}

@@ -9,7 +9,7 @@ use script_generator::MOST_SIZE;
 use script_lines::decimal_u32;
 
 /// The most workers that a run may have.
-const MOST_WORKERS: u32 = 8;
+pub const MOST_WORKERS: u32 = 8;
 
 /// What the words of the command line ask for.
 #[derive(Clone, Copy, Debug, PartialEq, Eq)]

@@ -12,7 +12,7 @@ use gpu_plan::{MOST_BYTES, Plans, ScriptFault, parse};
 use gpu_threads::{Team, run_threads};
 use gpu_word::Memory;
 use run_output::RunOutput;
-use script_answers::{Answer, Command, Status, answer_to};
+use script_answers::{Answer, Command, MOST_WORKERS, Status, answer_to};
 use std::alloc::Global;
 use std::sync::Wait;
 use std::thread::Threads;
@@ -29,7 +29,7 @@ fn run_plans<H: Hook + Send, G: Gate + Sync, R: Threads + Wait + Sync>(
     hook: H,
 ) -> Result<RunOutput, Memory>
     requires some_workers { 1 ≤ team.workers }
-    requires few_workers { team.workers ≤ 8 }
+    requires few_workers { team.workers ≤ MOST_WORKERS }
     requires few_viewers { team.viewers ≤ MOST_VIEWERS }
     ensures { IfOk result (λ run.
         IsOutput (IsViewedRun team.viewers) plans (H.base hook) (run_ending (reverse run.report.past))
@@ -50,7 +50,7 @@ fn run_answer<H: Hook + Send, G: Gate + Sync, R: Threads + Wait + Sync>(
 ) -> Result<Answer, Memory>
     requires short { length input.now ≤ MOST_BYTES }
     requires some_workers { 1 ≤ team.workers }
-    requires few_workers { team.workers ≤ 8 }
+    requires few_workers { team.workers ≤ MOST_WORKERS }
     requires few_viewers { team.viewers ≤ MOST_VIEWERS }
     ensures { IfOk result (λ answer.
         Says (RunOnThreads team.workers team.viewers) (H.base hook) input.now (answer_ending answer)
