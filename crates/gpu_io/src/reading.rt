@@ -73,11 +73,7 @@ pub fn read_within<S: Source>(
 }
 
 /// All bytes that a source has left, where they are at most `most`.
-pub fn read_all<S: Source>(
-    alloc: Global,
-    source: &mut S,
-    most: usize,
-) -> Result<Vec<u8>, ReadError>
+pub fn read_all<S: Source>(alloc: Global, source: &mut S, most: usize) -> Result<Vec<u8>, ReadError>
     requires { most < 2 ^ 63 }
     ensures { ReadsWithin most (S.left source.old) (S.left source.new)
         (S.faults source.old) (S.faults source.new) result }
