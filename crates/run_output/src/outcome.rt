@@ -2,6 +2,7 @@ ghost use Rattle.std.specs.Prelude.{◌≡◌, ◌≤◌, length, map, reverse, 
 ghost use Rattle.std.specs.List.{All};
 ghost use Rattle.gpu_journal.specs.Ended.{streams_of, end_of};
 ghost use Rattle.run_output.specs.Parts.{LineHasRoom};
+ghost use Rattle.gpu_plan.specs.declared.adding.TheConstants.{MOST_STREAMS};
 
 use gpu_house::Report;
 use gpu_journal::End;
@@ -25,7 +26,7 @@ fn ends_in(alloc: Global, report: &Report) -> Result<Vec<End>, Memory>
 #[tactic(auto, using(crate::proofs::Rooms::legal_room))]
 fn lines_have_room(report: &Report)
     ensures room { All LineHasRoom (reverse report.now.past) }
-    ensures few { length report.now.plans.plans ≤ 16 }
+    ensures few { length report.now.plans.plans ≤ MOST_STREAMS }
 {
     plans_are_lawful(report.plans());
     report.shows_legal();
@@ -91,7 +92,7 @@ impl Outcome {
     /// The dumps of each stream.
     pub(crate) fn dumps(&self) -> &[Dumps]
         ensures dumps { result.now ≡ self.now.dumps }
-        ensures few { length result.now ≤ 16 }
+        ensures few { length result.now ≤ MOST_STREAMS }
     {
         &self.dumps
     }

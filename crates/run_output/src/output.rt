@@ -5,6 +5,7 @@ ghost use Rattle.journal_text.specs.Output.{head_lines};
 ghost use Rattle.run_output.specs.Pieces.{Adds, Puts};
 ghost use Rattle.run_output.specs.Parts.{dump_texts, view_texts};
 ghost use Rattle.run_output.specs.Runs.{run_text, section_text};
+ghost use Rattle.gpu_plan.specs.declared.adding.TheConstants.{MOST_STREAMS};
 
 use crate::dump_lines::DumpLines;
 use crate::event_lines::EventLines;
@@ -80,7 +81,7 @@ pub(crate) fn put_images<K: Sink>(
 
 // Puts the lines of the dumps that the client of each stream has read.
 fn put_dumps<K: Sink>(page: &mut Page, sink: &mut K, dumps: &[Dumps]) -> Result<(), Failed>
-    requires { length dumps.now ≤ 16 }
+    requires { length dumps.now ≤ MOST_STREAMS }
     ensures { Puts K.written K.faults sink.old page.old.gathered sink.new page.new.gathered result
         (concat (dump_texts 1 dumps.now)) }
 {
