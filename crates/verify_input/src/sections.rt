@@ -17,7 +17,6 @@ ghost use Rattle.verify_input.specs.Due.{same_lines, lines_of_image, end_lines, 
 ghost use Rattle.verify_input.specs.Taking.{HasTaken, IsBad, Judges, IsHistory, IsLook, is_lost, past_of};
 ghost use Rattle.wait_hooks.specs.Marks.{mark};
 
-use crate::looks::LOOKS;
 use crate::reading_lines::{first_look, value_before_end};
 use crate::rest::{Bad, Rest};
 use crate::what::What;
@@ -27,6 +26,7 @@ use gpu_store::{Images, texel_sum};
 use gpu_word::Memory;
 use journal_text::Line;
 use journal_verify::Followed;
+use live_view::{LOOKS, MOST_VIEWERS};
 use std::alloc::Global;
 use sync_core::Ending;
 use wait_hooks::mark;
@@ -332,7 +332,7 @@ fn take_viewer(
         rest.old rest.new result }
 {
     let mut least = 0;
-    for _look in 1..LOOKS {
+    for _look in 0..LOOKS {
         least = take_look(alloc, rest, line, history, viewer, least)?;
     }
     // The last look is of all events.
@@ -350,7 +350,7 @@ pub(crate) fn take_viewers(
     viewers: u32,
 ) -> Result<(), Bad>
     requires history { IsHistory history }
-    requires few { viewers ≤ 4 }
+    requires few { viewers ≤ MOST_VIEWERS }
     ensures { Judges history.entry.plans.now (past_of history.entry)
         (flat_map looks_due (range_with_len 1 viewers)) rest.old rest.new result }
 {

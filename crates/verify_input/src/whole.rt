@@ -20,6 +20,7 @@ use gpu_plan::{MOST_BYTES, Plans, ScriptFault, parse};
 use gpu_word::Memory;
 use journal_text::Line;
 use journal_verify::{Ruling, ends_of, follow};
+use live_view::MOST_VIEWERS;
 use std::alloc::Global;
 
 // Judges all lines after the journal.
@@ -32,7 +33,7 @@ fn take_rest(
     viewers: u32,
 ) -> Result<(), Bad>
     requires history { IsHistory history }
-    requires few { viewers ≤ 4 }
+    requires few { viewers ≤ MOST_VIEWERS }
     ensures { JudgesAll history.entry.plans.now (past_of history.entry)
         (dues history.entry.plans.now base (past_of history.entry) viewers) rest.old result }
 {
