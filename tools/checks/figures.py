@@ -91,7 +91,7 @@ def most_wrong_bodies(top: Path) -> int:
     return max(len(list(folder.glob("*.edit"))) for folder in top.glob("crates/*/must-fail"))
 
 
-MOST_BYTES = constant("gpu_io/src/reading.rt", "MOST_BYTES")
+MOST_BYTES = constant("gpu_plan/src/script.rt", "MOST_BYTES")
 MOST_RING = constant("gpu_cmd/src/areas.rt", "MOST_RING")
 MOST_WORDS = constant("gpu_cmd/src/areas.rt", "MOST_WORDS")
 MOST_FETCHED = constant("gpu_cmd/src/facts.rt", "MOST_FETCHED")
@@ -104,10 +104,10 @@ MOST_FENCES = constant("gpu_plan/src/acting.rt", "MOST_FENCES")
 MOST_SIDE = constant("gpu_store/src/canvas.rt", "MOST_SIDE")
 MOST_TEXELS = constant("gpu_store/src/images.rt", "MOST_TEXELS")
 MOST_NOTES = constant("flush_queue/src/queue.rt", "MOST_NOTES")
-MOST_SIZE = constant("script_answers/src/command.rt", "MOST_SIZE")
+MOST_SIZE = constant("script_generator/src/script.rt", "MOST_SIZE")
 MOST_WORKERS = constant("script_answers/src/command.rt", "MOST_WORKERS")
-MOST_VIEWS = constant("script_answers/src/command.rt", "MOST_VIEWS")
-ALL_LOOKS = constant("thread_parts/src/watch.rt", "ALL_LOOKS")
+MOST_VIEWERS = constant("live_view/src/making.rt", "MOST_VIEWERS")
+ALL_LOOKS = constant("live_view/src/look.rt", "ALL_LOOKS")
 SIZE_BITS = constant("gpu_word/src/header.rt", "SIZE_BITS")
 ID_BITS = constant("gpu_word/src/header.rt", "ID_BITS")
 CLAUSES = counted("crates/script_main/src/program.rt", r"^    ensures ")
@@ -122,7 +122,6 @@ NUMBERS = "crates/script_lines/specs/Numbers.antt"
 
 FACTS = (
     Fact(r"# bytes (?:were|was) read|bytes of an input \| #|has at most # bytes", MOST_BYTES),
-    Fact(r"# reads that succeed", MOST_BYTES, 1),
     Fact(r"RING is not # to", constant("gpu_cmd/src/areas.rt", "LEAST_RING")),
     Fact(r"RING is not \d+ to #|entries of a ring \| #", MOST_RING),
     Fact(r"# words of one sort|at most # words together|memories of one sort \| #", MOST_WORDS),
@@ -147,7 +146,7 @@ FACTS = (
     Fact(r"side is 0 or above #|side of an image, in texels \| #", MOST_SIDE),
     Fact(r"more than # texels|texels of all images \| #", MOST_TEXELS),
     Fact(r"\b(?:to|\|) # workers|workers \| #|with N workers, from 1 to #", MOST_WORKERS),
-    Fact(r"\b(?:to|\|) # viewers|viewers \| #|with V viewers, from 1 to #", MOST_VIEWS),
+    Fact(r"\b(?:to|\|) # viewers|viewers \| #|with V viewers, from 1 to #", MOST_VIEWERS),
     Fact(
         r"while (?:it holds )?# notes|are # notes in it|after # posts|that # flushes were posted"
         r"|queue has # places",
@@ -157,7 +156,7 @@ FACTS = (
     Fact(r"room for # words from the first", constant("gpu_fetch/src/fetch.rt", "USUAL_ENTRIES")),
     Fact(r"up to # commands", constant("gpu_house/src/batch.rt", "MOST_MEMBERS")),
     Fact(r"viewer has # looks|the # lines of each|viewers, # lines for each", ALL_LOOKS),
-    Fact(r"each looks # times", constant("thread_parts/src/watch.rt", "LOOKS")),
+    Fact(r"each looks # times", constant("live_view/src/look.rt", "LOOKS")),
     Fact(r"before # bytes are gathered", constant("run_output/src/page.rt", "PIECE_BYTES")),
     Fact(r"size up to #|that SIZE, from 1 to #", MOST_SIZE),
     Fact(r"marks over the base #|answered: #", constant("script_main/src/main.rt", "BASE")),

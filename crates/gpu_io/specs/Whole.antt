@@ -6,10 +6,6 @@ use Rattle.gpu_io.specs.Faults.{HasRisen}
 use Rattle.gpu_io.specs.declared.reading.ReadError.{ReadError}
 use Rattle.gpu_io.specs.declared.reading.ReadError.TheVariants as errors
 
--- the most bytes that an input may have
-abbrev pub most_bytes : ℕ
-most_bytes = 16777216
-
 -- these bytes were read, and they were all that was left
 abbrev pub ReadsAll : Option (List ℕ) → Option (List ℕ) → List ℕ → Type 0
 ReadsAll old new bytes = Consumes old new bytes × IsAtEnd new

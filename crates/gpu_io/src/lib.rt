@@ -14,8 +14,8 @@
 //! - A count of faults or of calls has 64 bits and stays at its last value. "The count rose" also holds there.
 //! - The kinds in memory count their calls, failed ones too.
 //! - A writer that takes no byte is a fault.
-//! - Reading stops after 16,777,217 reads that succeed, or sooner. Each read but the one that finds the end gives a byte,
-//!   and the loop's measure is how many bytes it may still take.
+//! - Reading stops after one read more than the limit, or sooner. Each read but the one that finds the end gives a byte, and
+//!   the loop's measure is how many bytes it may still take.
 #![tactic(auto)]
 
 mod bounded;

@@ -1,13 +1,10 @@
 ghost use Rattle.std.specs.Prelude.{◌≡◌, ◌<◌, ◌^◌, length, vec_len, IfOk};
 ghost use Rattle.gpu_io.specs.declared.reading.ReadError.TheVariants.{Fault, Memory};
-ghost use Rattle.gpu_io.specs.Whole.{most_bytes, ReadsWithin};
+ghost use Rattle.gpu_io.specs.Whole.{ReadsWithin};
 
 use crate::failed::Failed;
 use crate::source::Source;
 use std::alloc::{AllocError, Global};
-
-/// The most bytes that an input may have.
-const MOST_BYTES: usize = 16_777_216;
 
 /// How many bytes are asked for at once.
 const PIECE_BYTES: usize = 65_536;
@@ -75,11 +72,12 @@ pub fn read_within<S: Source>(
     }
 }
 
-/// All bytes that a source has left, where they are at most 16,777,216.
-pub fn read_all<S: Source>(alloc: Global, source: &mut S) -> Result<Vec<u8>, ReadError>
-    ensures { ReadsWithin most_bytes (S.left source.old) (S.left source.new)
+/// All bytes that a source has left, where they are at most `most`.
+pub fn read_all<S: Source>(alloc: Global, source: &mut S, most: usize) -> Result<Vec<u8>, ReadError>
+    requires { most < 2 ^ 63 }
+    ensures { ReadsWithin most (S.left source.old) (S.left source.new)
         (S.faults source.old) (S.faults source.new) result }
 {
     let mut piece = zeros(alloc, PIECE_BYTES)?;
-    read_within(alloc, source, MOST_BYTES, &mut piece)
+    read_within(alloc, source, most, &mut piece)
 }

@@ -46,7 +46,7 @@ fn reading_stops_at_the_first_fault_or_byte_past_the_limit(rt: HostRuntime) -> R
 fn a_whole_text_is_read(rt: HostRuntime) -> Result<(), Fail> {
     let bytes = Vec::from_slice(rt.alloc(), b"abc")?;
     let mut source = MemorySource::make(bytes, 1, Vec::new(rt.alloc()));
-    let Ok(read) = read_all(rt.alloc(), &mut source) else {
+    let Ok(read) = read_all(rt.alloc(), &mut source, 3) else {
         return Err(Fail::from("memory is ample"));
     };
     assert_eq!(rt; read.as_slice(), b"abc".as_slice());

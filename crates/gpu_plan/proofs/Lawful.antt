@@ -15,6 +15,7 @@ use Rattle.gpu_plan.specs.declared.plan.Action.{Action}
 use Rattle.script_lines.specs.Numbers.{number_said, value_of}
 use Rattle.gpu_plan.specs.Plans.{IsWithin, HasFewFences, stays_open, is_closed, IsLawfulPlan, ring_alone}
 use Rattle.gpu_plan.specs.Adding.{puts}
+use Rattle.gpu_plan.specs.declared.acting.TheConstants.{MOST_ACTIONS}
 
 -- ---- puts
 
@@ -102,7 +103,7 @@ lawful_start areas ring actions alone low high none =
 pub few_places : (areas : Areas) (actions : List Action) → IsLawfulPlan areas actions → places_of areas ≤ 2 ^ 24
 few_places areas actions h = let ring = h.laid_out.ring_most in let memories = h.laid_out.memories.few in omega arith
 
-pub lawful_puts : (areas : Areas) (place : ℕ) (words : List (List ℕ)) (old new : List Action) → IsLawfulPlan areas old → is_closed old ≡ false → place + length words ≤ places_of areas → length old + length words ≤ 1000000
+pub lawful_puts : (areas : Areas) (place : ℕ) (words : List (List ℕ)) (old new : List Action) → IsLawfulPlan areas old → is_closed old ≡ false → place + length words ≤ places_of areas → length old + length words ≤ MOST_ACTIONS
     → new ≡ old ++ puts place (map value_of words) → IsLawfulPlan areas new
 lawful_puts areas place words old new h unclosed fits few added =
     let values = map value_of words in
@@ -114,7 +115,7 @@ lawful_puts areas place words old new h unclosed fits few added =
       few = omega (arith, length-append old (puts place values), length-puts place values, length-map words value_of);
     })
 
-pub lawful_action : (areas same : Areas) (action : Action) (old new : List Action) → same ≡ areas → IsLawfulPlan areas old → is_closed old ≡ false → length old < 1000000 → IsWithin (places_of same) action → HasFewFences action
+pub lawful_action : (areas same : Areas) (action : Action) (old new : List Action) → same ≡ areas → IsLawfulPlan areas old → is_closed old ≡ false → length old < MOST_ACTIONS → IsWithin (places_of same) action → HasFewFences action
     → new ≡ old ++ action ∷ [] → IsLawfulPlan areas new
 lawful_action areas same action old new is h unclosed few within fenced added =
     rw added (record {

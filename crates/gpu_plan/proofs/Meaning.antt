@@ -25,6 +25,7 @@ use Rattle.gpu_plan.specs.Adding.{Draft, no_stream, acting, with_flush, with_key
 use Rattle.gpu_plan.specs.Script.{is_remark, numbered, from_body}
 use Rattle.gpu_plan.specs.Mentioning.{mentioned_as, mentioned_on, mentioned_in}
 use Rattle.gpu_plan.specs.Renumbered.{numbers_of, renumbered_plan, renumbered}
+use Rattle.gpu_plan.specs.declared.acting.TheConstants.{MOST_FLUSHES, MOST_FENCES}
 use Rattle.gpu_plan.proofs.Moving.{moved_draft, streams_moved, acting_moved, added_moved, stream_moved, memory_moved, results_moved, put_moved, fill_moved, finish_moved, token_moved, close_moved, dump_moved}
 use Rattle.gpu_plan.proofs.Staying.{keeps_in}
 use Rattle.gpu_plan.proofs.Telling.{number_same, body_told}
@@ -43,8 +44,8 @@ module _ (mentioned named : List Name) where
   flush_line_moved names words d keeps =
       shown_step (moved_draft numbers) (moved_flush (slice_index numbers)) (flush_said 2 named words) (flush_said 2 mentioned words) _ _ (flush_moved mentioned named (slice_index numbers) agrees names words keeps) (λ said.
       shown_step (moved_draft numbers) (renumbered_plan numbers) (acting (moved_draft numbers d)) (acting d) _ _ (acting_moved numbers d) (λ last.
-      test_step (moved_draft numbers) Limit (nat_le (d.flushes + 1) 100000 && nat_le (length (map (moved (slice_index numbers)) said.1)) 16) (nat_le (d.flushes + 1) 100000 && nat_le (length said.1) 16) _ _
-      (ap (λ n. nat_le (d.flushes + 1) 100000 && nat_le n 16) (length-map said.1 (moved (slice_index numbers))))
+      test_step (moved_draft numbers) Limit (nat_le (d.flushes + 1) MOST_FLUSHES && nat_le (length (map (moved (slice_index numbers)) said.1)) MOST_FENCES) (nat_le (d.flushes + 1) MOST_FLUSHES && nat_le (length said.1) MOST_FENCES) _ _
+      (ap (λ n. nat_le (d.flushes + 1) MOST_FLUSHES && nat_le n MOST_FENCES) (length-map said.1 (moved (slice_index numbers))))
       (added_moved numbers (Flush said.0 said.1 ∷ []) last (record d { flushes = d.flushes + 1 }))))
 
   keyword_moved : (names : List Name) (keyword : Option Keyword) (words : List (List ℕ)) (d : Draft) → Keeps (mentioned_as 2 names keyword words) mentioned

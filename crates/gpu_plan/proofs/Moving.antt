@@ -14,6 +14,7 @@ use Rattle.gpu_plan.specs.declared.plan.Action.TheVariants.{Put, Finish, Token, 
 use Rattle.gpu_plan.specs.Plans.{PlanData, is_of, is_closed}
 use Rattle.gpu_plan.specs.Adding.{Draft, streams, acting, fresh, added, puts, spans_with, may_follow, fresh_plan, with_stream, with_memory, with_results, with_puts, with_fill, with_finish, with_token, with_close, with_dump}
 use Rattle.gpu_plan.specs.Renumbered.{renumbered_action, renumbered_plan}
+use Rattle.gpu_plan.specs.declared.acting.TheConstants.{MOST_ACTIONS}
 use Rattle.gpu_plan.proofs.Renumbered.{all_open}
 
 module _ (numbers : List ℕ) where
@@ -47,7 +48,7 @@ module _ (numbers : List ℕ) where
   unfolding added
   added_moved actions plan d =
       let long = length-map actions (renumbered_action numbers) in
-      test_step moved_draft Limit (nat_le (d.actions + length (map (renumbered_action numbers) actions)) 1000000) (nat_le (d.actions + length actions) 1000000) _ _ (ap (λ n. nat_le (d.actions + n) 1000000) long)
+      test_step moved_draft Limit (nat_le (d.actions + length (map (renumbered_action numbers) actions)) MOST_ACTIONS) (nat_le (d.actions + length actions) MOST_ACTIONS) _ _ (ap (λ n. nat_le (d.actions + n) MOST_ACTIONS) long)
       (rw (long, sym (map-append (renumbered_action numbers) plan.actions actions)) refl)
 
   puts_moved : (place : ℕ) (values : List ℕ) → map (renumbered_action numbers) (puts place values) ≡ puts place values

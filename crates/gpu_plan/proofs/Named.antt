@@ -15,13 +15,16 @@ use Rattle.script_lines.specs.Outcome.{◌>>=◌, or_error, unless, at_line}
 use Rattle.script_lines.specs.Said.{keyword_of, priority_of, none_said, one_said, two_said, stream_said, numbered_said, put_said, fill_said, flush_said}
 use Rattle.script_lines.specs.Numbers.{decimal_of}
 use Rattle.gpu_cmd.specs.Spans.{span_at}
+use Rattle.gpu_cmd.specs.declared.areas.TheConstants.{LEAST_RING, MOST_RING}
 use Rattle.gpu_plan.specs.declared.plan.Action.{Action}
 use Rattle.gpu_plan.specs.declared.plan.Action.TheVariants.{Flush, Finish, Token, Close}
 use Rattle.gpu_plan.specs.Plans.{PlanData, is_of, is_closed}
 use Rattle.gpu_plan.specs.Named.{names_in, HasSmallSpace, AreLawfulNames}
 use Rattle.gpu_plan.specs.Adding.{Draft, streams, fresh_plan, acting, fresh, added, puts, spans_with, may_follow, with_stream, with_memory, with_results, with_puts, with_fill, with_flush, with_finish, with_token, with_close, with_dump, with_keyword, with_line}
 use Rattle.gpu_plan.specs.Script.{is_remark, numbered}
+use Rattle.gpu_plan.specs.declared.acting.TheConstants.{MOST_ACTIONS, MOST_FLUSHES, MOST_FENCES}
 use Rattle.gpu_plan.proofs.Apart.{lawful_end, any_is, names_more}
+use Rattle.gpu_plan.specs.declared.adding.TheConstants.{MOST_STREAMS, LAST_NAMESPACE}
 
 -- ---- what an answer that is right says of its steps
 
@@ -76,7 +79,7 @@ added_same : (actions : List Action) (q p : PlanData) (d before e : Draft) → b
 unfolding added
 added_same actions q p d before e done last name h =
     let next : Draft = record before { last = Some (record q { actions = q.actions ++ actions }); actions = before.actions + length actions } in
-    let is = same next e (passed (nat_le (before.actions + length actions) 1000000) Limit (λ _. Ok next) e h).1 in
+    let is = same next e (passed (nat_le (before.actions + length actions) MOST_ACTIONS) Limit (λ _. Ok next) e h).1 in
     changed d e p (record q { actions = q.actions ++ actions }) last name (ap (λ (x : Draft). x.done) (sym is) ∙ done) (ap (λ (x : Draft). x.last) (sym is))
 
 memory_same : (words : List (List ℕ)) (d e : Draft) → with_memory words d ≡ Ok e → SameNames d e
@@ -121,7 +124,7 @@ unfolding with_flush
 flush_same version names words d e h =
     let said = bound (flush_said version names words) _ e h in
     let last = bound (acting d) _ e said.2 in
-    let fits = passed (nat_le (d.flushes + 1) 100000 && nat_le (length said.0.1) 16) Limit _ e last.2 in
+    let fits = passed (nat_le (d.flushes + 1) MOST_FLUSHES && nat_le (length said.0.1) MOST_FENCES) Limit _ e last.2 in
     added_same (Flush said.0.0 said.0.1 ∷ []) last.0 last.0 d (record d { flushes = d.flushes + 1 }) e refl (acting_last d last.0 last.1) refl fits.1
 
 finish_same : (words : List (List ℕ)) (d e : Draft) → with_finish words d ≡ Ok e → SameNames d e
@@ -186,7 +189,7 @@ stream_begins version words d e h =
     let follows = bound (may_follow version (streams d) name said.0.2) _ e said.2 in
     let order = passed (version == 2 || name.id == length (streams d) + 1) Order _ tt follows.1 in
     let new = passed (not (list_any (is_of name) (streams d))) Double _ tt order.1 in
-    let limits = allowed (nat_le 16 said.0.2 && nat_le said.0.2 4096 && nat_le name.namespace 255 && nat_lt (length (streams d)) 16) Limit new.1 in
+    let limits = allowed (nat_le LEAST_RING said.0.2 && nat_le said.0.2 MOST_RING && nat_le name.namespace LAST_NAMESPACE && nat_lt (length (streams d)) MOST_STREAMS) Limit new.1 in
     let plan = fresh_plan name said.0.1 said.0.2 in
     let next : Draft = record d { done = streams d; last = Some plan } in
     let is = same next e follows.2 in

@@ -19,6 +19,7 @@ use Rattle.gpu_plan.specs.declared.plan.Action.TheVariants.{Put}
 use Rattle.gpu_plan.specs.Plans.{PlanData, is_closed}
 use Rattle.gpu_plan.specs.Adding.{Draft, puts, acting, added, area_of, put_into, with_puts, with_fill}
 use Rattle.gpu_plan.specs.Putting.{can_put}
+use Rattle.gpu_plan.specs.declared.acting.TheConstants.{MOST_ACTIONS}
 use Rattle.gpu_plan.proofs.Lawful.{length-puts}
 
 values_said : (words : List (List ℕ)) → map value_of words ≡ map (λ (said : Option ℕ). unwrap_or said 0) (map hex_of words)
@@ -64,16 +65,16 @@ unfolding acting
 acts d last is unclosed = rw (is, unclosed) refl
 
 module _ (memory : Option ℕ) (place : ℕ) (values : List ℕ) (d : Draft) (last : PlanData) (span : Span) (may : acting d ≡ Ok last) (area : area_of last.areas memory ≡ Some span) where
-  over : (fits : Bool) → nat_le (place + length values) span.words ≡ fits → (fits ≡ true → 1000000 < d.actions + length values) → is_ok (put_into memory place values d) ≡ false
+  over : (fits : Bool) → nat_le (place + length values) span.words ≡ fits → (fits ≡ true → MOST_ACTIONS < d.actions + length values) → is_ok (put_into memory place values d) ≡ false
   unfolding put_into added
   over false e far = rw (may, area, e) refl
   over true e far =
       let many = far refl in
-      let long : nat_le (d.actions + length (puts (span.base + place) values)) 1000000 ≡ false = lt-leb _ _ (omega (arith, length-puts (span.base + place) values)) in
+      let long : nat_le (d.actions + length (puts (span.base + place) values)) MOST_ACTIONS ≡ false = lt-leb _ _ (omega (arith, length-puts (span.base + place) values)) in
       rw (may, area, e, long) refl
 
   -- values that go past the area, or past the most actions
-  pub put_refused : (place + length values ≤ span.words → 1000000 < d.actions + length values) → is_ok (put_into memory place values d) ≡ false
+  pub put_refused : (place + length values ≤ span.words → MOST_ACTIONS < d.actions + length values) → is_ok (put_into memory place values d) ≡ false
   put_refused far = over (nat_le (place + length values) span.words) refl (λ e. far (leb-true _ _ e))
 
 -- no room up to the end, where all words are values

@@ -7,14 +7,17 @@ use Rattle.gpu_cmd.specs.Spans.{span_at, words_in}
 use Rattle.gpu_cmd.specs.declared.name.Name.{Name}
 use Rattle.script_lines.specs.declared.fault.Kind.{Kind}
 use Rattle.script_lines.specs.declared.fault.Kind.TheVariants.{Word, Order, Double, Place, Limit}
-use Rattle.gpu_plan.specs.declared.acting.TheConstants.{MOST_FENCES}
+use Rattle.gpu_plan.specs.declared.acting.TheConstants.{MOST_ACTIONS, MOST_FLUSHES, MOST_FENCES}
 use Rattle.gpu_plan.specs.declared.plan.Action.{Action}
 use Rattle.gpu_plan.specs.declared.plan.Action.TheVariants.{Put, Flush, Finish, Token, Close}
 use Rattle.gpu_cmd.specs.declared.priority.Priority.{Priority}
+use Rattle.gpu_cmd.specs.declared.areas.TheConstants.{LEAST_RING, MOST_RING, MOST_WORDS}
 use Rattle.script_lines.specs.declared.keyword.Keyword.{Keyword}
 use Rattle.script_lines.specs.declared.keyword.Keyword.TheVariants.{StreamLine, MemoryLine, ResultsLine, PutLine, FillLine, FlushLine, FinishLine, TokenLine, CloseLine, DumpLine}
 use Rattle.script_lines.specs.Outcome.{◌>>=◌, or_error, unless}
 use Rattle.gpu_plan.specs.Plans.{PlanData, is_closed, is_of, ring_alone}
+use Rattle.gpu_plan.specs.declared.adding.TheConstants.{MOST_STREAMS, LAST_NAMESPACE}
+use Rattle.gpu_plan.specs.declared.spans.TheConstants.{LAST_MEMORY}
 use Rattle.script_lines.specs.Said.{keyword_of, none_said, one_said, two_said, stream_said, put_said, fill_said, flush_said}
 
 -- the streams before, the stream begun last, and how many actions and flushes the script has so far
@@ -49,7 +52,7 @@ fresh d = do
 -- the draft with some actions added to the stream begun last, whose plan this is
 unfoldable pub added : List Action → PlanData → Draft → Result Draft Kind
 added actions plan d = do
-  _ ← unless (nat_le (d.actions + length actions) 1000000) Limit
+  _ ← unless (nat_le (d.actions + length actions) MOST_ACTIONS) Limit
   Ok (record d { last = Some (record plan { actions = plan.actions ++ actions }); actions = d.actions + length actions })
 
 -- values at places that follow one another
@@ -67,7 +70,7 @@ with_actions actions d = do
 unfoldable pub flushed : ℕ → List (ℕ × ℕ) → Draft → Result Draft Kind
 flushed put fences d = do
   last ← acting d
-  _ ← unless (nat_le (d.flushes + 1) 100000 && nat_le (length fences) MOST_FENCES) Limit
+  _ ← unless (nat_le (d.flushes + 1) MOST_FLUSHES && nat_le (length fences) MOST_FENCES) Limit
   added (Flush put fences ∷ []) last (record d { flushes = d.flushes + 1 })
 
 -- the draft with a Finish, after which a word of a result memory is read
@@ -95,7 +98,7 @@ put_into memory place values d = do
 unfoldable pub spans_with : ℕ → List (Option Span) → ℕ → ℕ → Result (List (Option Span)) Kind
 spans_with first spans memory words = do
   _ ← unless (is_none (span_at spans memory)) Double
-  _ ← unless (nat_le memory 15 && nat_le 1 words && nat_le (words_in spans + words) 65536) Limit
+  _ ← unless (nat_le memory LAST_MEMORY && nat_le 1 words && nat_le (words_in spans + words) MOST_WORDS) Limit
   Ok (set spans memory (Some (record { base = first + words_in spans; words = words })))
 
 -- whether a stream of this name may follow these streams, with a ring of this length; in version 1 its id is its number
@@ -103,7 +106,7 @@ unfoldable pub may_follow : ℕ → List PlanData → Name → ℕ → Result (U
 may_follow version before name ring = do
   _ ← unless (version == 2 || name.id == length before + 1) Order
   _ ← unless (not (list_any (is_of name) before)) Double
-  unless (nat_le 16 ring && nat_le ring 4096 && nat_le name.namespace 255 && nat_lt (length before) 16) Limit
+  unless (nat_le LEAST_RING ring && nat_le ring MOST_RING && nat_le name.namespace LAST_NAMESPACE && nat_lt (length before) MOST_STREAMS) Limit
 
 -- a stream that has a ring and no memory, and has not acted
 abbrev pub fresh_plan : Name → Priority → ℕ → PlanData
@@ -154,7 +157,7 @@ unfoldable pub with_flush : ℕ → List Name → List (List ℕ) → Draft → 
 with_flush version names words d = do
   said ← flush_said version names words
   last ← acting d
-  _ ← unless (nat_le (d.flushes + 1) 100000 && nat_le (length said.1) MOST_FENCES) Limit
+  _ ← unless (nat_le (d.flushes + 1) MOST_FLUSHES && nat_le (length said.1) MOST_FENCES) Limit
   added (Flush said.0 said.1 ∷ []) last (record d { flushes = d.flushes + 1 })
 
 unfoldable pub with_finish : List (List ℕ) → Draft → Result Draft Kind

@@ -4,6 +4,7 @@ use Rattle.std.specs.List.{All, IsDistinct}
 use Rattle.gpu_cmd.specs.declared.name.Name.{Name}
 use Rattle.script_lines.specs.Names.{is_name}
 use Rattle.gpu_plan.specs.Plans.{PlanData}
+use Rattle.gpu_plan.specs.declared.adding.TheConstants.{LAST_NAMESPACE}
 
 -- the names of the streams, in their order
 abbrev pub names_in : List PlanData → List Name
@@ -19,7 +20,7 @@ IsVersion version = (version ≡ 1) ⊎ (version ≡ 2)
 
 -- the namespace of a name is at most 255
 abbrev pub HasSmallSpace : Name → Type 0
-HasSmallSpace name = name.namespace ≤ 255
+HasSmallSpace name = name.namespace ≤ LAST_NAMESPACE
 
 -- no two streams have the same name, in version 1 the names are the numbers, and each namespace is at most 255
 pub record AreLawfulNames (version : ℕ) (names : List Name) : Type 0 where

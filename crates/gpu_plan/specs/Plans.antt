@@ -8,9 +8,10 @@ use Rattle.gpu_cmd.specs.Lawful.{IsLawfulAreas, places_of}
 use Rattle.gpu_cmd.specs.Spans.{words_in}
 use Rattle.gpu_cmd.specs.declared.name.Name.{Name}
 use Rattle.script_lines.specs.Names.{is_name}
-use Rattle.gpu_plan.specs.declared.acting.TheConstants.{MOST_FENCES}
+use Rattle.gpu_plan.specs.declared.acting.TheConstants.{MOST_ACTIONS, MOST_FLUSHES, MOST_FENCES}
 use Rattle.gpu_plan.specs.declared.plan.Action.{Action}
 use Rattle.gpu_plan.specs.declared.plan.Action.TheVariants.{Put, Flush, Finish, Token, Close}
+use Rattle.gpu_plan.specs.declared.adding.TheConstants.{MOST_STREAMS}
 use Rattle.gpu_cmd.specs.declared.priority.Priority.{Priority}
 use Rattle.gpu_cmd.specs.declared.priority.Priority.TheVariants.{Normal}
 
@@ -67,7 +68,7 @@ pub record IsLawfulPlan (areas : Areas) (actions : List Action) : Type 0 where
   pub within : All (IsWithin (places_of areas)) actions
   pub fenced : All HasFewFences actions
   pub closes_last : IsTrue (list_all stays_open (take (length actions - 1) actions))
-  pub few : length actions ≤ 1000000
+  pub few : length actions ≤ MOST_ACTIONS
 
 -- a dump stands at a Finish, and reads a declared result place
 abbrev pub IsDump : List (Option Span) → List Action → ℕ × ℕ → Type 0
@@ -88,9 +89,9 @@ flushes_in plans = sum_by (λ plan. count_by is_flush plan.actions) plans
 
 -- what the format of scripts allows all streams together
 pub record IsLawfulScript (plans : List PlanData) : Type 0 where
-  pub streams : length plans ≤ 16
-  pub actions : actions_in plans ≤ 1000000
-  pub flushes : flushes_in plans ≤ 100000
+  pub streams : length plans ≤ MOST_STREAMS
+  pub actions : actions_in plans ≤ MOST_ACTIONS
+  pub flushes : flushes_in plans ≤ MOST_FLUSHES
 
 -- a script: its version, and its streams in the order of their lines
 pub record PlansData : Type 0 where

@@ -15,10 +15,10 @@ use script_lines::{Kind, LineError, Values};
 use std::alloc::AllocError;
 
 /// The most actions of a script.
-const MOST_ACTIONS: usize = 1_000_000;
+pub const MOST_ACTIONS: usize = 1_000_000;
 
 /// The most flushes of a script.
-const MOST_FLUSHES: usize = 100_000;
+pub const MOST_FLUSHES: usize = 100_000;
 
 /// The most fences of a flush.
 pub const MOST_FENCES: usize = 16;
@@ -198,10 +198,10 @@ impl Draft {
 
 // How many puts may be added after `actions` actions, where there is room for `room` of them.
 fn room_left(room: u32, actions: usize) -> u32
-    requires { actions ≤ 1000000 }
+    requires { actions ≤ MOST_ACTIONS }
     ensures area { result ≤ room }
-    ensures script { actions + result ≤ 1000000 }
-    ensures most { result < room → actions + result ≡ 1000000 }
+    ensures script { actions + result ≤ MOST_ACTIONS }
+    ensures most { result < room → actions + result ≡ MOST_ACTIONS }
 {
     let left = (MOST_ACTIONS - actions) as u32;
     if room < left { room } else { left }

@@ -23,10 +23,10 @@ use std::alloc::{AllocError, Global};
 use std::mem::replace;
 
 /// The greatest namespace of a stream's name.
-const LAST_NAMESPACE: u32 = 255;
+pub const LAST_NAMESPACE: u32 = 255;
 
 /// The most streams of a script.
-const MOST_STREAMS: usize = 16;
+pub const MOST_STREAMS: usize = 16;
 
 /// A draft without a stream.
 pub(crate) fn no_stream(alloc: Global) -> Draft
@@ -51,7 +51,8 @@ fn has_plan(plans: &[Plan], name: Name) -> bool
 #[tactic(auto, unfolding(crate::specs::Adding::may_follow))]
 fn may_follow(version: u32, before: &[Plan], name: Name, ring: u32) -> Result<(), LineError>
     ensures follows { Gives (λ allowed. tt) result (may_follow version before.now name ring) }
-    ensures ring { IfOk result (λ allowed. (16 ≤ ring) × (ring ≤ 4096) × (length before.now < 16)) }
+    ensures ring { IfOk result
+        (λ allowed. (LEAST_RING ≤ ring) × (ring ≤ MOST_RING) × (length before.now < MOST_STREAMS)) }
 {
     if version != 2 && name.id != before.len() as u64 + 1 {
         return Err(LineError::Refused(Kind::Order));
@@ -152,7 +153,7 @@ fn with_declared(
 
 // The line is read once. Where its values are not put, the script is refused, and the line is looked at again for the
 // first kind that is wrong with it.
-fn with_puts(words: Words<'_>, draft: &mut Draft) -> Result<(), LineError>
+fn add_put_line(words: Words<'_>, draft: &mut Draft) -> Result<(), LineError>
     ensures { Becomes draft.new result (with_puts (words_left words.entry) (shown draft.old)) }
 {
     let (place, values) = put_begun(words)?;
@@ -164,7 +165,7 @@ fn with_puts(words: Words<'_>, draft: &mut Draft) -> Result<(), LineError>
     Err(LineError::Refused(kind))
 }
 
-fn with_fill(words: Words<'_>, draft: &mut Draft) -> Result<(), LineError>
+fn add_fill_line(words: Words<'_>, draft: &mut Draft) -> Result<(), LineError>
     ensures { Becomes draft.new result (with_fill (words_left words.entry) (shown draft.old)) }
 {
     let (memory, place, values) = fill_begun(words)?;
@@ -177,7 +178,7 @@ fn with_fill(words: Words<'_>, draft: &mut Draft) -> Result<(), LineError>
 }
 
 #[tactic(auto, unfolding(crate::specs::Adding::with_flush, crate::specs::Adding::flushed))]
-fn with_flush(
+fn add_flush_line(
     alloc: Global,
     version: u32,
     mentioned: &mut Names,
@@ -195,7 +196,7 @@ fn with_flush(
 }
 
 #[tactic(auto, unfolding(crate::specs::Adding::with_finish, crate::specs::Adding::with_actions))]
-fn with_finish(words: Words<'_>, draft: &mut Draft) -> Result<(), LineError>
+fn add_finish_line(words: Words<'_>, draft: &mut Draft) -> Result<(), LineError>
     ensures { Becomes draft.new result (with_finish (words_left words.entry) (shown draft.old)) }
 {
     none_said(words)?;
@@ -203,7 +204,7 @@ fn with_finish(words: Words<'_>, draft: &mut Draft) -> Result<(), LineError>
 }
 
 #[tactic(auto, unfolding(crate::specs::Adding::with_token, crate::specs::Adding::with_actions))]
-fn with_token(words: Words<'_>, draft: &mut Draft) -> Result<(), LineError>
+fn add_token_line(words: Words<'_>, draft: &mut Draft) -> Result<(), LineError>
     ensures { Becomes draft.new result (with_token (words_left words.entry) (shown draft.old)) }
 {
     let token = one_said(words)?;
@@ -211,7 +212,7 @@ fn with_token(words: Words<'_>, draft: &mut Draft) -> Result<(), LineError>
 }
 
 #[tactic(auto, unfolding(crate::specs::Adding::with_close, crate::specs::Adding::with_actions))]
-fn with_close(words: Words<'_>, draft: &mut Draft) -> Result<(), LineError>
+fn add_close_line(words: Words<'_>, draft: &mut Draft) -> Result<(), LineError>
     ensures { Becomes draft.new result (with_close (words_left words.entry) (shown draft.old)) }
 {
     none_said(words)?;
@@ -219,7 +220,7 @@ fn with_close(words: Words<'_>, draft: &mut Draft) -> Result<(), LineError>
 }
 
 #[tactic(auto, unfolding(crate::specs::Adding::with_dump, crate::specs::Adding::dumped))]
-fn with_dump(words: Words<'_>, draft: &mut Draft) -> Result<(), LineError>
+fn add_dump_line(words: Words<'_>, draft: &mut Draft) -> Result<(), LineError>
     ensures { Becomes draft.new result (with_dump (words_left words.entry) (shown draft.old)) }
 {
     let (memory, index) = two_said(words)?;
@@ -229,7 +230,7 @@ fn with_dump(words: Words<'_>, draft: &mut Draft) -> Result<(), LineError>
 /// Adds what a line of this name and these words says. In version 2 a fence has the number of its name among those
 /// mentioned, and the new ones go after the others.
 #[tactic(auto, unfolding(crate::specs::Adding::with_line))]
-pub(crate) fn with_line(
+pub(crate) fn add_line(
     alloc: Global,
     version: u32,
     mentioned: &mut Names,
@@ -254,13 +255,13 @@ pub(crate) fn with_line(
             *draft = with_declared(alloc, version, keyword, words, old)?;
             Ok(())
         }
-        Keyword::PutLine => with_puts(words, draft),
-        Keyword::FillLine => with_fill(words, draft),
-        Keyword::FlushLine => with_flush(alloc, version, mentioned, words, draft),
-        Keyword::FinishLine => with_finish(words, draft),
-        Keyword::TokenLine => with_token(words, draft),
-        Keyword::CloseLine => with_close(words, draft),
-        Keyword::DumpLine => with_dump(words, draft),
+        Keyword::PutLine => add_put_line(words, draft),
+        Keyword::FillLine => add_fill_line(words, draft),
+        Keyword::FlushLine => add_flush_line(alloc, version, mentioned, words, draft),
+        Keyword::FinishLine => add_finish_line(words, draft),
+        Keyword::TokenLine => add_token_line(words, draft),
+        Keyword::CloseLine => add_close_line(words, draft),
+        Keyword::DumpLine => add_dump_line(words, draft),
     }
 }
 

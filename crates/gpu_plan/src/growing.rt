@@ -1,11 +1,12 @@
 ghost use Rattle.std.specs.Prelude.{◌≡◌, ◌+◌, ◌<◌, ◌≤◌, ◌^◌, ◌++◌, [], ◌∷◌, false, length, take, Some, is_some, OnOk, OnErr, IfOk, IfSome, IfNone, OnSome};
 ghost use Rattle.gpu_cmd.specs.Lawful.{places_of};
 ghost use Rattle.gpu_cmd.specs.Spans.{AreTiles, words_in};
+ghost use Rattle.gpu_cmd.specs.declared.areas.TheConstants.{LEAST_RING, MOST_RING};
 ghost use Rattle.script_lines.specs.Left.{values_left};
 ghost use Rattle.gpu_plan.specs.Plans.{IsWithin, is_closed, ring_alone};
 ghost use Rattle.gpu_plan.specs.Adding.{fresh_plan};
 ghost use Rattle.gpu_plan.specs.Putting.{can_put, word_puts, with_word_puts};
-ghost use Rattle.gpu_plan.specs.declared.acting.TheConstants.{MOST_FENCES};
+ghost use Rattle.gpu_plan.specs.declared.acting.TheConstants.{MOST_ACTIONS, MOST_FENCES};
 ghost use Rattle.gpu_plan.specs.declared.plan.Action.TheVariants.{Flush, Finish};
 ghost use Rattle.gpu_plan.specs.Fencing.{fences_in};
 
@@ -74,8 +75,8 @@ impl Plan {
         priority: Priority,
         ring: u32,
     ) -> Result<Plan, AllocError>
-        requires least { 16 ≤ ring }
-        requires most { ring ≤ 4096 }
+        requires least { LEAST_RING ≤ ring }
+        requires most { ring ≤ MOST_RING }
         ensures { IfOk result (λ plan. plan ≡ fresh_plan name priority ring) }
     {
         let areas = Box::new(alloc, ring_alone(ring))?;
@@ -99,7 +100,7 @@ impl Plan {
     /// Adds an action that has no fences.
     pub(crate) fn add_action(&mut self, action: Action) -> Result<(), AllocError>
         requires unclosed { is_closed self.old.actions ≡ false }
-        requires few { length self.old.actions < 1000000 }
+        requires few { length self.old.actions < MOST_ACTIONS }
         requires within { IsWithin (places_of self.old.areas) action }
         requires unfenced { fences_in (Some action) ≡ [] }
         ensures added { OnOk result
@@ -113,7 +114,7 @@ impl Plan {
     /// Adds a flush that waits for these fences.
     pub(crate) fn add_flush(&mut self, put: u32, fences: Vec<(u32, u64)>) -> Result<(), AllocError>
         requires unclosed { is_closed self.old.actions ≡ false }
-        requires few { length self.old.actions < 1000000 }
+        requires few { length self.old.actions < MOST_ACTIONS }
         requires fenced { length fences.items ≤ MOST_FENCES }
         ensures added { OnOk result
             (self.new
@@ -147,7 +148,7 @@ impl Plan {
     ) -> Result<Option<usize>, AllocError>
         requires ordered { place ≤ end }
         requires unclosed { is_closed self.old.actions ≡ false }
-        requires few { length self.old.actions + end ≤ 1000000 + place }
+        requires few { length self.old.actions + end ≤ MOST_ACTIONS + place }
         requires fits { end ≤ places_of self.old.areas }
         ensures told { IfOk result
             (λ count. is_some count ≡ can_put place end (values_left values.entry)) }
@@ -177,7 +178,7 @@ impl Plan {
     /// Adds a Finish, after which this result place is read.
     pub(crate) fn add_dump(&mut self, place: u32) -> Result<(), AllocError>
         requires unclosed { is_closed self.old.actions ≡ false }
-        requires few { length self.old.actions < 1000000 }
+        requires few { length self.old.actions < MOST_ACTIONS }
         requires there { place < words_in self.old.areas.results }
         ensures added { OnOk result
             (self.new ≡ record self.old {

@@ -44,11 +44,13 @@ mod renumbering;
 mod script;
 mod spans;
 
-pub use acting::MOST_FENCES;
+pub use acting::{MOST_ACTIONS, MOST_FENCES, MOST_FLUSHES};
+pub use adding::{LAST_NAMESPACE, MOST_STREAMS};
 pub use fences::Fences;
 pub use laws::{bound_is_first, bound_never_falls, held_values, names_are_lawful, one_further};
 pub use place::Place;
 pub use places::flush_places;
 pub use plan::{Action, Plan, Plans};
-pub use script::parse;
+pub use script::{MOST_BYTES, parse};
 pub use script_lines::{Kind, ScriptFault};
+pub use spans::LAST_MEMORY;

@@ -6,6 +6,7 @@ ghost use Rattle.gpu_plan.specs.Plans.{IsLawfulPlan, IsLawfulScript, IsDump, Ris
 ghost use Rattle.gpu_plan.specs.Passes.{passes_behind};
 ghost use Rattle.gpu_plan.specs.Fencing.{fences_in};
 ghost use Rattle.gpu_plan.specs.Named.{names_in, IsVersion, AreLawfulNames};
+ghost use Rattle.gpu_plan.specs.declared.adding.TheConstants.{MOST_STREAMS, LAST_NAMESPACE};
 
 use crate::fenced::{Fenced, noted_at};
 use crate::fences::Fences;
@@ -193,7 +194,7 @@ impl Plans {
         ensures count { result ≡ length self.now.plans }
         ensures lawful { IsLawfulScript self.now.plans }
         ensures named { AreLawfulNames self.now.version (names_in self.now.plans) }
-        ensures few { result ≤ 16 }
+        ensures few { result ≤ MOST_STREAMS }
     {
         self.plans.len() as u32
     }
@@ -216,7 +217,7 @@ impl Plans {
             ≡ Some result }
         ensures numbered { self.now.version ≡ 1 → result ≡ record { namespace = 0; id = stream } }
         ensures own { number_of self.now.plans result ≡ stream }
-        ensures space { result.namespace ≤ 255 }
+        ensures space { result.namespace ≤ LAST_NAMESPACE }
     {
         self.plans[stream as usize - 1].name()
     }
@@ -231,7 +232,7 @@ impl Plans {
 
 /// The number of the stream that has a name among these, or 0 where none has it.
 pub(crate) fn number_of(plans: &[Plan], name: Name) -> u32
-    requires { length plans.now ≤ 16 }
+    requires { length plans.now ≤ MOST_STREAMS }
     ensures { result ≡ number_of plans.now name }
 {
     match place_of(plans, name) {

@@ -2,8 +2,10 @@ ghost use Rattle.std.specs.Prelude.{◌≡◌, ◌≤◌, length, map, slice_ind
 ghost use Rattle.gpu_plan.specs.Named.{names_in, IsVersion, AreLawfulNames};
 ghost use Rattle.gpu_plan.specs.Adding.{streams};
 ghost use Rattle.gpu_plan.specs.Drafts.{shown};
+ghost use Rattle.gpu_plan.specs.declared.acting.TheConstants.{MOST_ACTIONS};
 ghost use Rattle.gpu_plan.specs.Renumbered.{numbers_of, renumbered_fence, renumbered_note, renumbered_action, renumbered_plan, renumbered};
 ghost use Rattle.gpu_plan.specs.Fencing.{Rise, fences_in, fenced_from, noted_at};
+ghost use Rattle.gpu_plan.specs.declared.adding.TheConstants.{MOST_STREAMS};
 
 use crate::adding::streams;
 use crate::draft::Draft;
@@ -15,7 +17,7 @@ use std::alloc::{AllocError, Global};
 
 // The numbers of the streams that have these names, after 0 for no name.
 fn numbers_of(alloc: Global, plans: &[Plan], mentioned: &Names) -> Result<Vec<u32>, AllocError>
-    requires { length plans.now ≤ 16 }
+    requires { length plans.now ≤ MOST_STREAMS }
     ensures { IfOk result (λ numbers. numbers.items ≡ numbers_of plans.now mentioned.now) }
 {
     let names = mentioned.as_slice();
@@ -76,7 +78,7 @@ impl Action {
 }
 
 fn renumber_actions(numbers: &[u32], fenced: &[Fenced], actions: &mut [Action])
-    requires few { length actions.old ≤ 1000000 }
+    requires few { length actions.old ≤ MOST_ACTIONS }
     requires noted { fenced.now ≡ map (renumbered_note numbers.now) (fenced_from 0 actions.old) }
     ensures { actions.new ≡ map (renumbered_action numbers.now) actions.old }
 {

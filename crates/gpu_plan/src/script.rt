@@ -8,12 +8,15 @@ ghost use Rattle.gpu_plan.specs.Named.{IsVersion};
 ghost use Rattle.gpu_plan.specs.Adding.{no_stream};
 ghost use Rattle.gpu_plan.specs.Drafts.{shown};
 
-use crate::adding::{no_stream, with_line};
+use crate::adding::{add_line, no_stream};
 use crate::draft::Draft;
 use crate::plan::Plans;
 use crate::renumbering::whole;
 use script_lines::{Kind, LineError, Lines, Names, ScriptFault, Words, all_lines};
 use std::alloc::Global;
+
+/// The most bytes of a script, and of any input.
+pub const MOST_BYTES: usize = 16_777_216;
 
 fn is_remark(word: &[u8]) -> bool
     ensures { result ≡ is_remark word.now }
@@ -58,7 +61,7 @@ fn version_of(mut words: Words<'_>) -> Option<u32>
 
 // What the line of this number does to the draft.
 #[tactic(auto, unfolding(crate::specs::Script::numbered, crate::specs::Mentioning::mentioned_on))]
-fn numbered(
+fn add_numbered(
     alloc: Global,
     version: u32,
     mentioned: &mut Names,
@@ -79,7 +82,7 @@ fn numbered(
     if is_remark(name) {
         return Ok(());
     }
-    match with_line(alloc, version, mentioned, name, words, draft) {
+    match add_line(alloc, version, mentioned, name, words, draft) {
         Ok(()) => Ok(()),
         Err(LineError::Refused(kind)) => Err(ScriptFault::Refused { line: number, kind }),
         Err(LineError::Memory) => Err(ScriptFault::Memory),
@@ -104,7 +107,7 @@ fn from_body(
     let mut number = first;
     let mut draft = no_stream(alloc);
     for line in lines {
-        numbered(alloc, version, &mut mentioned, number, line, &mut draft)?;
+        add_numbered(alloc, version, &mut mentioned, number, line, &mut draft)?;
         number += 1;
     }
     match whole(alloc, version, &mentioned, draft) {
@@ -165,7 +168,7 @@ fn from_head(alloc: Global, text: Lines<'_>) -> Result<Plans, ScriptFault>
 /// The plans that a script says, or its first bad line with its first kind.
 #[tactic(auto, unfolding(crate::specs::Script::script_of))]
 pub fn parse(alloc: Global, text: &[u8]) -> Result<Plans, ScriptFault>
-    requires { length text.now ≤ 16777216 }
+    requires { length text.now ≤ MOST_BYTES }
     ensures { GivesScript (λ plans. plans) result (script_of text.now) }
 {
     from_head(alloc, all_lines(text))

@@ -1,5 +1,6 @@
 ghost use Rattle.std.specs.Prelude.{◌≤◌, IfOk};
 ghost use Rattle.gpu_cmd.specs.Spans.{AreTiles};
+ghost use Rattle.gpu_cmd.specs.declared.areas.TheConstants.{MOST_RING};
 ghost use Rattle.script_lines.specs.Outcome.{Gives};
 ghost use Rattle.gpu_plan.specs.Adding.{spans_with};
 
@@ -7,7 +8,7 @@ use gpu_cmd::{MOST_WORDS, Span, span_at, words_in};
 use script_lines::{Kind, LineError};
 
 /// The greatest number of a memory.
-const LAST_MEMORY: u32 = 15;
+pub const LAST_MEMORY: u32 = 15;
 
 /// Memories that count from a first place on, with one more after those before.
 #[tactic(auto, unfolding(crate::specs::Adding::spans_with))]
@@ -18,7 +19,7 @@ pub(crate) fn spans_with(
     words: u32,
 ) -> Result<[Option<Span>; 16], LineError>
     requires tiles { AreTiles first spans.now }
-    requires low { first ≤ 4096 }
+    requires low { first ≤ MOST_RING }
     ensures said { Gives (λ new. new) result (spans_with first spans.now memory words) }
     ensures tiles { IfOk result (λ new. AreTiles first new) }
 {

@@ -8,6 +8,8 @@ ghost use Rattle.gpu_threads.specs.Clients.{AreClientsOf};
 ghost use Rattle.gpu_threads.specs.Making.{HaveDoneNothing, AreNamed};
 ghost use Rattle.gpu_threads.specs.Runs.{IsThreadedRun};
 ghost use Rattle.thread_parts.specs.Watches.{HasNotLooked, HasWatched, HaveWatched};
+ghost use Rattle.live_view.specs.declared.look.TheConstants.{LOOKS};
+ghost use Rattle.live_view.specs.declared.making.TheConstants.{MOST_VIEWERS};
 
 use crate::full_pass::FullPass;
 use crate::ground::Ground;
@@ -145,7 +147,7 @@ fn run_all<N: Naming + Send + Sync, H: Hook + Send, G: Gate + Sync, R: Threads +
     requires clients { AreClientsOf N.plans N.words N.result_words N.queues crew.old.clients.items }
     requires watches { All (HasWatched N.view 0) crew.old.watches.items }
     ensures clients { AreClientsOf N.plans N.words N.result_words N.queues crew.new.clients.items }
-    ensures watched { All (HasWatched N.view 16) crew.new.watches.items }
+    ensures watched { All (HasWatched N.view LOOKS) crew.new.watches.items }
     ensures many { length crew.new.watches.items ≡ length crew.old.watches.items }
 {
     let clients = crew.clients.as_mut_slice();
@@ -154,7 +156,7 @@ fn run_all<N: Naming + Send + Sync, H: Hook + Send, G: Gate + Sync, R: Threads +
         rt,
         &mut ||
             requires { All HasNotLooked watches.now }
-            ensures { HaveWatched 16 watches.entry.now watches.exit.now }
+            ensures { HaveWatched LOOKS watches.entry.now watches.exit.now }
         { watch_all(rt, ground.gate, watches) },
         &mut ||
             requires { AreClientsOf N.plans N.words N.result_words N.queues clients.now }
@@ -172,7 +174,7 @@ fn finish<N: Naming, H: Hook, R: Wait, G: Gate>(
     crew: Crew,
 ) -> Result<ThreadedRun, Memory>
     requires clients { AreClientsOf N.plans N.words N.result_words N.queues crew.clients.items }
-    requires watches { All (HasWatched N.view 16) crew.watches.items }
+    requires watches { All (HasWatched N.view LOOKS) crew.watches.items }
     ensures { IfOk result (IsThreadedRun N.plans N.base (length crew.watches.items)) }
 {
     let words = ground.words;
@@ -257,7 +259,7 @@ pub fn run_threads<H: Hook + Send, G: Gate + Sync, R: Threads + Wait + Sync>(
 ) -> Result<ThreadedRun, Memory>
     requires some_workers { 1 ≤ team.workers }
     requires few_workers { team.workers ≤ 8 }
-    requires few_viewers { team.viewers ≤ 4 }
+    requires few_viewers { team.viewers ≤ MOST_VIEWERS }
     ensures { IfOk result (IsThreadedRun plans (H.base hook) team.viewers) }
 {
     let signals = Signals::make(alloc, plans.count(), team.workers)?;

@@ -11,7 +11,7 @@ use gpu_hall::{Hall, NamedSide, Shown};
 use gpu_house::{Naming, Report};
 use gpu_io::Gate;
 use gpu_word::Memory;
-use live_view::{Look, Told, ViewWriter, Viewer};
+use live_view::{LOOKS, Look, MOST_VIEWERS, Told, ViewWriter, Viewer};
 use std::alloc::Global;
 use std::sync::Wait;
 use std::thread;
@@ -29,7 +29,7 @@ pub(crate) struct Views {
 
 // These viewers, numbered, each with room for what it will see.
 fn watches_of(alloc: Global, viewers: Vec<Viewer>) -> Result<Vec<Watch>, Memory>
-    requires few { length viewers.items ≤ 4 }
+    requires few { length viewers.items ≤ MOST_VIEWERS }
     requires new { All (λ viewer. viewer.looks ≡ []) viewers.items }
     ensures { IfOk result (λ watches. watches.items ≡ viewers.items) }
 {
@@ -48,7 +48,7 @@ impl Views {
     ///
     /// `Memory`: for the view, or for what the viewers will see.
     pub(crate) fn make<R: Wait>(rt: &R, alloc: Global, count: u32) -> Result<Views, Memory>
-        requires { count ≤ 4 }
+        requires { count ≤ MOST_VIEWERS }
         ensures { IfOk result (AreFreshViews count) }
     {
         if count == 0 {
@@ -86,7 +86,7 @@ pub(crate) fn watch_all<G: Gate + Sync, R: Threads + Wait + Sync>(
     watches: &mut [Watch],
 )
     requires { All HasNotLooked watches.old }
-    ensures { HaveWatched 16 watches.old watches.new }
+    ensures { HaveWatched LOOKS watches.old watches.new }
 {
     let threads = watches.len().max(1);
     thread::for_each_mut(
@@ -95,7 +95,7 @@ pub(crate) fn watch_all<G: Gate + Sync, R: Threads + Wait + Sync>(
         threads,
         &|_, watch: &mut Watch|
             requires { HasNotLooked watch.now }
-            ensures { HasWatched watch.entry.now.view 16 watch.exit.now }
+            ensures { HasWatched watch.entry.now.view LOOKS watch.exit.now }
         { watch.watch(rt, gate) },
     );
 }
@@ -144,7 +144,7 @@ fn confirm<R: Wait>(rt: &R, shown: &mut Shown, watch: &mut Watch)
 // The last look of a viewer, and then all that it saw.
 fn look_last<R: Wait>(rt: &R, shown: &mut Shown, watch: Watch) -> Vec<Look>
     requires view { IfSome shown.old.view (λ told. told.view ≡ watch.view) }
-    requires watched { length watch.looks ≡ 16 }
+    requires watched { length watch.looks ≡ LOOKS }
     ensures looks { AreViewerLooks shown.old.plans shown.old.past result.items }
     ensures same { shown.new ≡ shown.old }
 {
@@ -166,7 +166,7 @@ pub(crate) fn show_all<N: Naming, P: NamedSide, H: Hook, R: Wait>(
     hall: Hall<N, P, H>,
     watches: Vec<Watch>,
 ) -> Result<(Report, Vec<Vec<Look>>), Memory>
-    requires { All (HasWatched N.view 16) watches.items }
+    requires { All (HasWatched N.view LOOKS) watches.items }
     ensures plans { IfOk result (λ ended. ended.0.plans ≡ N.plans) }
     ensures base { IfOk result (λ ended. ended.0.base ≡ N.base) }
     ensures past { IfOk result (λ ended. ended.0.past ≡ hall.past) }

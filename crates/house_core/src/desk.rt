@@ -2,6 +2,7 @@ ghost use Rattle.std.specs.Prelude.{◌≡◌, ◌↔◌, ◌==◌, ◌&&◌, �
 ghost use Rattle.gpu_books.specs.Seen.{blank_half};
 ghost use Rattle.gpu_plan.specs.declared.plan.Action.TheVariants.{Close};
 ghost use Rattle.gpu_plan.specs.Passes.{bound};
+ghost use Rattle.gpu_plan.specs.declared.acting.TheConstants.{MOST_ACTIONS};
 ghost use Rattle.house_core.specs.Walks.{HasWalked};
 ghost use Rattle.house_core.specs.Desks.{DeskData, at_home, fresh_desk, book_numbers, kept_half};
 
@@ -184,7 +185,7 @@ impl Desk {
     /// Whether the client comes to its Close, by the finishes and the greatest token. The walk over its actions goes on from where
     /// it stood.
     pub(crate) fn comes_to_close(&mut self, actions: &[Action]) -> bool
-        requires few { length actions.now ≤ 1000000 }
+        requires few { length actions.now ≤ MOST_ACTIONS }
         requires walked { HasWalked actions.now self.old.finished self.old.greatest self.old.walk }
         ensures desk { self.new ≡ record self.old { walk = self.new.walk } }
         ensures walked { HasWalked actions.now self.old.finished self.old.greatest self.new.walk }

@@ -2,6 +2,7 @@
 ghost use Rattle.std.specs.Prelude.{◌≡◌, ◌↔◌, ◌≤◌, [], ◌∷◌, length, slice_get, Some, IsTrue};
 ghost use Rattle.gpu_plan.specs.declared.plan.Action.TheVariants.{Close};
 ghost use Rattle.gpu_plan.specs.Passes.{bound, flush_count};
+ghost use Rattle.gpu_plan.specs.declared.acting.TheConstants.{MOST_ACTIONS};
 ghost use Rattle.house_core.specs.Walks.{start, HasWalked};
 
 use gpu_plan::Action;
@@ -48,7 +49,7 @@ impl Walk {
         finished: u32,
         greatest: u32,
     ) -> bool
-        requires few { length actions.now ≤ 1000000 }
+        requires few { length actions.now ≤ MOST_ACTIONS }
         requires walked { HasWalked actions.now finished greatest self.old }
         ensures walked { HasWalked actions.now finished greatest self.new }
         ensures close { IsTrue result

@@ -7,6 +7,7 @@ use Rattle.std.proofs.lemmas.List.Elements.{All-get_or}
 use Rattle.journal_text.specs.Digits.{numeral, hex8}
 use Rattle.journal_text.specs.Text.{word_text}
 use Rattle.journal_text.proofs.Numerals.{numeral_decimal}
+use Rattle.journal_text.specs.declared.sheet.TheConstants.{MOST_EVENT_WORDS}
 
 within : (most n : ℕ) → 0 < most → n < 10 ^ most → n < 2 ^ 64 → length (numeral n) ≤ most
 within most n some low small = rw (numeral_decimal n small) (length-decimal-le most n some low small)
@@ -40,9 +41,9 @@ length-words most (word ∷ words) short =
     let rest : length (flat_map word_text words) ≤ (most + 10) * length words = length-words most words (λ k lt. short (suc k) (omega arith)) in
     omega (arith, length-append (word_text word) (flat_map word_text words), length-word word.0 word.1)
 
--- words at places below 69,632
-pub length-near : (words : List (ℕ × ℕ)) → All (λ word. word.0 < 69632) words → length (flat_map word_text words) ≤ 15 * length words
+-- words at places of a stream
+pub length-near : (words : List (ℕ × ℕ)) → All (λ word. word.0 < MOST_EVENT_WORDS) words → length (flat_map word_text words) ≤ 15 * length words
 length-near words near =
     length-words 5 words (λ k lt.
-    let at : (get_or words k (0, 0)).0 < 69632 = All-get_or (λ (word : ℕ × ℕ). word.0 < 69632) words k (0, 0) lt near in
+    let at : (get_or words k (0, 0)).0 < MOST_EVENT_WORDS = All-get_or (λ (word : ℕ × ℕ). word.0 < MOST_EVENT_WORDS) words k (0, 0) lt near in
     within 5 (get_or words k (0, 0)).0 (omega arith) (omega arith) (omega arith))

@@ -29,6 +29,6 @@ pub use laws::{
     the_output_tells_the_history,
 };
 pub use line::Line;
-pub use sheet::Sheet;
+pub use sheet::{MOST_EVENT_WORDS, MOST_LINE, Sheet};
 pub use tally::Tally;
 pub use text::{journal_text, mark_text, picture_text, stream_text, tally_text};

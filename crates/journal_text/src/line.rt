@@ -6,7 +6,7 @@ ghost use Rattle.journal_text.specs.Text.{event_words, event_text, tally_of, str
 ghost use Rattle.journal_text.specs.Picture.{head_text, row_text};
 ghost use Rattle.journal_text.specs.Lines.{journal_head, name_text, mark_text, dump_text, view_text};
 
-use crate::sheet::Sheet;
+use crate::sheet::{MOST_EVENT_WORDS, Sheet};
 use gpu_cmd::Name;
 use gpu_journal::{End, Event};
 use gpu_store::Images;
@@ -33,7 +33,7 @@ impl Model for Line {
 }
 
 impl Line {
-    /// No line yet, and room for 1,048,576 bytes.
+    /// No line yet, and room for one.
     pub fn make(alloc: Global) -> Result<Line, Memory>
         ensures { IfOk result (λ line. line ≡ []) }
     {
@@ -58,10 +58,10 @@ impl Line {
         self.sheet.put_name(stream, name);
     }
 
-    /// The line of an event, which has at most 69,632 words, each at a place below 69,632.
+    /// The line of an event, which has at most `MOST_EVENT_WORDS` words, each at a place below that.
     pub fn put_event(&mut self, event: &Event<'_>)
-        requires few { length (event_words event.now) ≤ 69632 }
-        requires near { All (λ word. word.0 < 69632) (event_words event.now) }
+        requires few { length (event_words event.now) ≤ MOST_EVENT_WORDS }
+        requires near { All (λ word. word.0 < MOST_EVENT_WORDS) (event_words event.now) }
         ensures { self.new ≡ event_text event.now }
     {
         self.sheet.clear();

@@ -12,7 +12,7 @@ use crate::picture_line::{put_head, put_row};
 use crate::put::put;
 use crate::stream_line::put_stream;
 use crate::tally::Tally;
-use gpu_cmd::Name;
+use gpu_cmd::{MOST_RING, MOST_WORDS, Name};
 use gpu_journal::{End, Event};
 use gpu_store::Images;
 use gpu_word::Memory;
@@ -21,8 +21,11 @@ use std::marker::Model;
 use stream_state::StreamState;
 use sync_core::Ending;
 
-/// The bytes that a line has room for. The longest is that of an event with 69,632 words, each of them at most 15 bytes.
-const ROOM: usize = 1_048_576;
+/// The most words that an event has: those of the longest ring and of all memories. Each stands at a place below it.
+pub const MOST_EVENT_WORDS: u64 = MOST_RING as u64 + MOST_WORDS;
+
+/// The bytes that a line has room for. The longest is that of an event with all its words, each of them at most 15 bytes.
+pub const MOST_LINE: usize = 1_048_576;
 
 /// Lines of the output with their line feeds, one after the other, seen as their bytes and as a limit.
 ///
@@ -37,20 +40,21 @@ pub struct Sheet {
 impl Model for Sheet {
     ghost use Rattle.std.specs.Prelude.{◌+◌, ◌≤◌, vec_capacity};
     ghost use Rattle.journal_text.specs.Sheet.{SheetData};
+    ghost use Rattle.journal_text.specs.declared.sheet.TheConstants.{MOST_LINE};
 
     ghost Value = { SheetData };
 
     ghost view = { λ sheet. record { bytes = sheet.bytes.items; limit = sheet.limit } };
 
-    ghost invariant = { λ sheet. sheet.limit + 1048576 ≤ vec_capacity sheet.bytes };
+    ghost invariant = { λ sheet. sheet.limit + MOST_LINE ≤ vec_capacity sheet.bytes };
 }
 
 impl Sheet {
-    /// No line yet, and room for 1,048,576 bytes after as many as the limit.
+    /// No line yet, and room for one after as many bytes as the limit.
     pub fn make(alloc: Global, limit: usize) -> Result<Sheet, Memory>
         ensures { IfOk result (λ sheet. sheet ≡ record { bytes = []; limit = limit }) }
     {
-        let room = limit.checked_add(ROOM).ok_or(Memory)?;
+        let room = limit.checked_add(MOST_LINE).ok_or(Memory)?;
         let bytes = Vec::with_capacity(alloc, room)?;
         Ok(Sheet { bytes, limit })
     }
@@ -63,9 +67,9 @@ impl Sheet {
         self.bytes.clear();
     }
 
-    /// Puts a text, with which there are at most 1,048,576 bytes more than the limit.
+    /// Puts a text, with which there are at most `MOST_LINE` bytes more than the limit.
     pub fn put_text(&mut self, text: &[u8])
-        requires { length self.old.bytes + length text.now ≤ self.old.limit + 1048576 }
+        requires { length self.old.bytes + length text.now ≤ self.old.limit + MOST_LINE }
         ensures bytes { self.new.bytes ≡ self.old.bytes ++ text.now }
         ensures limit { self.new.limit ≡ self.old.limit }
     {
@@ -90,11 +94,11 @@ impl Sheet {
         put_name(&mut self.bytes, stream, name);
     }
 
-    /// Puts the line of an event, which has at most 69,632 words, each at a place below 69,632.
+    /// Puts the line of an event, which has at most `MOST_EVENT_WORDS` words, each at a place below that.
     pub fn put_event(&mut self, event: &Event<'_>)
         requires room { length self.old.bytes ≤ self.old.limit }
-        requires few { length (event_words event.now) ≤ 69632 }
-        requires near { All (λ word. word.0 < 69632) (event_words event.now) }
+        requires few { length (event_words event.now) ≤ MOST_EVENT_WORDS }
+        requires near { All (λ word. word.0 < MOST_EVENT_WORDS) (event_words event.now) }
         ensures bytes { self.new.bytes ≡ self.old.bytes ++ event_text event.now }
         ensures limit { self.new.limit ≡ self.old.limit }
     {

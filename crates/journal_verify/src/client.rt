@@ -5,6 +5,7 @@ ghost use Rattle.gpu_plan.specs.declared.plan.Action.{Action};
 ghost use Rattle.gpu_plan.specs.Plans.{IsWithin};
 ghost use Rattle.gpu_plan.specs.Passes.{bound};
 ghost use Rattle.gpu_plan.specs.MayHold.{MayHold};
+ghost use Rattle.gpu_plan.specs.declared.acting.TheConstants.{MOST_ACTIONS};
 ghost use Rattle.journal_verify.specs.Client.{may_have, IsClientOfActions};
 
 use crate::held::Held;
@@ -53,7 +54,7 @@ impl Client {
     /// It can have done all before the first action that does not pass at this number of finished flushes and this
     /// greatest token.
     pub fn go_on(&mut self, actions: &[Action], finished: u32, token: u32) -> Result<(), Memory>
-        requires few { length actions.now ≤ 1000000 }
+        requires few { length actions.now ≤ MOST_ACTIONS }
         requires below { self.old.reached.upto ≤ bound actions.now finished (token ∷ []) }
         requires client { IsClientOfActions actions.now self.old }
         ensures most { OnOk result
@@ -68,7 +69,7 @@ impl Client {
 
     /// It has done all actions before a position at least.
     pub fn has_done(&mut self, actions: &[Action], to: u32)
-        requires few { length actions.now ≤ 1000000 }
+        requires few { length actions.now ≤ MOST_ACTIONS }
         requires further { self.old.held.done ≤ to }
         requires there { to ≤ length actions.now }
         requires client { IsClientOfActions actions.now self.old }

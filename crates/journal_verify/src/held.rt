@@ -2,6 +2,7 @@ ghost use Rattle.std.specs.Prelude.{◌≡◌, ◌+◌, ◌≤◌, ◌<◌, List
 ghost use Rattle.std.specs.List.{All};
 ghost use Rattle.gpu_plan.specs.declared.plan.Action.{Action};
 ghost use Rattle.gpu_plan.specs.Plans.{IsWithin};
+ghost use Rattle.gpu_plan.specs.declared.acting.TheConstants.{MOST_ACTIONS};
 ghost use Rattle.journal_verify.specs.Held.{stored, IsHeld};
 
 use gpu_plan::Action;
@@ -43,7 +44,7 @@ impl Held {
 
     // Does one more action.
     fn do_next(&mut self, action: &Action)
-        requires few { self.old.done < 1000000 }
+        requires few { self.old.done < MOST_ACTIONS }
         requires within { IsWithin (length self.old.values) action.now }
         ensures done { self.new.done ≡ self.old.done + 1 }
         ensures values { self.new.values ≡ stored action.now self.old.values }
@@ -61,7 +62,7 @@ impl Held {
 
     /// Does the actions before a position.
     pub(crate) fn advance(&mut self, actions: &[Action], to: u32)
-        requires few { length actions.now ≤ 1000000 }
+        requires few { length actions.now ≤ MOST_ACTIONS }
         requires further { self.old.done ≤ to }
         requires there { to ≤ length actions.now }
         requires within { All (IsWithin (length self.old.values)) actions.now }

@@ -3,6 +3,7 @@ ghost use Rattle.std.specs.List.{All};
 ghost use Rattle.gpu_plan.specs.declared.plan.Action.{Action};
 ghost use Rattle.gpu_plan.specs.Plans.{IsWithin};
 ghost use Rattle.gpu_plan.specs.Passes.{bound};
+ghost use Rattle.gpu_plan.specs.declared.acting.TheConstants.{MOST_ACTIONS};
 ghost use Rattle.journal_verify.specs.Reached.{has_since, is_last_since, is_since, last_of, IsPutKept, IsTakenUp, IsReached};
 
 use gpu_plan::Action;
@@ -89,7 +90,7 @@ impl Reach {
 
     // Takes up a put.
     fn take_up_put(&mut self, done: u32, place: u32, value: u32) -> Result<(), AllocError>
-        requires few { self.old.upto < 1000000 }
+        requires few { self.old.upto < MOST_ACTIONS }
         requires there { place < length self.old.ends }
         requires valued { place < length self.old.values }
         ensures { OnOk result (IsTakenUp done (Action.Put place value) self.old self.new) }
@@ -103,7 +104,7 @@ impl Reach {
 
     // Takes up one more action.
     fn take_up(&mut self, done: u32, action: &Action) -> Result<(), AllocError>
-        requires few { self.old.upto < 1000000 }
+        requires few { self.old.upto < MOST_ACTIONS }
         requires fewer { self.old.behind ≤ self.old.upto }
         requires there { IsWithin (length self.old.ends) action.now }
         requires valued { IsWithin (length self.old.values) action.now }
@@ -132,7 +133,7 @@ impl Reach {
         finished: u32,
         token: u32,
     ) -> Result<(), AllocError>
-        requires few { length actions.now ≤ 1000000 }
+        requires few { length actions.now ≤ MOST_ACTIONS }
         requires below { self.old.upto ≤ bound actions.now finished (token ∷ []) }
         requires reached { IsReached actions.now done self.old }
         ensures upto { OnOk result (self.new.upto ≡ bound actions.now finished (token ∷ [])) }

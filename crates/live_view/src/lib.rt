@@ -47,8 +47,8 @@ mod version;
 mod viewer;
 mod writer;
 
-pub use look::Look;
-pub use making::make;
+pub use look::{ALL_LOOKS, LOOKS, Look};
+pub use making::{MOST_VIEWERS, make};
 pub use viewer::{Told, Viewer};
 pub use writer::ViewWriter;
 

@@ -1,3 +1,9 @@
+/// How often a viewer looks while a run goes on.
+pub const LOOKS: u32 = 16;
+
+/// How often it looks in all: once more when the run is over.
+pub const ALL_LOOKS: usize = 17;
+
 /// What a viewer saw of one version.
 #[derive(Clone, Copy, Debug, PartialEq, Eq)]
 pub struct Look {

@@ -18,6 +18,9 @@ use std::alloc::Global;
 use std::sync::Wait;
 use std::thread;
 
+/// The most viewers of a view.
+pub const MOST_VIEWERS: u32 = 4;
+
 // The first version, as one of the two copies has it.
 fn first(alloc: Global, front: &Front) -> Shown
     ensures { result ≡ record { version = blank; front = front.now } }
@@ -110,7 +113,7 @@ pub fn make<R: Wait>(
     alloc: Global,
     viewers: u32,
 ) -> Result<(ViewWriter, Vec<Viewer>), Memory>
-    requires { (1 ≤ viewers) × (viewers ≤ 4) }
+    requires { (1 ≤ viewers) × (viewers ≤ MOST_VIEWERS) }
     ensures writer { IfOk result (λ made. made.0 ≡ fresh_writer made.0.view made.0.spare) }
     ensures viewers { IfOk result
         (λ made. made.1.items ≡ replicate viewers (fresh_viewer made.0.view)) }

@@ -9,6 +9,7 @@ use Rattle.gpu_journal.specs.declared.event.Event.{Event}
 use Rattle.journal_text.specs.Text.{event_words, tally_of, stream_text}
 use Rattle.journal_text.specs.Picture.{head_text, row_text}
 use Rattle.journal_text.specs.Lines.{journal_head, name_text, mark_text, dump_text, view_text}
+use Rattle.journal_text.specs.declared.sheet.TheConstants.{MOST_EVENT_WORDS}
 use Rattle.live_view.specs.declared.look.Look.{Look}
 use Rattle.gpu_journal.specs.World.{state_of}
 use Rattle.gpu_journal.specs.Waits.{endings_in}
@@ -16,8 +17,8 @@ use Rattle.gpu_journal.specs.Ended.{streams_of, end_of}
 
 -- the words of an event are so few, and at places so low, that its line has room
 pub record LineHasRoom (e : Event) : Type 0 where
-  pub few : length (event_words e) ≤ 69632
-  pub near : All (λ word. word.0 < 69632) (event_words e)
+  pub few : length (event_words e) ≤ MOST_EVENT_WORDS
+  pub near : All (λ word. word.0 < MOST_EVENT_WORDS) (event_words e)
 
 -- the head line of version 2, and the line of each stream's name
 abbrev pub heads : PlansData → List (List ℕ)

@@ -4,6 +4,7 @@ use Rattle.std.specs.List.{All, concat}
 use Rattle.std.specs.declared.alloc.Global.{Global}
 use Rattle.wait_hooks.specs.Marks.{mark}
 use Rattle.live_view.specs.declared.look.Look.{Look}
+use Rattle.live_view.specs.declared.making.TheConstants.{MOST_VIEWERS}
 use Rattle.gpu_journal.specs.declared.end.End.{End}
 use Rattle.gpu_journal.specs.World.{replay}
 use Rattle.gpu_journal.specs.Ended.{streams_of, end_of}
@@ -14,6 +15,7 @@ use Rattle.gpu_house.specs.House.{ReportData}
 use Rattle.run_output.specs.declared.output.Section.{Section}
 use Rattle.run_output.specs.declared.output.Section.TheVariants.{Names, Journal, Images, Streams, Marks, Dumps, Looks}
 use Rattle.run_output.specs.Parts.{LineHasRoom, dump_texts, view_texts}
+use Rattle.gpu_plan.specs.declared.adding.TheConstants.{MOST_STREAMS}
 
 -- a run, with the dumps that the client of each stream has read: action place, result place and value; and with the looks of each
 -- viewer
@@ -44,6 +46,6 @@ run_text run = output run.report.plans (mark run.report.base) run.report.past ++
 -- ended is known
 pub record CanBeWritten (run : OutputData) (ends : List End) : Type 0 where
   pub room : All LineHasRoom (reverse run.report.past)
-  pub few : length run.dumps ≤ 16
-  pub few_viewers : length run.looks ≤ 4
+  pub few : length run.dumps ≤ MOST_STREAMS
+  pub few_viewers : length run.looks ≤ MOST_VIEWERS
   pub ended : ends ≡ map (end_of run.report.past) (streams_of run.report.plans)

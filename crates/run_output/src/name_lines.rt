@@ -1,5 +1,6 @@
 ghost use Rattle.std.specs.Prelude.{◌≡◌, ◌≤◌, length};
 ghost use Rattle.run_output.specs.Parts.{heads};
+ghost use Rattle.gpu_plan.specs.declared.adding.TheConstants.{MOST_STREAMS};
 
 use crate::lines::Lines;
 use gpu_plan::Plans;
@@ -11,7 +12,7 @@ pub(crate) struct NameLines<'a> {
     plans: &'a Plans,
     count: u32,
     ghost counted: { count ≡ length plans.now.plans },
-    ghost few: { count ≤ 16 },
+    ghost few: { count ≤ MOST_STREAMS },
 }
 
 impl<'a> NameLines<'a> {

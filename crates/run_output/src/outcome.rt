@@ -2,12 +2,13 @@ ghost use Rattle.std.specs.Prelude.{◌≡◌, ◌≤◌, length, map, reverse, 
 ghost use Rattle.std.specs.List.{All};
 ghost use Rattle.gpu_journal.specs.Ended.{streams_of, end_of};
 ghost use Rattle.run_output.specs.Parts.{LineHasRoom};
+ghost use Rattle.gpu_plan.specs.declared.adding.TheConstants.{MOST_STREAMS};
 
 use gpu_house::Report;
 use gpu_journal::End;
 use gpu_word::Memory;
 use journal_verify::ends_of;
-use live_view::Look;
+use live_view::{Look, MOST_VIEWERS};
 use result_words::Dumps;
 use serial_laws::plans_are_lawful;
 use std::alloc::Global;
@@ -25,7 +26,7 @@ fn ends_in(alloc: Global, report: &Report) -> Result<Vec<End>, Memory>
 #[tactic(auto, using(crate::proofs::Rooms::legal_room))]
 fn lines_have_room(report: &Report)
     ensures room { All LineHasRoom (reverse report.now.past) }
-    ensures few { length report.now.plans.plans ≤ 16 }
+    ensures few { length report.now.plans.plans ≤ MOST_STREAMS }
 {
     plans_are_lawful(report.plans());
     report.shows_legal();
@@ -66,7 +67,7 @@ impl Outcome {
         looks: Vec<Vec<Look>>,
     ) -> Result<Outcome, Memory>
         requires dumps { length dumps.items ≡ length report.plans.plans }
-        requires looks { length looks.items ≤ 4 }
+        requires looks { length looks.items ≤ MOST_VIEWERS }
         ensures { IfOk result (λ run. run
             ≡ record { report = report; dumps = dumps.items; looks = looks.items }) }
     {
@@ -91,7 +92,7 @@ impl Outcome {
     /// The dumps of each stream.
     pub(crate) fn dumps(&self) -> &[Dumps]
         ensures dumps { result.now ≡ self.now.dumps }
-        ensures few { length result.now ≤ 16 }
+        ensures few { length result.now ≤ MOST_STREAMS }
     {
         &self.dumps
     }
@@ -99,7 +100,7 @@ impl Outcome {
     /// The looks of each viewer.
     pub(crate) fn looks(&self) -> &[Vec<Look>]
         ensures looks { result.now ≡ self.now.looks }
-        ensures few { length result.now ≤ 4 }
+        ensures few { length result.now ≤ MOST_VIEWERS }
     {
         &self.looks
     }

@@ -5,6 +5,7 @@ ghost use Rattle.journal_text.specs.Output.{head_lines};
 ghost use Rattle.run_output.specs.Pieces.{Adds, Puts};
 ghost use Rattle.run_output.specs.Parts.{dump_texts, view_texts};
 ghost use Rattle.run_output.specs.Runs.{run_text, section_text};
+ghost use Rattle.gpu_plan.specs.declared.adding.TheConstants.{MOST_STREAMS};
 
 use crate::dump_lines::DumpLines;
 use crate::event_lines::EventLines;
@@ -18,7 +19,7 @@ use crate::stream_lines::StreamLines;
 use gpu_io::{Failed, Sink};
 use gpu_plan::Plans;
 use gpu_store::Images;
-use live_view::Look;
+use live_view::{Look, MOST_VIEWERS};
 use result_words::Dumps;
 
 /// The sections of the output of a run.
@@ -80,7 +81,7 @@ pub(crate) fn put_images<K: Sink>(
 
 // Puts the lines of the dumps that the client of each stream has read.
 fn put_dumps<K: Sink>(page: &mut Page, sink: &mut K, dumps: &[Dumps]) -> Result<(), Failed>
-    requires { length dumps.now ≤ 16 }
+    requires { length dumps.now ≤ MOST_STREAMS }
     ensures { Puts K.written K.faults sink.old page.old.gathered sink.new page.new.gathered result
         (concat (dump_texts 1 dumps.now)) }
 {
@@ -96,7 +97,7 @@ fn put_dumps<K: Sink>(page: &mut Page, sink: &mut K, dumps: &[Dumps]) -> Result<
 
 // Puts the lines of what each viewer saw.
 fn put_looks<K: Sink>(page: &mut Page, sink: &mut K, looks: &[Vec<Look>]) -> Result<(), Failed>
-    requires { length looks.now ≤ 4 }
+    requires { length looks.now ≤ MOST_VIEWERS }
     ensures { Puts K.written K.faults sink.old page.old.gathered sink.new page.new.gathered result
         (concat (view_texts 1 looks.now)) }
 {

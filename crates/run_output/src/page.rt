@@ -7,15 +7,12 @@ use crate::lines::Lines;
 use crate::writing::write_all;
 use gpu_io::{Failed, Sink};
 use gpu_word::Memory;
-use journal_text::Sheet;
+use journal_text::{MOST_LINE, Sheet};
 use std::alloc::Global;
 use std::marker::Model;
 
 /// How many bytes are gathered before they are given to the sink.
 const PIECE_BYTES: usize = 65_536;
-
-/// For how many bytes of the line that fills a page there is room.
-const MOST_LINE: usize = 1_048_576;
 
 // Gives all that is gathered to the sink. Nothing of it is kept, since after a fault a front of it stands there.
 fn give<K: Sink>(sheet: &mut Sheet, sink: &mut K) -> Result<(), Failed>

@@ -8,7 +8,7 @@ use crate::page::Page;
 use gpu_house::Report;
 use gpu_io::{Failed, Sink};
 use gpu_word::Memory;
-use live_view::Look;
+use live_view::{Look, MOST_VIEWERS};
 use result_words::Dumps;
 use std::alloc::Global;
 use std::marker::Model;
@@ -43,7 +43,7 @@ impl RunOutput {
         looks: Vec<Vec<Look>>,
     ) -> Result<RunOutput, Memory>
         requires dumps { length dumps.items ≡ length report.plans.plans }
-        requires looks { length looks.items ≤ 4 }
+        requires looks { length looks.items ≤ MOST_VIEWERS }
         ensures report { IfOk result (λ run. run.report ≡ report) }
         ensures dumps { IfOk result (λ run. run.dumps ≡ dumps.items) }
         ensures looks { IfOk result (λ run. run.looks ≡ looks.items) }

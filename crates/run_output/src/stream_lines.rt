@@ -1,6 +1,7 @@
 ghost use Rattle.std.specs.Prelude.{◌≡◌, ◌≤◌, length, map};
 ghost use Rattle.gpu_journal.specs.Ended.{streams_of, end_of};
 ghost use Rattle.run_output.specs.Parts.{lines_of_streams};
+ghost use Rattle.gpu_plan.specs.declared.adding.TheConstants.{MOST_STREAMS};
 
 use crate::lines::Lines;
 use crate::outcome::Outcome;
@@ -15,7 +16,7 @@ pub(crate) struct StreamLines<'a> {
     ends: &'a [End],
     count: u32,
     ghost counted: { count ≡ length report.now.plans.plans },
-    ghost few: { count ≤ 16 },
+    ghost few: { count ≤ MOST_STREAMS },
     ghost ended: { ends.now ≡ map (end_of report.now.past) (streams_of report.now.plans) },
 }
 

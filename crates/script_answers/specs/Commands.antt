@@ -3,10 +3,13 @@ use Rattle.std.specs.Prelude.{ℕ, ◌-◌, ◌≤◌, ◌==◌, Bool, true, fal
 use Rattle.script_lines.specs.Numbers.{decimal_of}
 use Rattle.script_answers.specs.declared.command.Command.{Command}
 use Rattle.script_answers.specs.declared.command.Command.TheVariants.{Run, RunOnThreads, Check, Generate, Trial, Verify, VerifyWhole}
+use Rattle.script_answers.specs.declared.command.TheConstants.{MOST_WORKERS}
+use Rattle.script_generator.specs.declared.script.TheConstants.{MOST_SIZE}
+use Rattle.live_view.specs.declared.making.TheConstants.{MOST_VIEWERS}
 
 -- a size is a number from 1 to 2000
 abbrev pub size_said : Option ℕ → Option ℕ
-size_said (Some number) = if nat_le 1 number && nat_le number 2000 then Some number else None
+size_said (Some number) = if nat_le 1 number && nat_le number MOST_SIZE then Some number else None
 size_said None = None
 
 -- a command with a size and a seed, where both are there
@@ -97,9 +100,9 @@ is_plain _ = true
 -- a size that was read is one that the generator takes, and numbers of workers and viewers are those that a run on threads may have
 abbrev pub IsSized : Command → Type 0
 IsSized Run = Unit {0}
-IsSized (RunOnThreads workers views) = (1 ≤ workers) × (workers ≤ 8) × (views ≤ 4)
+IsSized (RunOnThreads workers views) = (1 ≤ workers) × (workers ≤ MOST_WORKERS) × (views ≤ MOST_VIEWERS)
 IsSized Check = Unit {0}
 IsSized Verify = Unit {0}
 IsSized VerifyWhole = Unit {0}
-IsSized (Generate size seed) = (1 ≤ size) × (size ≤ 2000)
-IsSized (Trial size seed) = (1 ≤ size) × (size ≤ 2000)
+IsSized (Generate size seed) = (1 ≤ size) × (size ≤ MOST_SIZE)
+IsSized (Trial size seed) = (1 ≤ size) × (size ≤ MOST_SIZE)

@@ -1,7 +1,8 @@
 -- What the program does with its source and its sink: the theorem.
 use Rattle.std.specs.Prelude.{◌≡◌, ◌≢◌, ◌⊎◌, ◌↔◌, ℕ, true, false, List, Option, Some, None}
 use Rattle.gpu_io.specs.Faults.{HasRisen}
-use Rattle.gpu_io.specs.Whole.{most_bytes, ReadsAtMost, ReadsMoreThan}
+use Rattle.gpu_io.specs.Whole.{ReadsAtMost, ReadsMoreThan}
+use Rattle.gpu_plan.specs.declared.script.TheConstants.{MOST_BYTES}
 use Rattle.script_answers.specs.declared.command.Command.{Command}
 use Rattle.script_answers.specs.declared.status.Status.{Status}
 use Rattle.script_answers.specs.declared.status.Status.TheVariants as status
@@ -45,11 +46,11 @@ pub record Conducts {S K : Type 0} (edges : Edges S K) (words : Option Command) 
   pub unread : reads words ≡ false → source_then ≡ source
   pub only : (ending ≡ status.TooLong) ⊎ (ending ≡ status.ReadFault) → reads words ≡ true
   pub too_long : ending ≡ status.TooLong
-      → ReadsMoreThan most_bytes (edges.left source) (edges.left source_then)
+      → ReadsMoreThan MOST_BYTES (edges.left source) (edges.left source_then)
   pub read_fault : ending ≡ status.ReadFault
       → HasRisen (edges.read_faults source) (edges.read_faults source_then)
   pub early : ending ≡ status.ReadFault
-      → ReadsAtMost most_bytes (edges.left source) (edges.left source_then)
+      → ReadsAtMost MOST_BYTES (edges.left source) (edges.left source_then)
   pub write_fault : ending ≡ status.WriteFault
       → HasRisen (edges.write_faults sink) (edges.write_faults sink_then)
   pub complete : (command : Command) (input : List ℕ) → words ≡ Some command

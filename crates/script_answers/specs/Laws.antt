@@ -12,6 +12,7 @@ use Rattle.verify_input.specs.declared.finding.Finding.TheVariants.{Yes}
 use Rattle.script_answers.specs.declared.status.Status.{Status}
 use Rattle.script_answers.specs.Runs.{IsViewedRun, IsSerialRun, IsOutput}
 use Rattle.script_answers.specs.Says.{output_in}
+use Rattle.live_view.specs.declared.making.TheConstants.{MOST_VIEWERS}
 
 -- runs on threads that print the same have the same history, whatever scripts they are of, and however many viewers they have
 abbrev pub SameViewedRunIsSameHistory : Type 0
@@ -20,6 +21,6 @@ SameViewedRunIsSameHistory = (p q : PlansData) (viewers others base other : ℕ)
 
 -- what `run` writes of a script on one thread or on threads, `verify --whole` finds to be right after that script
 abbrev pub RunIsJudgedWhole : Type 0
-RunIsJudgedWhole = (p : PlansData) (viewers base : ℕ) (ending : Status) (input written : List ℕ) → script_in input ≡ Ok p → output_in input ≡ Some written → viewers ≤ 4
+RunIsJudgedWhole = (p : PlansData) (viewers base : ℕ) (ending : Status) (input written : List ℕ) → script_in input ≡ Ok p → output_in input ≡ Some written → viewers ≤ MOST_VIEWERS
     → IsOutput (IsViewedRun viewers) p base ending written ⊎ IsOutput IsSerialRun p base ending written
     → (images : Pictures) × (events : ℕ) × FindsWhole base input (Yes images events)

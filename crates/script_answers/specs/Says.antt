@@ -18,6 +18,7 @@ use Rattle.script_answers.specs.declared.status.Status.{Status}
 use Rattle.script_answers.specs.declared.status.Status.TheVariants as status
 use Rattle.script_answers.specs.Counts.{check_text}
 use Rattle.script_answers.specs.Runs.{IsSerialRun, IsViewedRun, IsOutput, IsTrial}
+use Rattle.live_view.specs.declared.making.TheConstants.{MOST_VIEWERS}
 
 -- the command reads its source
 abbrev pub reads : Option Command → Bool
@@ -49,7 +50,7 @@ pub record IsJudgedWhole (base : ℕ) (input text : List ℕ) : Type 0 where
   pub written : List ℕ
   pub there : output_in input ≡ Some written
   pub viewers : ℕ
-  pub few : viewers ≤ 4
+  pub few : viewers ≤ MOST_VIEWERS
   pub ended : Status
   pub ran : IsOutput (IsViewedRun viewers) plans base ended written
   pub told : text ≡ yes_line (length ran.history) ++ picture_text (replay plans ran.history)

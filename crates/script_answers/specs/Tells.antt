@@ -1,7 +1,8 @@
 -- What the program tells of its source, and writes to its sink.
 use Rattle.std.specs.Prelude.{◌≡◌, ℕ, ◌<◌, ◌≤◌, ◌⊎◌, Bool, true, false, List, [], length, Option, Some}
 use Rattle.std.specs.Io.KnownBytes.{Appends}
-use Rattle.gpu_io.specs.Whole.{most_bytes, ReadsAll}
+use Rattle.gpu_io.specs.Whole.{ReadsAll}
+use Rattle.gpu_plan.specs.declared.script.TheConstants.{MOST_BYTES}
 use Rattle.run_output.specs.Pieces.{AppendsFront}
 use Rattle.script_answers.specs.declared.command.Command.{Command}
 use Rattle.script_answers.specs.declared.status.Status.{Status}
@@ -11,7 +12,7 @@ use Rattle.script_answers.specs.Says.{reads, Says}
 
 -- the input of a command: all that its source has left, within the limit, and nothing where it does not read
 abbrev pub Takes : Bool → Option (List ℕ) → Option (List ℕ) → List ℕ → Type 0
-Takes true left left_then input = ReadsAll left left_then input × (length input ≤ most_bytes)
+Takes true left left_then input = ReadsAll left left_then input × (length input ≤ MOST_BYTES)
 Takes false left left_then input = input ≡ []
 
 -- the words are a command, its input was taken from the source, and it says this of it
@@ -48,6 +49,6 @@ held false left = Some []
 -- memory
 abbrev pub IsAnswer : Command → ℕ → List ℕ → Status → Type 0
 IsAnswer command base input ending =
-    ((length input ≤ most_bytes) × (text : List ℕ) × Says command base input ending text)
-    ⊎ ((ending ≡ status.TooLong) × (most_bytes < length input))
+    ((length input ≤ MOST_BYTES) × (text : List ℕ) × Says command base input ending text)
+    ⊎ ((ending ≡ status.TooLong) × (MOST_BYTES < length input))
     ⊎ (ending ≡ status.NoMemory)

@@ -1,6 +1,5 @@
 ghost use Rattle.std.specs.Prelude.{◌≡◌, ◌≤◌, ℕ, Some, true, length, reverse, IfOk};
 ghost use Rattle.run_output.specs.Runs.{run_text};
-ghost use Rattle.gpu_io.specs.Whole.{most_bytes};
 ghost use Rattle.script_answers.specs.declared.command.Command.TheVariants.{Run, Check, Verify, VerifyWhole};
 ghost use Rattle.script_answers.specs.Commands.{is_plain, IsSized};
 ghost use Rattle.script_answers.specs.Runs.{IsSerialRun, IsOutput, IsTrial, run_ending};
@@ -11,12 +10,12 @@ use crate::answer::Answer;
 use crate::command::Command;
 use crate::counts::check_text;
 use crate::status::Status;
-use gpu_plan::{Plans, ScriptFault, parse};
+use gpu_plan::{MOST_BYTES, Plans, ScriptFault, parse};
 use gpu_run::run_one;
 use gpu_word::Memory;
 use itoa::Buffer;
 use run_output::{PictureOutput, RunOutput};
-use script_generator::generate;
+use script_generator::{MOST_SIZE, generate};
 use script_laws::{dumps_may_be_told, generated_plans, trial_text};
 use serial_laws::{plans_are_lawful, serial_history_is_legal_and_complete};
 use std::alloc::Global;
@@ -40,7 +39,7 @@ fn run_plans<H: Hook>(alloc: Global, plans: Plans, hook: H) -> Result<RunOutput,
 
 // What `run` says of an input.
 fn run_answer<H: Hook>(alloc: Global, input: &[u8], hook: H) -> Result<Answer, Memory>
-    requires { length input.now ≤ most_bytes }
+    requires { length input.now ≤ MOST_BYTES }
     ensures { IfOk result (λ answer.
         Says Run (H.base hook) input.now (answer_ending answer) (answer_text answer)) }
 {
@@ -56,7 +55,7 @@ fn run_answer<H: Hook>(alloc: Global, input: &[u8], hook: H) -> Result<Answer, M
 
 // What `check` says of an input.
 fn check_answer(alloc: Global, input: &[u8]) -> Result<Answer, Memory>
-    requires { length input.now ≤ most_bytes }
+    requires { length input.now ≤ MOST_BYTES }
     ensures { IfOk result (λ answer.
         (base : ℕ) → Says Check base input.now (answer_ending answer) (answer_text answer)) }
 {
@@ -73,7 +72,7 @@ fn check_answer(alloc: Global, input: &[u8]) -> Result<Answer, Memory>
 // The line of the trial of a size and a seed, whose script it runs.
 fn trial_line<H: Hook>(alloc: Global, size: u32, seed: u32, hook: H) -> Result<Vec<u8>, Memory>
     requires first { 1 ≤ size }
-    requires last { size ≤ 2000 }
+    requires last { size ≤ MOST_SIZE }
     ensures { IfOk result (λ text. IsTrial size seed text.items) }
 {
     let plans = generated_plans(alloc, size, seed)?;
@@ -108,7 +107,7 @@ fn yes_line(alloc: Global, events: u32) -> Result<Vec<u8>, Memory>
 
 // What `verify` says of an input.
 fn verify_answer(alloc: Global, input: &[u8]) -> Result<Answer, Memory>
-    requires { length input.now ≤ most_bytes }
+    requires { length input.now ≤ MOST_BYTES }
     ensures { IfOk result (λ answer.
         (base : ℕ) → Says Verify base input.now (answer_ending answer) (answer_text answer)) }
 {
@@ -134,7 +133,7 @@ fn answer_of(alloc: Global, finding: Finding) -> Result<Answer, Memory>
 
 // What `verify --whole` says of an input.
 fn whole_answer<H: Hook>(alloc: Global, input: &[u8], hook: H) -> Result<Answer, Memory>
-    requires { length input.now ≤ most_bytes }
+    requires { length input.now ≤ MOST_BYTES }
     ensures { IfOk result (λ answer.
         Says VerifyWhole (H.base hook) input.now (answer_ending answer) (answer_text answer)) }
 {
@@ -153,7 +152,7 @@ pub fn answer_to<H: Hook>(
     hook: H,
 ) -> Result<Answer, Memory>
     requires plain { is_plain (Some command) ≡ true }
-    requires short { length input.now ≤ most_bytes }
+    requires short { length input.now ≤ MOST_BYTES }
     requires sized { IsSized command }
     ensures said { IfOk result (λ answer.
         Says command (H.base hook) input.now (answer_ending answer) (answer_text answer)) }

@@ -4,16 +4,12 @@ ghost use Rattle.script_answers.specs.declared.command.Command.TheVariants.{Gene
 ghost use Rattle.script_answers.specs.Commands.{size_said, with_both, digit_in, workers_in, behind_equals, run_with, views_in, viewed_with, of_one, of_verify, of_two, of_workers, of_three, of_views, of_five, command_of, is_plain, IsSized};
 ghost use Rattle.script_answers.specs.Says.{reads};
 
+use live_view::MOST_VIEWERS;
+use script_generator::MOST_SIZE;
 use script_lines::decimal_u32;
 
-/// The largest size of a generated script.
-const MOST_SIZE: u32 = 2000;
-
 /// The most workers that a run may have.
-const MOST_WORKERS: u32 = 8;
-
-/// The most viewers that a run may have.
-const MOST_VIEWS: u32 = 4;
+pub const MOST_WORKERS: u32 = 8;
 
 /// What the words of the command line ask for.
 #[derive(Clone, Copy, Debug, PartialEq, Eq)]
@@ -182,7 +178,7 @@ fn of_three(name: &str, first: &str, second: &str) -> Option<Command>
 // The number of viewers that a word says, from 1 to 4.
 fn views_in(word: &[u8]) -> Option<u32>
     ensures views { result ≡ views_in word.now }
-    ensures range { IfSome result (λ views. views ≤ MOST_VIEWS) }
+    ensures range { IfSome result (λ views. views ≤ MOST_VIEWERS) }
 {
     digit_in(word, b'1', b'4')
 }

@@ -38,7 +38,7 @@ mod status;
 
 pub use answer::Answer;
 pub use answering::answer_to;
-pub use command::{Command, command_of, is_plain};
+pub use command::{Command, MOST_WORKERS, command_of, is_plain};
 pub use fault::{Fault, fault_of};
 pub use input::take_input;
 pub use laws::{runs_are_judged_whole, viewed_runs_tell_histories};

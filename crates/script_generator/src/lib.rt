@@ -11,4 +11,4 @@ mod digits;
 mod draws;
 mod script;
 
-pub use script::generate;
+pub use script::{MOST_SIZE, generate};

@@ -10,6 +10,9 @@ use gpu_word::Memory;
 use std::alloc::{AllocError, Global};
 use std::mem;
 
+/// The largest size of a generated script.
+pub const MOST_SIZE: u32 = 2000;
+
 /// The most bytes of the lines of a round.
 const ROUND: usize = 224;
 
@@ -144,7 +147,7 @@ fn push_rounds(
     stream: u32,
     state: u32,
 ) -> Result<u32, AllocError>
-    requires { size ≤ 2000 }
+    requires { size ≤ MOST_SIZE }
     ensures text { OnOk result (out.new.items ≡ out.old.items ++ rounds size stream 1 state) }
     ensures state { IfOk result (λ next. next ≡ after_draws (7 * size) state) }
 {
@@ -183,7 +186,7 @@ fn push_stream(
     stream: u32,
     state: u32,
 ) -> Result<u32, AllocError>
-    requires { size ≤ 2000 }
+    requires { size ≤ MOST_SIZE }
     ensures text { OnOk result
         (out.new.items ≡ out.old.items ++ stream_script priority.now size stream state) }
     ensures state { IfOk result (λ next. next ≡ after_draws (7 * size) state) }
@@ -197,7 +200,7 @@ fn push_stream(
 #[tactic(auto, unfolding(crate::specs::Generator::generated))]
 pub fn generate(alloc: Global, size: u32, seed: u32) -> Result<Vec<u8>, Memory>
     requires first { 1 ≤ size }
-    requires last { size ≤ 2000 }
+    requires last { size ≤ MOST_SIZE }
     ensures { IfOk result (λ text. text.items ≡ generated size seed) }
 {
     let mut out = Vec::new(alloc);

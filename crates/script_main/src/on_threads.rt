@@ -1,18 +1,18 @@
 ghost use Rattle.std.specs.Prelude.{◌≤◌, length, reverse, IfOk};
 ghost use Rattle.run_output.specs.Runs.{run_text};
-ghost use Rattle.gpu_io.specs.Whole.{most_bytes};
 ghost use Rattle.script_answers.specs.declared.command.Command.TheVariants.{RunOnThreads};
 ghost use Rattle.script_answers.specs.Commands.{IsSized};
 ghost use Rattle.script_answers.specs.Runs.{IsViewedRun, IsOutput, run_ending};
 ghost use Rattle.script_answers.specs.Says.{Says};
 ghost use Rattle.script_answers.specs.Answers.{answer_ending, answer_text};
+ghost use Rattle.live_view.specs.declared.making.TheConstants.{MOST_VIEWERS};
 
 use gpu_io::Gate;
-use gpu_plan::{Plans, ScriptFault, parse};
+use gpu_plan::{MOST_BYTES, Plans, ScriptFault, parse};
 use gpu_threads::{Team, run_threads};
 use gpu_word::Memory;
 use run_output::RunOutput;
-use script_answers::{Answer, Command, Status, answer_to};
+use script_answers::{Answer, Command, MOST_WORKERS, Status, answer_to};
 use std::alloc::Global;
 use std::sync::Wait;
 use std::thread::Threads;
@@ -29,8 +29,8 @@ fn run_plans<H: Hook + Send, G: Gate + Sync, R: Threads + Wait + Sync>(
     hook: H,
 ) -> Result<RunOutput, Memory>
     requires some_workers { 1 ≤ team.workers }
-    requires few_workers { team.workers ≤ 8 }
-    requires few_viewers { team.viewers ≤ 4 }
+    requires few_workers { team.workers ≤ MOST_WORKERS }
+    requires few_viewers { team.viewers ≤ MOST_VIEWERS }
     ensures { IfOk result (λ run.
         IsOutput (IsViewedRun team.viewers) plans (H.base hook) (run_ending (reverse run.report.past))
         (run_text run)) }
@@ -48,10 +48,10 @@ fn run_answer<H: Hook + Send, G: Gate + Sync, R: Threads + Wait + Sync>(
     gate: &G,
     hook: H,
 ) -> Result<Answer, Memory>
-    requires short { length input.now ≤ most_bytes }
+    requires short { length input.now ≤ MOST_BYTES }
     requires some_workers { 1 ≤ team.workers }
-    requires few_workers { team.workers ≤ 8 }
-    requires few_viewers { team.viewers ≤ 4 }
+    requires few_workers { team.workers ≤ MOST_WORKERS }
+    requires few_viewers { team.viewers ≤ MOST_VIEWERS }
     ensures { IfOk result (λ answer.
         Says (RunOnThreads team.workers team.viewers) (H.base hook) input.now (answer_ending answer)
         (answer_text answer)) }
@@ -75,7 +75,7 @@ pub(crate) fn answer_on<H: Hook + Send, G: Gate + Sync, R: Threads + Wait + Sync
     gate: &G,
     hook: H,
 ) -> Result<Answer, Memory>
-    requires short { length input.now ≤ most_bytes }
+    requires short { length input.now ≤ MOST_BYTES }
     requires sized { IsSized command }
     ensures said { IfOk result (λ answer.
         Says command (H.base hook) input.now (answer_ending answer) (answer_text answer)) }

@@ -3,6 +3,7 @@ use Rattle.std.specs.Prelude.{◌≡◌, ◌+◌, ◌≤◌, ℕ, Bool, true, fa
 use Rattle.gpu_plan.specs.Plans.{PlansData, plan_of}
 use Rattle.gpu_plan.specs.Passes.{flushes}
 use Rattle.gpu_plan.specs.Places.{flush_places}
+use Rattle.gpu_plan.specs.declared.acting.TheConstants.{MOST_FLUSHES}
 use Rattle.sync_core.specs.Standing.{IsKnown, is_open}
 use Rattle.sync_core.specs.Core.{Core}
 use Rattle.seq_sched.specs.declared.seat.Seat.{Seat}
@@ -42,7 +43,7 @@ NeedsOfOne = (p : PlansData) (e : Event) (h : List Event) (n : ℕ) → IsKnown 
 
 -- a legal history draws few numbers, so 32 bits hold each
 abbrev pub DrawnFew : Type 0
-DrawnFew = (p : PlansData) (h : List Event) → AreLawfulPlans p → IsLegal p h → drawn p h ≤ 100000
+DrawnFew = (p : PlansData) (h : List Event) → AreLawfulPlans p → IsLegal p h → drawn p h ≤ MOST_FLUSHES
 
 -- ---- streams that have ended
 

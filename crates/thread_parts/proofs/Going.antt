@@ -20,6 +20,7 @@ use Rattle.flush_queue.specs.Clients.{HasPostedAll}
 use Rattle.flush_queue.proofs.Posting as posting
 use Rattle.result_words.specs.Seen.{ReaderData}
 use Rattle.gpu_plan.specs.Passes.{flushes}
+use Rattle.gpu_plan.specs.declared.acting.TheConstants.{MOST_ACTIONS}
 use Rattle.thread_parts.specs.Clients.{IsHeldNote, ArePosted, dump_of, dumps_to, due_in, read_for, ThreadClientData, HasReadDumps, HasAtHand, IsThreadClient}
 use Rattle.thread_parts.proofs.Planned.{none_before, next_dumps, due_is}
 use Rattle.thread_parts.proofs.Planned as dues
@@ -244,7 +245,7 @@ module _ (c : ThreadClientData) (planned : List (ℕ × ℕ)) (position flushed 
 -- ---- a client that has done nothing
 
 pub made : (stream : ℕ) (plan : PlanData) (pass : seen.ClientData) (poster : EndData) (reader : ReaderData) (dumps : List (ℕ × ℕ × ℕ)) (planned : List (ℕ × ℕ)) (room : ℕ) → pass ≡ client_at pass.table plan → poster ≡ fresh_end poster.queue pass.table plan
-    → reader.reads ≡ [] → words_in plan.areas.results ≤ reader.places → dumps ≡ [] → planned ≡ plan.dumps → All (IsDump plan.areas.results plan.actions) plan.dumps → RiseFrom 0 plan.dumps → length plan.actions ≤ 1000000 → length planned ≤ room
+    → reader.reads ≡ [] → words_in plan.areas.results ≤ reader.places → dumps ≡ [] → planned ≡ plan.dumps → All (IsDump plan.areas.results plan.actions) plan.dumps → RiseFrom 0 plan.dumps → length plan.actions ≤ MOST_ACTIONS → length planned ≤ room
     → IsThreadClient record { stream = stream; pass = pass; poster = poster; held = None; reader = reader; due = None; dumps = dumps } planned 0 0 room
 made stream plan pass poster reader dumps planned room its_pass its_poster none places empty listed lawful rising few room_is =
     let none_yet = none_before 0 0 plan.dumps rising (omega arith) in
@@ -274,10 +275,10 @@ made stream plan pass poster reader dumps planned room its_pass its_poster none 
 
 -- ---- numbers that fit
 
-pub position_fits : (c : ThreadClientData) (planned : List (ℕ × ℕ)) (position flushed room : ℕ) → IsThreadClient c planned position flushed room → c.pass.done < length c.pass.plan.actions → position < 1000000
+pub position_fits : (c : ThreadClientData) (planned : List (ℕ × ℕ)) (position flushed room : ℕ) → IsThreadClient c planned position flushed room → c.pass.done < length c.pass.plan.actions → position < MOST_ACTIONS
 position_fits c planned position flushed room is lt = let few = is.counted.few in let place = is.counted.place in omega (arith, few, place, lt)
 
-pub flushed_fits : (c : ThreadClientData) (planned : List (ℕ × ℕ)) (position flushed room : ℕ) → IsThreadClient c planned position flushed room → c.pass.done < length c.pass.plan.actions → flushed < 1000000
+pub flushed_fits : (c : ThreadClientData) (planned : List (ℕ × ℕ)) (position flushed room : ℕ) → IsThreadClient c planned position flushed room → c.pass.done < length c.pass.plan.actions → flushed < MOST_ACTIONS
 flushed_fits c planned position flushed room is lt = let few = is.counted.few in let count = is.counted.count in let most = flushes_within c.pass.plan.actions c.pass.done in omega (arith, few, count, most, lt)
 
 -- ---- a Close

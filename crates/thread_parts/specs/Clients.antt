@@ -4,6 +4,7 @@ use Rattle.std.specs.List.{All, filter}
 use Rattle.gpu_cmd.specs.Spans.{words_in}
 use Rattle.gpu_plan.specs.Plans.{PlanData, IsDump, RiseFrom}
 use Rattle.gpu_plan.specs.Passes.{flushes}
+use Rattle.gpu_plan.specs.declared.acting.TheConstants.{MOST_ACTIONS}
 use Rattle.shm_words.specs.Seen as seen
 use Rattle.shm_words.specs.Seen.{NoteData, flushes_before}
 use Rattle.flush_queue.specs.Seen.{EndData, one_more, note_of}
@@ -67,7 +68,7 @@ pub record HasAtHand (pass : seen.ClientData) (due : Option (ℕ × ℕ)) (plann
   pub planned_is : planned ≡ pass.plan.dumps
   pub lawful : All (IsDump pass.plan.areas.results pass.plan.actions) planned
   pub rising : RiseFrom 0 planned
-  pub few : length pass.plan.actions ≤ 1000000
+  pub few : length pass.plan.actions ≤ MOST_ACTIONS
   pub place : position ≡ pass.done
   pub count : flushed ≡ flushes_before pass
   pub due_asks : IfSome due (λ dump. flushed ≡ flushes (take dump.0 pass.plan.actions))

@@ -5,11 +5,12 @@ use Rattle.logbook.specs.Pages.{Book}
 use Rattle.live_view.specs.declared.look.Look.{Look}
 use Rattle.live_view.specs.Looks.{sight}
 use Rattle.live_view.specs.Seen.{ViewerData}
+use Rattle.live_view.specs.declared.look.TheConstants.{ALL_LOOKS}
 
--- it keeps a list of what it saw, which has room for 17 looks
+-- it keeps a list of what it saw, which has room for all its looks
 pub record KeepsLooks (viewer : ViewerData) (seen : List Look) (capacity : ℕ) : Type 0 where
   pub seen_is : seen ≡ map (λ sight. sight.look) viewer.looks
-  pub room : 17 ≤ capacity
+  pub room : ALL_LOOKS ≤ capacity
 
 -- it is of this view, and has looked so often
 pub record HasWatched (view : Book) (count : ℕ) (viewer : ViewerData) : Type 0 where

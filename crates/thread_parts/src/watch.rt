@@ -6,16 +6,10 @@ ghost use Rattle.thread_parts.specs.Watches.{HasNotLooked, HasWatched, HasLooked
 
 use gpu_io::{Gate, Place};
 use gpu_word::Memory;
-use live_view::{Look, Told, Viewer};
+use live_view::{ALL_LOOKS, LOOKS, Look, Told, Viewer};
 use std::alloc::Global;
 use std::marker::Model;
 use std::sync::Wait;
-
-/// How often a viewer looks while the run goes on.
-const LOOKS: u32 = 16;
-
-/// How often it looks in all: once more when the run is over.
-const ALL_LOOKS: usize = 17;
 
 /// A viewer of a run, on a thread of its own, with its number, counted from 1, and what it saw.
 ///
@@ -59,7 +53,7 @@ impl Watch {
 
     /// Looks once.
     pub fn look<R: Wait>(&mut self, rt: &R)
-        requires { length self.old.looks < 17 }
+        requires { length self.old.looks < ALL_LOOKS }
         ensures { HasLooked self.old self.new }
     {
         let look = self.viewer.look(rt);
@@ -68,7 +62,7 @@ impl Watch {
 
     // Looks once, where the gate lets it.
     fn look_at<R: Wait, G: Gate>(&mut self, rt: &R, gate: &G, look: u32)
-        requires { length self.old.looks < 17 }
+        requires { length self.old.looks < ALL_LOOKS }
         ensures { HasLooked self.old self.new }
     {
         gate.reach(Place::BeforeLook {
@@ -81,7 +75,7 @@ impl Watch {
     /// All looks that are done while the run goes on.
     pub fn watch<R: Wait, G: Gate>(&mut self, rt: &R, gate: &G)
         requires { HasNotLooked self.old }
-        ensures { HasWatched self.old.view 16 self.new }
+        ensures { HasWatched self.old.view LOOKS self.new }
     {
         for done in 0..LOOKS {
             self.look_at(rt, gate, done + 1);

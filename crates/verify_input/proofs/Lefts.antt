@@ -95,16 +95,16 @@ all_dumps_left p h index = flat_map (dumps_due p h) (drop index (streams_of p))
 -- ---- looks
 
 abbrev pub looks_left : ℕ → ℕ → List Due
-looks_left viewer index = replicate (17 - index) (Look viewer) ++ LastLook viewer ∷ []
+looks_left viewer index = replicate (16 - index) (Look viewer) ++ LastLook viewer ∷ []
 
-pub looks_next : (viewer index : ℕ) → index < 17 → Begins (looks_left viewer index) (Look viewer ∷ []) (looks_left viewer (index + 1))
+pub looks_next : (viewer index : ℕ) → index < 16 → Begins (looks_left viewer index) (Look viewer ∷ []) (looks_left viewer (index + 1))
 looks_next viewer index more =
-    let one : 17 - index ≡ suc (17 - (index + 1)) = omega arith in
+    let one : 16 - index ≡ suc (16 - (index + 1)) = omega arith in
     record { is = ap (λ n. replicate n (Look viewer) ++ LastLook viewer ∷ []) one }
 
-pub looks_last : (viewer index : ℕ) → 17 ≤ index → Begins (looks_left viewer index) (LastLook viewer ∷ []) []
+pub looks_last : (viewer index : ℕ) → 16 ≤ index → Begins (looks_left viewer index) (LastLook viewer ∷ []) []
 looks_last viewer index all =
-    let none : 17 - index ≡ 0 = omega arith in
+    let none : 16 - index ≡ 0 = omega arith in
     record { is = ap (λ n. replicate n (Look viewer) ++ LastLook viewer ∷ []) none }
 
 abbrev pub viewers_left : ℕ → ℕ → List Due

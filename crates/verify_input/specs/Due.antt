@@ -17,6 +17,8 @@ use Rattle.verify_input.specs.Parts.{words_on}
 use Rattle.verify_input.specs.Found.{head_of}
 use Rattle.verify_input.specs.declared.what.What.{What}
 use Rattle.verify_input.specs.declared.what.What.TheVariants as what
+use Rattle.live_view.specs.declared.look.TheConstants.{LOOKS, ALL_LOOKS}
+use Rattle.live_view.specs.declared.making.TheConstants.{MOST_VIEWERS}
 
 -- ---- a line that is due
 
@@ -75,9 +77,9 @@ ending_lines p base h = map (λ ending. mark_text ending (mark base ending)) (en
 abbrev pub dumps_due : PlansData → List Event → ℕ → List Due
 dumps_due p h s = map (λ dump. Dump s dump) (dumps_of p h s)
 
--- the 17 looks of a viewer
+-- the looks of a viewer
 abbrev pub looks_due : ℕ → List Due
-looks_due viewer = replicate 16 (Look viewer) ++ LastLook viewer ∷ []
+looks_due viewer = replicate LOOKS (Look viewer) ++ LastLook viewer ∷ []
 
 -- the parts of what stands after a journal
 abbrev pub images_due : PlansData → List Event → List Due
@@ -144,6 +146,6 @@ abbrev pub begins_view : List (List ℕ) → Bool
 begins_view [] = false
 begins_view (word ∷ words) = bytes_eq word (codes "view")
 
--- as many viewers as the view lines among these need, with 17 looks each, and at most 4
+-- as many viewers as the view lines among these need, where each has all its looks, and no more than a view has
 abbrev pub viewers_in : List (List ℕ) → ℕ
-viewers_in lines = min 4 ((count_by (λ line. begins_view (words_on line)) lines + 16) / 17)
+viewers_in lines = min MOST_VIEWERS ((count_by (λ line. begins_view (words_on line)) lines + LOOKS) / ALL_LOOKS)

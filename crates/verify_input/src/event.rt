@@ -3,7 +3,7 @@ ghost use Rattle.verify_input.specs.Said.{pieces_of, why_said, lost_with, order_
 
 use crate::number::own_number;
 use crate::pieces::{Pieces, first_piece};
-use crate::word::words;
+use crate::word::read_words;
 use gpu_cmd::CmdError;
 use gpu_journal::{Event, Why};
 use gpu_word::{Memory, Words};
@@ -54,7 +54,7 @@ fn order<'a>(mut pieces: Pieces<'_>) -> Option<Event<'a>>
 
 // The pieces after `step`.
 #[tactic(auto, unfolding(crate::specs::Said::step_said))]
-fn step<'a>(
+fn read_step<'a>(
     room: &'a mut Vec<(u32, u32)>,
     mut pieces: Pieces<'_>,
 ) -> Result<Option<Event<'a>>, Memory>
@@ -66,7 +66,7 @@ fn step<'a>(
     let Some(stream) = own_number(s) else {
         return Ok(None);
     };
-    match words(room, pieces)? {
+    match read_words(room, pieces)? {
         Some(words) => Ok(Some(Event::Step { stream, words })),
         None => Ok(None),
     }
@@ -102,7 +102,7 @@ fn lost_with<'a>(stream: u32, why: Why, words: Words<'a>) -> Option<Event<'a>>
 
 // The pieces after `lost`.
 #[tactic(auto, unfolding(crate::specs::Said::lost_said))]
-fn lost<'a>(
+fn read_lost<'a>(
     room: &'a mut Vec<(u32, u32)>,
     mut pieces: Pieces<'_>,
 ) -> Result<Option<Event<'a>>, Memory>
@@ -114,7 +114,7 @@ fn lost<'a>(
     let (Some(stream), Some(why)) = (own_number(s), why(w)) else {
         return Ok(None);
     };
-    match words(room, pieces)? {
+    match read_words(room, pieces)? {
         Some(words) => Ok(lost_with(stream, why, words)),
         None => Ok(None),
     }
@@ -134,7 +134,7 @@ fn close<'a>(mut pieces: Pieces<'_>) -> Option<Event<'a>>
 
 // What a first word says with the pieces after it.
 #[tactic(auto, unfolding(crate::specs::Said::said_by))]
-fn said_by<'a>(
+fn read_by_keyword<'a>(
     room: &'a mut Vec<(u32, u32)>,
     keyword: &[u8],
     pieces: Pieces<'_>,
@@ -142,13 +142,13 @@ fn said_by<'a>(
     ensures { IfOk result (λ said. said ≡ said_by keyword.now (pieces_of pieces.entry.rest.now)) }
 {
     if keyword == b"step".as_slice() {
-        step(room, pieces)
+        read_step(room, pieces)
     } else if keyword == b"order".as_slice() {
         Ok(order(pieces))
     } else if keyword == b"finish".as_slice() {
         Ok(finish(pieces))
     } else if keyword == b"lost".as_slice() {
-        lost(room, pieces)
+        read_lost(room, pieces)
     } else if keyword == b"close".as_slice() {
         Ok(close(pieces))
     } else {
@@ -158,12 +158,12 @@ fn said_by<'a>(
 
 /// The event whose line this is, without its line feed. Its words lie in `room`.
 #[tactic(auto, unfolding(crate::specs::Said::line_said))]
-pub(crate) fn event<'a>(
+pub(crate) fn read_event<'a>(
     room: &'a mut Vec<(u32, u32)>,
     line: &[u8],
 ) -> Result<Option<Event<'a>>, Memory>
     ensures { IfOk result (λ said. said ≡ line_said line.now) }
 {
     let (keyword, pieces) = first_piece(line);
-    said_by(room, keyword, pieces)
+    read_by_keyword(room, keyword, pieces)
 }

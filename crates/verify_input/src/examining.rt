@@ -10,7 +10,7 @@ use crate::fault::JournalFault;
 use crate::finding::Finding;
 use crate::heading::read_behind_head;
 use gpu_journal::Journal;
-use gpu_plan::{Plans, ScriptFault, parse};
+use gpu_plan::{MOST_BYTES, Plans, ScriptFault, parse};
 use gpu_word::Memory;
 use journal_verify::{Verdict, verify};
 use std::alloc::Global;
@@ -33,7 +33,7 @@ fn judge(alloc: Global, plans: &Plans, journal: &Journal) -> Result<Finding, Mem
 
 // The verdict on the text after a line `journal`, before which stand a given number of lines of a script.
 fn examine_journal(alloc: Global, plans: &Plans, lines: u32, text: &[u8]) -> Result<Finding, Memory>
-    requires { lines + 1 + length text.now ≤ 16777216 }
+    requires { lines + 1 + length text.now ≤ MOST_BYTES }
     ensures { IfOk result (λ finding. FindsIn plans.now lines
         (before Border.Journal (whole_lines text.now)) finding) }
 {
@@ -52,7 +52,7 @@ fn examine_journal(alloc: Global, plans: &Plans, lines: u32, text: &[u8]) -> Res
 ///
 /// The script is looked at first, then the whole journal text, and then its events. No other finding would hold.
 pub fn examine(alloc: Global, input: &[u8]) -> Result<Finding, Memory>
-    requires { length input.now ≤ 16777216 }
+    requires { length input.now ≤ MOST_BYTES }
     ensures { IfOk result (λ finding. Finds input.now finding) }
 {
     let cut = cut_at_border(input, Border::Script);

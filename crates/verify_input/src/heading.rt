@@ -7,7 +7,7 @@ use crate::reading::read_journal;
 use crate::rest::{Bad, Rest};
 use crate::sections::take_names;
 use gpu_journal::Journal;
-use gpu_plan::Plans;
+use gpu_plan::{MOST_BYTES, Plans};
 use journal_text::Line;
 use std::alloc::Global;
 
@@ -19,7 +19,7 @@ pub(crate) fn read_behind_head(
     plans: &Plans,
     text: &[u8],
 ) -> Result<Journal, JournalFault>
-    requires { length text.now ≤ 16777216 }
+    requires { length text.now ≤ MOST_BYTES }
     ensures ok { IfOk result
         (λ journal. TellsBehind (head_of plans.now) (whole_lines text.now)
         (reverse journal.events)) }

@@ -5,14 +5,12 @@ ghost use Rattle.verify_input.specs.Reading.{whole_lines};
 ghost use Rattle.verify_input.specs.Due.{begins_view, viewers_in};
 
 use crate::cut::first_line;
+use live_view::{ALL_LOOKS, LOOKS, MOST_VIEWERS};
 use script_lines::{Words, decimal_u32};
 use std::alloc::{AllocError, Global};
 
-/// How many looks each viewer has.
-pub(crate) const LOOKS: u32 = 17;
-
-/// The most looks that a run has: those of 4 viewers.
-const MOST_LOOKS: usize = 68;
+/// The most looks that a run has.
+const MOST_LOOKS: usize = MOST_VIEWERS as usize * ALL_LOOKS;
 
 // Whether the first word is `view`.
 fn begins_view(mut words: Words<'_>) -> bool
@@ -36,8 +34,8 @@ fn third_number(mut words: Words<'_>) -> u32 {
 
 // Notes the number of events that a view line names, while there are fewer than a run has looks.
 fn note_look(events: &mut Vec<u32>, line: &[u8]) -> Result<(), AllocError>
-    requires { vec_len events.old ≤ 68 }
-    ensures { OnOk result (vec_len events.new ≡ min 68
+    requires { vec_len events.old ≤ MOST_LOOKS }
+    ensures { OnOk result (vec_len events.new ≡ min MOST_LOOKS
         (vec_len events.old + (if begins_view (words_of line.now) then 1 else 0))) }
 {
     let words = Words { rest: line };
@@ -69,7 +67,7 @@ pub(crate) fn view_lines(alloc: Global, text: &[u8]) -> Result<ViewLines, AllocE
         note_look(&mut events, line)?;
         rest = more;
     }
-    let viewers = (events.len() as u32 + 16) / LOOKS;
+    let viewers = (events.len() as u32 + LOOKS) / ALL_LOOKS as u32;
     events.sort()?;
     Ok(ViewLines { viewers, events })
 }

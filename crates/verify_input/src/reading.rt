@@ -1,9 +1,10 @@
 ghost use Rattle.std.specs.Prelude.{◌≡◌, ◌+◌, ◌≤◌, ◌∷◌, ◌++◌, length, reverse, IfOk, IfErr, IfSome, MatchOption};
 ghost use Rattle.verify_input.specs.Reading.{HasNoFeed, IsJournal, IsFault};
 
-use crate::event::event;
+use crate::event::read_event;
 use crate::fault::JournalFault;
 use gpu_journal::Journal;
+use gpu_plan::MOST_BYTES;
 use script_lines::{cut_at, line_end};
 use std::alloc::Global;
 
@@ -22,7 +23,7 @@ fn first_line(text: &[u8]) -> Option<(&[u8], &[u8])>
 ///
 /// Refused: the first line that is no event line in its exact spelling with a line feed, of numbers of 32 bits.
 pub fn read_journal(alloc: Global, text: &[u8]) -> Result<Journal, JournalFault>
-    requires { length text.now ≤ 16777216 }
+    requires { length text.now ≤ MOST_BYTES }
     ensures ok { IfOk result (λ journal. IsJournal text.now (reverse journal.events)) }
     ensures err { IfErr result (λ fault. IsFault text.now fault) }
 {
@@ -34,7 +35,7 @@ pub fn read_journal(alloc: Global, text: &[u8]) -> Result<Journal, JournalFault>
         let Some((front, behind)) = first_line(rest) else {
             return Err(JournalFault::Refused { line });
         };
-        let Some(said) = event(&mut room, front)? else {
+        let Some(said) = read_event(&mut room, front)? else {
             return Err(JournalFault::Refused { line });
         };
         journal.add(said)?;

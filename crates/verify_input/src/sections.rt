@@ -6,6 +6,7 @@ ghost use Rattle.gpu_store.specs.Images.{picture_of};
 ghost use Rattle.gpu_store.specs.Picture.{Picture};
 ghost use Rattle.gpu_plan.specs.Plans.{PlansData, plan_of};
 ghost use Rattle.gpu_plan.specs.Passes.{flush_count, flushes};
+ghost use Rattle.gpu_plan.specs.declared.acting.TheConstants.{MOST_ACTIONS};
 ghost use Rattle.gpu_journal.specs.declared.event.Event.{Event};
 ghost use Rattle.sync_core.specs.Standing.{IsKnown};
 ghost use Rattle.gpu_journal.specs.Ended.{streams_of};
@@ -16,7 +17,6 @@ ghost use Rattle.verify_input.specs.Due.{same_lines, lines_of_image, end_lines, 
 ghost use Rattle.verify_input.specs.Taking.{HasTaken, IsBad, Judges, IsHistory, IsLook, is_lost, past_of};
 ghost use Rattle.wait_hooks.specs.Marks.{mark};
 
-use crate::looks::LOOKS;
 use crate::reading_lines::{first_look, value_before_end};
 use crate::rest::{Bad, Rest};
 use crate::what::What;
@@ -26,6 +26,7 @@ use gpu_store::{Images, texel_sum};
 use gpu_word::Memory;
 use journal_text::Line;
 use journal_verify::Followed;
+use live_view::{LOOKS, MOST_VIEWERS};
 use std::alloc::Global;
 use sync_core::Ending;
 use wait_hooks::mark;
@@ -147,7 +148,7 @@ fn flush_count(action: &Action) -> u32
 
 // How many of these actions are flushes.
 fn flushes_in(actions: &[Action]) -> u32
-    requires { length actions.now ≤ 1000000 }
+    requires { length actions.now ≤ MOST_ACTIONS }
     ensures value { result ≡ flushes actions.now }
     ensures few { result ≤ length actions.now }
 {
@@ -331,7 +332,7 @@ fn take_viewer(
         rest.old rest.new result }
 {
     let mut least = 0;
-    for _look in 1..LOOKS {
+    for _look in 0..LOOKS {
         least = take_look(alloc, rest, line, history, viewer, least)?;
     }
     // The last look is of all events.
@@ -349,7 +350,7 @@ pub(crate) fn take_viewers(
     viewers: u32,
 ) -> Result<(), Bad>
     requires history { IsHistory history }
-    requires few { viewers ≤ 4 }
+    requires few { viewers ≤ MOST_VIEWERS }
     ensures { Judges history.entry.plans.now (past_of history.entry)
         (flat_map looks_due (range_with_len 1 viewers)) rest.old rest.new result }
 {

@@ -16,10 +16,11 @@ use crate::sections::{
     History, take_dumps, take_images, take_marks, take_names, take_streams, take_viewers,
 };
 use gpu_journal::Journal;
-use gpu_plan::{Plans, ScriptFault, parse};
+use gpu_plan::{MOST_BYTES, Plans, ScriptFault, parse};
 use gpu_word::Memory;
 use journal_text::Line;
 use journal_verify::{Ruling, ends_of, follow};
+use live_view::MOST_VIEWERS;
 use std::alloc::Global;
 
 // Judges all lines after the journal.
@@ -32,7 +33,7 @@ fn take_rest(
     viewers: u32,
 ) -> Result<(), Bad>
     requires history { IsHistory history }
-    requires few { viewers ≤ 4 }
+    requires few { viewers ≤ MOST_VIEWERS }
     ensures { JudgesAll history.entry.plans.now (past_of history.entry)
         (dues history.entry.plans.now base (past_of history.entry) viewers) rest.old result }
 {
@@ -103,7 +104,7 @@ fn examine_output(
     text: &[u8],
     base: u32,
 ) -> Result<Finding, Memory>
-    requires { lines + 1 + length text.now ≤ 16777216 }
+    requires { lines + 1 + length text.now ≤ MOST_BYTES }
     ensures { (input : List ℕ) → IsAfterScript input plans.now lines (whole_lines text.now)
         → IfOk result (λ finding. FindsWhole base input finding) }
 {
@@ -136,7 +137,7 @@ fn examine_output(
 ///
 /// The script is looked at first, then the names, then the whole journal text, its events, and the lines after them.
 pub fn examine_whole(alloc: Global, input: &[u8], base: u32) -> Result<Finding, Memory>
-    requires { length input.now ≤ 16777216 }
+    requires { length input.now ≤ MOST_BYTES }
     ensures { IfOk result (λ finding. FindsWhole base input.now finding) }
 {
     let cut = cut_at_border(input, Border::Script);

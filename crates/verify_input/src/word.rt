@@ -105,7 +105,7 @@ fn collect_words(words: &mut Vec<(u32, u32)>, pieces: Pieces<'_>) -> Result<bool
 }
 
 /// The words that all pieces say, if each is a word. They lie in `room`.
-pub(crate) fn words<'a>(
+pub(crate) fn read_words<'a>(
     room: &'a mut Vec<(u32, u32)>,
     pieces: Pieces<'_>,
 ) -> Result<Option<Words<'a>>, AllocError>

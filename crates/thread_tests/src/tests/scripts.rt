@@ -6,7 +6,7 @@ use gpu_io::Gate;
 use gpu_plan::{Plans, parse};
 use gpu_threads::{Team, ThreadedRun, run_threads};
 use journal_text::journal_text;
-use live_view::Look;
+use live_view::{Look, MOST_VIEWERS};
 use std::alloc::Global;
 use std::sync::Wait;
 use std::test::Fail;
@@ -110,7 +110,7 @@ pub(crate) fn viewed<G: Gate + Sync, R: Threads + Wait + Sync>(
     views: u32,
     gate: &G,
 ) -> Result<(Report, Vec<Vec<Look>>), Fail>
-    requires { views ≤ 4 }
+    requires { views ≤ MOST_VIEWERS }
 {
     if workers < 1 || workers > 8 {
         return Err("a number of workers".into());

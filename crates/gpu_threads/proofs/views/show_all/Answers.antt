@@ -7,6 +7,7 @@ use Rattle.std.proofs.lemmas.List.Elements.{All-nil, All-push, All-tail}
 use Rattle.gpu_plan.specs.Plans.{PlansData}
 use Rattle.gpu_journal.specs.declared.event.Event.{Event}
 use Rattle.live_view.specs.declared.look.Look.{Look}
+use Rattle.live_view.specs.declared.look.TheConstants.{LOOKS}
 use Rattle.gpu_hall.specs.Views.{ShownData}
 use Rattle.gpu_hall.specs.Looks.{AreViewerLooks}
 use Rattle.thread_parts.specs.Watches.{HasWatched}
@@ -23,7 +24,7 @@ loop-watch-init g c =
       base = c.in_ok-shown.ensures.base;
       past = c.in_ok-shown.ensures.past;
       view = c.in_ok-shown.ensures.named;
-      left = subst (All (HasWatched N.view 16)) is c.requires;
+      left = subst (All (HasWatched N.view LOOKS)) is c.requires;
       many = (let a = ap length is in let b = ap length none in omega (arith, a, b));
       room = (let a = c.in-Ok.ensures.capacity in let b = c.len.ensures in let d = c.args.watches.ok in omega (arith, a, b, d));
       done = subst (All have) (sym none) (All-nil have);
@@ -47,7 +48,7 @@ loop-watch-preserved g c =
       base = ap (λ (s : ShownData). s.base) same ∙ was.base;
       past = ap (λ (s : ShownData). s.past) same ∙ was.past;
       view = subst (λ (s : ShownData). IfSome s.view (λ told. told.view ≡ N.view)) (sym same) was.view;
-      left = All-tail (HasWatched N.view 16) watch rest (subst (All (HasWatched N.view 16)) left was.left);
+      left = All-tail (HasWatched N.view LOOKS) watch rest (subst (All (HasWatched N.view LOOKS)) left was.left);
       many = (let a = ap length pushed in let b = length-append seen (looks ∷ []) in let d = ap length left in let m = was.many in omega (arith, a, b, d, m));
       room = subst (λ (n : ℕ). length c.args.watches.items ≤ n) (sym c.push_reserved.ensures.capacity) was.room;
       done = subst (All have) (sym pushed) (All-push have seen looks was.done all);

@@ -5,7 +5,7 @@ use Rattle.script_lines.specs.Text.{words_of}
 use Rattle.script_lines.specs.Numbers.{value_of}
 use Rattle.gpu_plan.specs.Drafts.{shown}
 use Rattle.gpu_plan.proofs.Putting.{puts_fail, puts_fail_said, puts_put, puts_refused}
-use Rattle.gpu_plan.proofs.adding.with_puts.Goals as goal
+use Rattle.gpu_plan.proofs.adding.add_put_line.Goals as goal
 
 pub returns-in_err-place : goal.returns-in_err-place
 returns-in_err-place c =

@@ -5,7 +5,7 @@ use Rattle.script_lines.specs.Text.{words_of}
 use Rattle.script_lines.specs.Numbers.{value_of}
 use Rattle.gpu_plan.specs.Drafts.{shown}
 use Rattle.gpu_plan.proofs.Putting.{fill_fail, fill_fail_said, fill_put, fill_refused}
-use Rattle.gpu_plan.proofs.adding.with_fill.Goals as goal
+use Rattle.gpu_plan.proofs.adding.add_fill_line.Goals as goal
 
 pub returns-in_err-memory : goal.returns-in_err-memory
 returns-in_err-memory c =
