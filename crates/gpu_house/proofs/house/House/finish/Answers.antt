@@ -2,7 +2,7 @@ use Rattle.std.proofs.Common.{◌≡◌, ℕ, ◌+◌, ◌-◌, true, false, Som
 use Rattle.std.specs.Prelude.{slice_set, IfSome}
 use Rattle.gpu_word.specs.Results.{finishes_in}
 use Rattle.gpu_plan.specs.Plans.{PlansData}
-use Rattle.gpu_fetch.specs.Side.{finish_published}
+use Rattle.gpu_fetch.specs.Side.{StillBelongs, finish_published}
 use Rattle.sync_core.specs.Standing.{IsKnown, is_open}
 use Rattle.gpu_journal.specs.declared.event.Event.{Event}
 use Rattle.gpu_journal.specs.declared.event.Event.TheVariants.{Finish}
@@ -12,7 +12,7 @@ use Rattle.house_core.specs.Core.{IsRunOf, book_at}
 use Rattle.gpu_house.specs.Marks.{AreMarked}
 use Rattle.gpu_house.specs.Names.{table_at}
 use Rattle.gpu_house.specs.House.{OutData}
-use Rattle.gpu_house.specs.Changes.{StillBelongs, CameDone}
+use Rattle.gpu_house.specs.Changes.{CameDone}
 use Rattle.gpu_house.proofs.Rows.{slot_changed}
 use Rattle.gpu_house.proofs.Stepping.{note_marked}
 use Rattle.gpu_house.proofs.Homes.{came_back, came_done, is_out, order_positive, side_seen}
