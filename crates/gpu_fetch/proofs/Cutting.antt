@@ -15,22 +15,22 @@ none_left [] none = refl
 none_left (word ∷ list) none = absurd (omega (arith, none))
 
 more_behind : (list own : List (ℕ × ℕ)) (parts : List FetchedPart) (part : FetchedPart) → words_of_parts parts ≡ length list → part.count ≡ length own
-    → parts_of (list ++ own) (parts ++ part ∷ []) ≡ parts_of list parts ++ record { words = own; verdict = part.verdict; facts = part.facts.facts } ∷ []
+    → parts_of (list ++ own) (parts ++ part ∷ []) ≡ parts_of list parts ++ record { words = own; verdict = part.verdict; facts = part.facts.value } ∷ []
 more_behind list own [] part all count =
     let words : take part.count (list ++ own) ≡ own = ap (λ (l : List (ℕ × ℕ)). take part.count (l ++ own)) (none_left list all) ∙ ap (λ (n : ℕ). take n own) count ∙ take-length own in
-    ap (λ (l : List (ℕ × ℕ)). record { words = l; verdict = part.verdict; facts = part.facts.facts } ∷ []) words
+    ap (λ (l : List (ℕ × ℕ)). record { words = l; verdict = part.verdict; facts = part.facts.value } ∷ []) words
 more_behind list own (p ∷ ps) part all count =
     let within : p.count ≤ length list = omega (arith, all) in
     let left : words_of_parts ps ≡ length (drop p.count list) = (let long = length-drop p.count list in omega (arith, all, long)) in
     let first : take p.count (list ++ own) ≡ take p.count list = take-append-le p.count list own within in
     let behind : drop p.count (list ++ own) ≡ drop p.count list ++ own = drop-append-le p.count list own within in
-    ap (λ (l : List (ℕ × ℕ)). record { words = l; verdict = p.verdict; facts = p.facts.facts } ∷ parts_of (drop p.count (list ++ own)) (ps ++ part ∷ [])) first
-    ∙ ap (λ (l : List FetchedData). record { words = take p.count list; verdict = p.verdict; facts = p.facts.facts } ∷ l)
+    ap (λ (l : List (ℕ × ℕ)). record { words = l; verdict = p.verdict; facts = p.facts.value } ∷ parts_of (drop p.count (list ++ own)) (ps ++ part ∷ [])) first
+    ∙ ap (λ (l : List FetchedData). record { words = take p.count list; verdict = p.verdict; facts = p.facts.value } ∷ l)
     (ap (λ (l : List (ℕ × ℕ)). parts_of l (ps ++ part ∷ [])) behind ∙ more_behind (drop p.count list) own ps part left count)
 
 -- the words that were added to the list are those of one command more
 pub parts_more : (list longer : List (ℕ × ℕ)) (parts : List FetchedPart) (part : FetchedPart) → words_of_parts parts ≡ length list → longer ≡ list ++ items_since list longer → part.count ≡ length longer - length list
-    → parts_of longer (parts ++ part ∷ []) ≡ parts_of list parts ++ record { words = items_since list longer; verdict = part.verdict; facts = part.facts.facts } ∷ []
+    → parts_of longer (parts ++ part ∷ []) ≡ parts_of list parts ++ record { words = items_since list longer; verdict = part.verdict; facts = part.facts.value } ∷ []
 parts_more list longer parts part all grows count =
     let own = items_since list longer in
     let long : length longer ≡ length list + length own = ap length grows ∙ length-append list own in

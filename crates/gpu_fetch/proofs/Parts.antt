@@ -10,11 +10,11 @@ use Rattle.gpu_cmd.specs.declared.facts.StreamFacts.{StreamFacts}
 use Rattle.gpu_cmd.specs.declared.shape.Shape.{Shape}
 use Rattle.gpu_cmd.specs.declared.decoded.Decoded.{Decoded}
 use Rattle.gpu_cmd.specs.Checks.{headed, decoded}
-use Rattle.gpu_cmd.specs.Copied.{fetched_places, places_decoded, ring_places, value_in, words_at, places_listed, IsCopy}
+use Rattle.gpu_cmd.specs.Copied.{fetched_places, places_decoded, ring_places, value_in, words_at, places_listed}
 use Rattle.gpu_cmd.proofs.Copies.{put_out_of_range, header_refused, entries_refused, command_copied, header_goes_on, same_place, values_at, places_at}
-use Rattle.gpu_fetch.specs.Side.{SideData, MayFetch, with_words, Fetches}
-use Rattle.gpu_fetch.specs.Fetched.{items_since, FetchesSome, FetchesRow, FetchesRowInPart, FetchesRows}
-use Rattle.gpu_fetch.proofs.Fetching.{fetches_one, fetches_then, row_behind}
+use Rattle.gpu_fetch.specs.Side.{SideData, Fetches, SideFetches}
+use Rattle.gpu_fetch.specs.Fetched.{items_since, FetchesCommand, FetchesSome, FetchesRow, FetchesRowInPart, FetchesRows}
+use Rattle.gpu_fetch.proofs.Fetching.{fetches_none, fetches_then, finds_none, finds_then, added_is, appends, row_behind, row_appends}
 
 -- ---- words at places in a row
 
@@ -75,111 +75,144 @@ some_transfer s t facts shape entry values found more put head all decoding few 
       first = read.1 ∙ ap (λ places. places ++ range_with_len found.from found.count) front ∙ ap (λ places. places_listed ring ++ places) (row_begins found.from found.count more few) ∙ sym (append_assoc (places_listed ring) (places_listed transfer) behind) ∙ ap (λ places. places ++ behind) (sym (map-append (λ word. word.0) ring transfer));
     }
 
--- ---- the ring words of a command
+-- ---- the words that a list has after those that it had
 
--- all ring words of a command were fetched, and stand in a list
-pub record RingFetched (s t : SideData) (facts : StreamFacts) (entry : ℕ) (shape : Shape) (list : List (ℕ × ℕ)) : Type 0 where
-  pub values : List ℕ
-  pub all : length (entry ∷ values) ≡ shape.ring_words
-  pub fetches : Fetches s t (words_at facts.get (entry ∷ values))
-  pub listed : list ≡ words_at facts.get (entry ∷ values)
-
-pub ring_fetched : (s m t : SideData) (facts : StreamFacts) (entry : ℕ) (shape : Shape) (list longer : List (ℕ × ℕ)) → Fetches s m ((facts.get, entry) ∷ []) → list ≡ (facts.get, entry) ∷ [] → 1 ≤ shape.ring_words → FetchesRow m t (facts.get + 1) (shape.ring_words - 1) list longer → RingFetched s t facts entry shape longer
-ring_fetched s m t facts entry shape list longer header is some row = record {
-  values = row.values;
-  all = (let n = row.all in omega arith);
-  fetches = fetches_then s m t ((facts.get, entry) ∷ []) (words_at (facts.get + 1) row.values) header row.fetches;
-  listed = row.appended ∙ ap (λ (l : List (ℕ × ℕ)). l ++ words_at (facts.get + 1) row.values) is;
-}
-
--- the header after the words that a list had
-pub header_onto : (facts : StreamFacts) (entry : ℕ) (were room pushed : List (ℕ × ℕ)) → room ≡ were → pushed ≡ room ++ (facts.get, entry) ∷ [] → pushed ≡ were ++ (facts.get, entry) ∷ []
-header_onto facts entry were room pushed same push = push ∙ ap (λ (l : List (ℕ × ℕ)). l ++ (facts.get, entry) ∷ []) same
-
--- all ring words after the words that a list had
-pub ring_onto : (s m t : SideData) (facts : StreamFacts) (entry : ℕ) (shape : Shape) (were room pushed longer : List (ℕ × ℕ)) → m ≡ with_words s ((facts.get, entry) ∷ []) → MayFetch s (facts.get, entry) → room ≡ were → pushed ≡ room ++ (facts.get, entry) ∷ []
-    → 1 ≤ shape.ring_words → FetchesRow m t (facts.get + 1) (shape.ring_words - 1) pushed longer → RingFetched s t facts entry shape (items_since were longer)
-ring_onto s m t facts entry shape were room pushed longer grows may same push some row =
-    let one : List (ℕ × ℕ) = (facts.get, entry) ∷ [] in
-    ring_fetched s m t facts entry shape one (items_since were longer) (fetches_one s m facts.get entry grows may) refl some
-    (row_behind m t (facts.get + 1) (shape.ring_words - 1) were one pushed longer (header_onto facts entry were room pushed same push) row)
-
--- the words after those that a list had, as they are read
+-- as they are read
 pub added_read : (were list longer : List (ℕ × ℕ)) (from : ℕ) → list ≡ longer → from ≡ length were → slice_range list from (length list) ≡ items_since were longer
 added_read were list longer from same at =
     take_all (length list - from) (drop from list) (let long = length-drop from list in omega (arith, long)) ∙ ap (λ (n : ℕ). drop n list) at ∙ ap (drop (length were)) same
 
--- the values of the words that the decoder is given
-pub ring_entries : (s t : SideData) (facts : StreamFacts) (entry : ℕ) (shape : Shape) (list given : List (ℕ × ℕ)) (ring : RingFetched s t facts entry shape list) → given ≡ list → values_of given ≡ entry ∷ ring.values
-ring_entries s t facts entry shape list given ring are = ap values_of (are ∙ ring.listed) ∙ values_listed facts.get (entry ∷ ring.values)
+-- a put out of range: there are none
+pub nothing_fetched : (S : ℕ × ℕ → Type 0) (s : SideData) (facts : StreamFacts) (were : List (ℕ × ℕ)) → facts.areas.ring ≤ facts.put → FetchesCommand S s s facts were were (Err OutOfBounds)
+nothing_fetched S s facts were far =
+    let same : were ≡ were ++ [] = sym (append-nil were) in
+    let out = put_out_of_range [] facts far in
+    record {
+      adds = appends were [] were same;
+      fetches = subst (SideFetches S s s) (sym (added_is were [] were same)) (finds_none S s s refl);
+      copy = rw (added_is were [] were same) (record { places = sym out.1; verdict = out.0 });
+    }
 
-pub ring_headed : (s t : SideData) (facts : StreamFacts) (entry : ℕ) (shape : Shape) (list given : List (ℕ × ℕ)) → RingFetched s t facts entry shape list → given ≡ list → headed entry facts ≡ Ok shape → IsOkAnd (headed (slice_index (values_of given) 0) facts) (λ found. length given ≡ found.ring_words)
-ring_headed s t facts entry shape list given ring are head =
-    let same = ring_entries s t facts entry shape list given ring are in
-    let all : length given ≡ shape.ring_words = sym (length-map given (λ word. word.1)) ∙ ap length same ∙ ring.all in
-    rw same (rw head all)
+-- the header is not fetched
+pub none_some : {s t : SideData} (facts : StreamFacts) → t ≡ s → FetchesSome s t facts
+none_some {s = s} {t = t} facts same = record { words = []; rest = fetched_places [] facts; fetches = fetches_none s t same; first = refl }
 
-pub ring_part_some : (s m t : SideData) (facts : StreamFacts) (entry : ℕ) (shape : Shape) → Fetches s m ((facts.get, entry) ∷ []) → 1 ≤ shape.ring_words → FetchesRowInPart m t (facts.get + 1) (shape.ring_words - 1) → facts.put < facts.areas.ring → headed entry facts ≡ Ok shape → FetchesSome s t facts
-ring_part_some s m t facts entry shape header some part put head =
-    let few = part.some in
-    some_ring s t facts shape entry part.values put head (omega arith) (fetches_then s m t ((facts.get, entry) ∷ []) (words_at (facts.get + 1) part.values) header part.fetches)
+-- ---- the header of a command
 
-pub ring_refused : (s t : SideData) (facts : StreamFacts) (entry : ℕ) (shape : Shape) (list given : List (ℕ × ℕ)) (error : CmdError) → RingFetched s t facts entry shape list → given ≡ list → facts.put < facts.areas.ring → headed entry facts ≡ Ok shape → decoded (values_of given) facts ≡ Err error → IsCopy list facts (Err error)
-ring_refused s t facts entry shape list given error ring are put head decoding =
-    let same = ring_entries s t facts entry shape list given ring are in
-    rw ring.listed (entries_refused facts shape (entry ∷ ring.values) error put head ring.all (ap (λ values. decoded values facts) (sym same) ∙ decoding))
+module _ {S : ℕ × ℕ → Type 0} {s t : SideData} (facts : StreamFacts) {entry : ℕ} (header : SideFetches S s t ((facts.get, entry) ∷ [])) (put : facts.put < facts.areas.ring) where
+  -- it is refused
+  pub header_fetched : (were longer : List (ℕ × ℕ)) (error : CmdError) → longer ≡ were ++ (facts.get, entry) ∷ [] → Err error ≡ headed entry facts → FetchesCommand S s t facts were longer (Err error)
+  header_fetched were longer error push head =
+      let one : List (ℕ × ℕ) = (facts.get, entry) ∷ [] in
+      let is : items_since were longer ≡ one = added_is were one longer push in
+      record {
+        adds = appends were one longer push;
+        fetches = subst (SideFetches S s t) (sym is) header;
+        copy = rw is (header_refused facts entry error put (sym head));
+      }
 
--- the header alone
-pub header_fetched : (facts : StreamFacts) (list : List (ℕ × ℕ)) (entry : ℕ) (error : CmdError) → list ≡ (facts.get, entry) ∷ [] → facts.put < facts.areas.ring → headed entry facts ≡ Err error → IsCopy list facts (Err error)
-header_fetched facts list entry error is put head = rw is (header_refused facts entry error put head)
+  -- and no room is found for it
+  pub header_some : (error : CmdError) → Err error ≡ headed entry facts → FetchesSome s t facts
+  header_some error head = record {
+    words = (facts.get, entry) ∷ [];
+    rest = [];
+    fetches = header.fetches;
+    first = sym (header_refused facts entry error put (sym head)).places ∙ sym (append-nil (facts.get ∷ []));
+  }
 
--- and of a command that is refused by it
-pub header_some : (s t : SideData) (facts : StreamFacts) (entry : ℕ) (error : CmdError) → Fetches s t ((facts.get, entry) ∷ []) → facts.put < facts.areas.ring → headed entry facts ≡ Err error → FetchesSome s t facts
-header_some s t facts entry error fetches put head = record {
-  words = (facts.get, entry) ∷ [];
-  rest = [];
-  fetches = fetches;
-  first = sym (header_fetched facts ((facts.get, entry) ∷ []) entry error refl put head).places ∙ sym (append-nil (facts.get ∷ []));
-}
+  -- the other ring words are fetched in part, or no room is found for them
+  pub ring_part_some : (u : SideData) (shape : Shape) → Ok shape ≡ headed entry facts → 1 ≤ shape.ring_words → FetchesRowInPart t u (facts.get + 1) (shape.ring_words - 1) → FetchesSome s u facts
+  ring_part_some u shape head some part =
+      let few = part.some in
+      some_ring s u facts shape entry part.values put (sym head) (omega arith) (fetches_then header.fetches part.fetches)
+
+  pub header_alone : (shape : Shape) → Ok shape ≡ headed entry facts → 1 ≤ shape.ring_words → FetchesSome s t facts
+  header_alone shape head some = some_ring s t facts shape entry [] put (sym head) (omega arith) header.fetches
+
+-- ---- the ring words of a command
+
+-- all ring words of a command were fetched, and stand in a list
+pub record RingFetched (S : ℕ × ℕ → Type 0) (s t : SideData) (facts : StreamFacts) (entry : ℕ) (shape : Shape) (list : List (ℕ × ℕ)) : Type 0 where
+  pub values : List ℕ
+  pub all : length (entry ∷ values) ≡ shape.ring_words
+  pub fetches : SideFetches S s t (words_at facts.get (entry ∷ values))
+  pub listed : list ≡ words_at facts.get (entry ∷ values)
+  pub put : facts.put < facts.areas.ring
+  pub head : headed entry facts ≡ Ok shape
+
+-- after the words that a list had
+pub ring_onto : {S : ℕ × ℕ → Type 0} {s m t : SideData} {facts : StreamFacts} {entry : ℕ} {shape : Shape} (were pushed longer : List (ℕ × ℕ)) → SideFetches S s m ((facts.get, entry) ∷ []) → pushed ≡ were ++ (facts.get, entry) ∷ []
+    → 1 ≤ shape.ring_words → FetchesRow S m t (facts.get + 1) (shape.ring_words - 1) pushed longer → facts.put < facts.areas.ring → Ok shape ≡ headed entry facts → RingFetched S s t facts entry shape (items_since were longer)
+ring_onto {facts = facts} {entry = entry} were pushed longer header push some row put head =
+    let own = row_behind were ((facts.get, entry) ∷ []) push row in
+    record {
+      values = own.values;
+      all = (let n = own.all in omega arith);
+      fetches = finds_then header own.fetches;
+      listed = own.appended;
+      put = put;
+      head = sym head;
+    }
+
+module _ {S : ℕ × ℕ → Type 0} {s t : SideData} {facts : StreamFacts} {entry : ℕ} {shape : Shape} {list : List (ℕ × ℕ)} (ring : RingFetched S s t facts entry shape list) where
+  abbrev ringed : List (ℕ × ℕ)
+  ringed = words_at facts.get (entry ∷ ring.values)
+
+  -- the fetching stops here
+  pub rows_ring : (u : SideData) → u ≡ t → FetchesRows s u facts
+  rows_ring u same =
+      let first : value_in ringed facts.get ≡ entry = same_place facts.get entry (words_at (facts.get + 1) ring.values) in
+      let places : places_listed ringed ≡ ring_places facts shape = places_at facts.get (entry ∷ ring.values) ∙ ap (range_with_len facts.get) ring.all in
+      record {
+        words = ringed;
+        fetches = subst (λ (x : SideData). Fetches s x ringed) (sym same) ring.fetches.fetches;
+        rows = inr (inr (subst (λ (r : Result Shape CmdError). IsOkAnd r (λ found. places_listed ringed ≡ ring_places facts found)) (sym (ap (λ e. headed e facts) first ∙ ring.head)) places));
+      }
+
+  module _ {given : List (ℕ × ℕ)} (are : given ≡ list) where
+    -- the values of the words that the decoder is given
+    entries : values_of given ≡ entry ∷ ring.values
+    entries = ap values_of (are ∙ ring.listed) ∙ values_listed facts.get (entry ∷ ring.values)
+
+    pub ring_headed : IsOkAnd (headed (slice_index (values_of given) 0) facts) (λ found. length given ≡ found.ring_words)
+    ring_headed =
+        let all : length given ≡ shape.ring_words = sym (length-map given (λ word. word.1)) ∙ ap length entries ∙ ring.all in
+        rw entries (rw ring.head all)
+
+    -- the decoder refuses them
+    pub ring_refused : (were longer : List (ℕ × ℕ)) (error : CmdError) → longer ≡ were ++ list → Err error ≡ decoded (values_of given) facts → FetchesCommand S s t facts were longer (Err error)
+    ring_refused were longer error behind decoding =
+        let whole : items_since were longer ≡ ringed = added_is were list longer behind ∙ ring.listed in
+        record {
+          adds = appends were list longer behind;
+          fetches = subst (SideFetches S s t) (sym whole) ring.fetches;
+          copy = rw whole (entries_refused facts shape (entry ∷ ring.values) error ring.put ring.head ring.all (ap (λ values. decoded values facts) (sym entries) ∙ sym decoding));
+        }
+
+    module _ (found : Decoded) (decoding : Ok found ≡ decoded (values_of given) facts) where
+      seen : decoded (entry ∷ ring.values) facts ≡ Ok found
+      seen = ap (λ values. decoded values facts) (sym entries) ∙ sym decoding
+
+      -- the transfer words are fetched, too
+      pub command_fetched : (u : SideData) (were between longer : List (ℕ × ℕ)) → between ≡ were ++ list → FetchesRow S t u found.from found.count between longer → FetchesCommand S s u facts were longer (Ok found.command)
+      command_fetched u were between longer behind more =
+          let row = row_behind were list behind more in
+          let whole : items_since were longer ≡ ringed ++ words_at found.from row.values = row.appended ∙ ap (λ (l : List (ℕ × ℕ)). l ++ words_at found.from row.values) ring.listed in
+          record {
+            adds = row_appends were list behind more;
+            fetches = subst (SideFetches S s u) (sym whole) (finds_then ring.fetches row.fetches);
+            copy = rw whole (command_copied facts shape (entry ∷ ring.values) found row.values ring.put ring.head ring.all seen row.all);
+          }
+
+      -- or in part
+      pub transfer_some : (u : SideData) → FetchesRowInPart t u found.from found.count → FetchesSome s u facts
+      transfer_some u part = some_transfer s u facts shape entry ring.values found part.values ring.put ring.head ring.all seen part.some (fetches_then ring.fetches.fetches part.fetches)
 
 -- ---- where the fetching stops between two rows
 
-pub rows_header : (s t u : SideData) (facts : StreamFacts) (entry : ℕ) → Fetches s t ((facts.get, entry) ∷ []) → u ≡ t → FetchesRows s u facts
-rows_header s t u facts entry fetches same = record {
+pub rows_header : {s t : SideData} (facts : StreamFacts) {entry : ℕ} (u : SideData) → Fetches s t ((facts.get, entry) ∷ []) → u ≡ t → FetchesRows s u facts
+rows_header {s = s} facts {entry = entry} u fetches same = record {
   words = (facts.get, entry) ∷ [];
   fetches = subst (λ (x : SideData). Fetches s x ((facts.get, entry) ∷ [])) (sym same) fetches;
   rows = inr (inl refl);
 }
-
-pub rows_ring : (s t u : SideData) (facts : StreamFacts) (entry : ℕ) (shape : Shape) (list : List (ℕ × ℕ)) → RingFetched s t facts entry shape list → u ≡ t → headed entry facts ≡ Ok shape → FetchesRows s u facts
-rows_ring s t u facts entry shape list ring same head =
-    let words : List (ℕ × ℕ) = words_at facts.get (entry ∷ ring.values) in
-    let first : value_in words facts.get ≡ entry = same_place facts.get entry (words_at (facts.get + 1) ring.values) in
-    let places : places_listed words ≡ ring_places facts shape = places_at facts.get (entry ∷ ring.values) ∙ ap (range_with_len facts.get) ring.all in
-    record {
-      words = words;
-      fetches = subst (λ (x : SideData). Fetches s x words) (sym same) ring.fetches;
-      rows = inr (inr (subst (λ (r : Result Shape CmdError). IsOkAnd r (λ found. places_listed words ≡ ring_places facts found)) (sym (ap (λ e. headed e facts) first ∙ head)) places));
-    }
-
--- ---- all words of a command
-
-pub command_fetched : (s t u : SideData) (facts : StreamFacts) (entry : ℕ) (shape : Shape) (list longer : List (ℕ × ℕ)) (found : Decoded) → RingFetched s t facts entry shape list → FetchesRow t u found.from found.count list longer → Fetches s u longer
-command_fetched s t u facts entry shape list longer found ring row =
-    let ringed = words_at facts.get (entry ∷ ring.values) in
-    let whole : longer ≡ ringed ++ words_at found.from row.values = row.appended ∙ ap (λ (l : List (ℕ × ℕ)). l ++ words_at found.from row.values) ring.listed in
-    subst (λ (l : List (ℕ × ℕ)). Fetches s u l) (sym whole) (fetches_then s t u ringed (words_at found.from row.values) ring.fetches row.fetches)
-
-pub command_accepted : (s t u : SideData) (facts : StreamFacts) (entry : ℕ) (shape : Shape) (list longer given : List (ℕ × ℕ)) (found : Decoded) → RingFetched s t facts entry shape list → given ≡ list → FetchesRow t u found.from found.count list longer → facts.put < facts.areas.ring → headed entry facts ≡ Ok shape → decoded (values_of given) facts ≡ Ok found → IsCopy longer facts (Ok found.command)
-command_accepted s t u facts entry shape list longer given found ring are row put head decoding =
-    let same = ring_entries s t facts entry shape list given ring are in
-    let whole : longer ≡ words_at facts.get (entry ∷ ring.values) ++ words_at found.from row.values = row.appended ∙ ap (λ (l : List (ℕ × ℕ)). l ++ words_at found.from row.values) ring.listed in
-    rw whole (command_copied facts shape (entry ∷ ring.values) found row.values put head ring.all (ap (λ values. decoded values facts) (sym same) ∙ decoding) row.all)
-
-pub transfer_some : (s t u : SideData) (facts : StreamFacts) (entry : ℕ) (shape : Shape) (list given : List (ℕ × ℕ)) (found : Decoded) → RingFetched s t facts entry shape list → given ≡ list → FetchesRowInPart t u found.from found.count → facts.put < facts.areas.ring → headed entry facts ≡ Ok shape → decoded (values_of given) facts ≡ Ok found → FetchesSome s u facts
-transfer_some s t u facts entry shape list given found ring are part put head decoding =
-    let same = ring_entries s t facts entry shape list given ring are in
-    some_transfer s u facts shape entry ring.values found part.values put head ring.all (ap (λ values. decoded values facts) (sym same) ∙ decoding) part.some (fetches_then s t u (words_at facts.get (entry ∷ ring.values)) (words_at found.from part.values) ring.fetches part.fetches)
-
-pub nothing_fetched : (facts : StreamFacts) (list : List (ℕ × ℕ)) → list ≡ [] → facts.areas.ring ≤ facts.put → IsCopy list facts (Err OutOfBounds)
-nothing_fetched facts list none far = let out = put_out_of_range [] facts far in rw none (record { places = sym out.1; verdict = out.0 })

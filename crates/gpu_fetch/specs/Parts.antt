@@ -11,4 +11,4 @@ words_of_parts (part ∷ more) = part.count + words_of_parts more
 -- what was fetched of each: the first has the first words of the list, and each further one those after
 abbrev pub parts_of : List (ℕ × ℕ) → List FetchedPart → List FetchedData
 parts_of list [] = []
-parts_of list (part ∷ more) = record { words = take part.count list; verdict = part.verdict; facts = part.facts.facts } ∷ parts_of (drop part.count list) more
+parts_of list (part ∷ more) = record { words = take part.count list; verdict = part.verdict; facts = part.facts.value } ∷ parts_of (drop part.count list) more

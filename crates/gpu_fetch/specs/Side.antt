@@ -54,6 +54,17 @@ pub record Fetches (old new : SideData) (words : List (ℕ × ℕ)) : Type 0 whe
   pub grows : new ≡ with_words old words
   pub may : All (MayFetch old) words
 
+-- the same, and a fetch finds each of them
+pub record SideFetches (Shows : ℕ × ℕ → Type 0) (old new : SideData) (words : List (ℕ × ℕ)) : Type 0 where
+  pub fetches : Fetches old new words
+  pub shows : All Shows words
+
+-- what the calls on a side keep: it belongs with its words, and so does every note that did
+module _ {Side Note Words : Type 0} (belongs : Side → Words → Type 0) (note_belongs : Side → Words → Note → Type 0) where
+  pub record StillBelongs (words : Words) (old new : Side) : Type 0 where
+    pub beside : belongs new words
+    pub notes : (note : Note) → note_belongs old words note → note_belongs new words note
+
 -- a known list has members more; an unknown one stays so
 abbrev pub told_more : Option (List Written) → List Written → Option (List Written)
 told_more told more = option_map (λ list. list ++ more) told

@@ -1,9 +1,7 @@
-ghost use Rattle.std.specs.Prelude.{◌≡◌, ◌≢◌, ◌+◌, ◌≤◌, ◌<◌, ◌^◌, ◌⊎◌, ◌++◌, IfOk, IfErr, OnOk};
-ghost use Rattle.std.specs.List.{All};
-ghost use Rattle.gpu_cmd.specs.Copied.{IsCopy};
+ghost use Rattle.std.specs.Prelude.{◌≡◌, ◌≢◌, ◌+◌, ◌≤◌, ◌<◌, ◌^◌, ◌⊎◌, IfOk, IfErr, OnOk};
 ghost use Rattle.gpu_cmd.specs.Lawful.{IsLawfulFacts, places_of};
-ghost use Rattle.gpu_fetch.specs.Side.{Fetches};
-ghost use Rattle.gpu_fetch.specs.Fetched.{items_since, FetchesRow, FetchesRowInPart, FetchesSome, FetchesRows};
+ghost use Rattle.gpu_fetch.specs.Side.{StillBelongs};
+ghost use Rattle.gpu_fetch.specs.Fetched.{FetchesCommand, FetchesRow, FetchesRowInPart, FetchesSome, FetchesRows};
 
 use crate::side::ServiceSide;
 use gpu_cmd::{CmdError, Command, StreamFacts, decode, head};
@@ -23,15 +21,12 @@ fn fetch_row<P: ServiceSide>(
     requires few { from + count < 2 ^ 32 }
 
     ensures row { OnOk result
-        (FetchesRow (P.side side.old) (P.side side.new) from count list.old.items list.new.items) }
-    ensures shows { OnOk result
-        (All (P.shows words.now) (items_since list.old.items list.new.items)) }
+        (FetchesRow (P.shows words.now) (P.side side.old) (P.side side.new) from count
+        list.old.items list.new.items) }
     ensures whole { IfErr result (λ _. P.wants ⊎ (P.side side.new ≡ P.side side.old)) }
     ensures part { IfErr result
         (λ _. FetchesRowInPart (P.side side.old) (P.side side.new) from count) }
-    ensures belongs { P.belongs side.new words.now }
-    ensures notes { (n : P.Note) → P.note_belongs side.old words.now n
-        → P.note_belongs side.new words.now n }
+    ensures still { StillBelongs P.belongs P.note_belongs words.now side.old side.new }
     ensures table { P.table side.new ≡ P.table side.old }
 {
     list.reserve(count as usize)?;
@@ -61,20 +56,13 @@ pub fn fetch_onto<P: ServiceSide>(
     requires more { facts.now.get ≢ facts.now.put }
     requires areas { facts.now.areas ≡ (P.side side.old).plan.areas }
 
-    ensures adds { IfOk result
-        (λ _. list.new.items ≡ list.old.items ++ items_since list.old.items list.new.items) }
     ensures fetches { IfOk result
-        (λ _. Fetches (P.side side.old) (P.side side.new)
-        (items_since list.old.items list.new.items)) }
-    ensures shows { IfOk result
-        (λ _. All (P.shows words.now) (items_since list.old.items list.new.items)) }
-    ensures copy { IfOk result (IsCopy (items_since list.old.items list.new.items) facts.now) }
+        (FetchesCommand (P.shows words.now) (P.side side.old) (P.side side.new) facts.now
+        list.old.items list.new.items) }
     ensures some { IfErr result (λ _. FetchesSome (P.side side.old) (P.side side.new) facts.now) }
     ensures rows { IfErr result
         (λ _. P.wants ⊎ FetchesRows (P.side side.old) (P.side side.new) facts.now) }
-    ensures belongs { P.belongs side.new words.now }
-    ensures notes { (n : P.Note) → P.note_belongs side.old words.now n
-        → P.note_belongs side.new words.now n }
+    ensures still { StillBelongs P.belongs P.note_belongs words.now side.old side.new }
     ensures table { P.table side.new ≡ P.table side.old }
 {
     if facts.put >= facts.areas.ring {

@@ -3,17 +3,20 @@ ghost use Rattle.std.specs.List.Sorted.{IsStrictlyIncreasing};
 ghost use Rattle.gpu_cmd.specs.Lawful.{IsLawfulFacts};
 ghost use Rattle.gpu_cmd.specs.Copied.{IsCopy, copied, fetched_places, places_listed};
 
-use crate::seen_facts::SeenFacts;
-use gpu_cmd::{CmdError, Command};
+use gpu_cmd::{CmdError, Command, StreamFacts};
 use std::marker::Model;
+use std::snapshot::Snapshot;
 
 /// What was fetched of a command: its words, each once and in order, and the verdict of checks 1 to 10 on them. Contracts see
 /// the facts of the stream beside it, which the verdict rests on: they are lawful, and `get` is not `put`.
-#[derive(Debug, Drop)]
+#[derive(Drop)]
+#[derive_where(Debug)]
 pub struct Fetched<'a> {
     words: &'a [(u32, u32)],
     verdict: &'a Result<Command, CmdError>,
-    facts: SeenFacts,
+    // A snapshot has no copy, so this is one of the snapshot that `of` is given.
+    #[derive_where(skip)]
+    facts: Snapshot<Snapshot<StreamFacts>>,
 }
 
 impl<'a> Model for Fetched<'a> {
@@ -22,10 +25,10 @@ impl<'a> Model for Fetched<'a> {
     ghost Value = { FetchedData };
 
     ghost view = { λ f.
-        record { words = f.words.now; verdict = f.verdict.now; facts = f.facts.facts } };
+        record { words = f.words.now; verdict = f.verdict.now; facts = f.facts.value.value } };
 
     ghost invariant = { λ f. IsFetched
-        (record { words = f.words.now; verdict = f.verdict.now; facts = f.facts.facts }) };
+        (record { words = f.words.now; verdict = f.verdict.now; facts = f.facts.value.value }) };
 }
 
 impl<'a> Fetched<'a> {
@@ -33,22 +36,22 @@ impl<'a> Fetched<'a> {
     pub fn of(
         words: &'a [(u32, u32)],
         verdict: &'a Result<Command, CmdError>,
-        facts: SeenFacts,
+        facts: &Snapshot<StreamFacts>,
     ) -> Fetched<'a>
-        requires lawful { IsLawfulFacts facts.facts }
-        requires more { facts.facts.get ≢ facts.facts.put }
-        requires copy { IsCopy words.now facts.facts verdict.now }
+        requires lawful { IsLawfulFacts facts.now.value }
+        requires more { facts.now.value.get ≢ facts.now.value.put }
+        requires copy { IsCopy words.now facts.now.value verdict.now }
 
         ensures is { result
-            ≡ record { words = words.now; verdict = verdict.now; facts = facts.facts } }
-        ensures places { places_listed result.words ≡ fetched_places result.words facts.facts }
+            ≡ record { words = words.now; verdict = verdict.now; facts = facts.now.value } }
+        ensures places { places_listed result.words ≡ fetched_places result.words facts.now.value }
         ensures once { IsStrictlyIncreasing (places_listed result.words) }
-        ensures verdict { copied result.words facts.facts ≡ result.verdict }
+        ensures verdict { copied result.words facts.now.value ≡ result.verdict }
     {
         Fetched {
             words,
             verdict,
-            facts,
+            facts: Snapshot::of(facts),
         }
     }
 

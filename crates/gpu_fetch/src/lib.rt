@@ -21,7 +21,7 @@
 //! Notes:
 //! - The facts that a verdict rests on are data of contracts alone, so what was fetched is its words and their verdict.
 //! - A note of plain words is its mark alone, and plain words and their side keep no copy of the plan. Their list of
-//!   fetches is data of contracts alone, which no code reads. The calls that make it are proved by hand.
+//!   fetches is data of contracts alone, which no code reads. The calls that make that list are proved by hand.
 //! - Where memory runs out, a word that is missing counts as 0 among the places that must be fetched.
 //! - A list of results that is not told stays untold, whatever is written.
 #![tactic(auto)]
@@ -30,7 +30,6 @@ mod fetch;
 mod fetched;
 mod fetched_part;
 mod plain;
-mod seen_facts;
 mod shared;
 mod side;
 
@@ -38,5 +37,4 @@ pub use fetch::fetch_onto;
 pub use fetched::Fetched;
 pub use fetched_part::FetchedPart;
 pub use plain::{PlainNote, PlainPass, PlainWords};
-pub use seen_facts::SeenFacts;
 pub use side::ServiceSide;

@@ -1,6 +1,5 @@
 mod list;
 mod pass;
-mod seen_plan;
 mod words;
 
 pub use pass::PlainPass;

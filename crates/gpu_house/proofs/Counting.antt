@@ -1,12 +1,19 @@
 -- The finishes among what was written to the results of a stream are those of the journal.
-use Rattle.std.proofs.Common.{◌≡◌, ℕ, ◌+◌, eqb, Bool, true, false, cond, List, [], ◌∷◌, ◌++◌, Option, Some, None, refl, sym, ap, subst, ◌∙◌, arith}
+use Rattle.std.proofs.Common.{◌≡◌, ℕ, ◌+◌, ◌≤◌, length, eqb, Bool, true, false, cond, List, [], ◌∷◌, ◌++◌, Option, Some, None, refl, sym, ap, subst, ◌∙◌, arith}
 use Rattle.std.specs.Prelude.{IfSome}
 use Rattle.std.proofs.lemmas.List.Sums.{sum_by-cons}
 use Rattle.gpu_word.specs.Results.{Written, is_finish, finishes_in, writes_listed}
 use Rattle.gpu_word.specs.Results.{Write, Finish as finish}
 use Rattle.gpu_word.proofs.Written.{finishes_of_both}
 use Rattle.gpu_plan.specs.Plans.{PlansData, plan_of}
+use Rattle.gpu_plan.proofs.Passing.{flushes_within}
 use Rattle.gpu_fetch.specs.Side.{told_more}
+use Rattle.sync_core.specs.Standing.{IsKnown}
+use Rattle.serial_laws.proofs.Flushes.{flushes_end}
+use Rattle.serial_laws.proofs.Passed.{lawful_of}
+use Rattle.serial_laws.proofs.Fronts.{counts_within}
+use Rattle.house_core.specs.Core.{CoreData}
+use Rattle.house_core.specs.Invariant.{IsCore}
 use Rattle.stream_state.specs.Steps.{writes}
 use Rattle.gpu_journal.specs.declared.event.Event.{Event}
 use Rattle.gpu_journal.specs.declared.event.Event.TheVariants.{Order, Step, Finish, Lost, Close}
@@ -14,6 +21,19 @@ use Rattle.gpu_journal.specs.World.{World, Known, world, stream_in, known, known
 use Rattle.gpu_journal.specs.Written.{written, written_by}
 use Rattle.gpu_journal.proofs.Worlds.{world_none, known_then}
 use Rattle.gpu_journal.proofs.Folding.{written_none, written_then}
+
+-- a stream has no more finishes than its plan has actions, which are few
+pub few_finishes : (core : CoreData) (s : ℕ) → IsCore core → IsKnown (length core.plans.plans) s → (known core.plans core.past s).finished ≤ 1000000
+few_finishes core s is = subst (λ (v : CoreData). IsKnown (length v.plans.plans) s → (known v.plans v.past s).finished ≤ 1000000) is.shown few
+  where
+    few : IsKnown (length is.parts.plans.plans) s → (known is.parts.plans is.parts.past s).finished ≤ 1000000
+    few there =
+        let actions = (plan_of is.parts.plans s).actions in
+        let counts = counts_within is.parts.plans is.parts.past s is.kept.legal in
+        let most = (lawful_of is.parts.plans s is.kept.lawful there).few in
+        let all = flushes_end actions (length actions) (omega arith) in
+        let within = flushes_within actions (length actions) in
+        omega (arith, counts.0, counts.1, most, all, within)
 
 -- what a member counts
 abbrev counts : Written → ℕ

@@ -2,7 +2,6 @@
 use Rattle.std.proofs.Common.{◌≡◌, ℕ, zero, suc, ◌+◌, ◌-◌, ◌<◌, ◌≤◌, List, [], ◌∷◌, length, take, drop, get_or, refl, sym, ap, ◌∙◌, subst, arith, length-append}
 use Rattle.std.specs.List.{All}
 use Rattle.std.proofs.lemmas.List.{length-drop, length-take-le, drop-drop}
-use Rattle.gpu_cmd.specs.declared.facts.StreamFacts.{StreamFacts}
 use Rattle.gpu_fetch.specs.declared.fetched_part.FetchedPart.{FetchedPart}
 use Rattle.gpu_fetch.specs.Fetched.{FetchedData, IsFetched}
 use Rattle.gpu_fetch.specs.Parts.{words_of_parts, parts_of}
@@ -12,14 +11,14 @@ use Rattle.gpu_house.proofs.Members.{parts_long}
 -- it ends within the list, and what was fetched of it is cut from there
 pub record IsCut (list : List (ℕ × ℕ)) (parts : List FetchedPart) (i from : ℕ) (part : FetchedPart) (member : FetchedData) : Type 0 where
   pub ends : from + part.count ≤ length list
-  pub is : get_or (parts_of list parts) i member ≡ record { words = take part.count (drop from list); verdict = part.verdict; facts = part.facts.facts }
+  pub is : get_or (parts_of list parts) i member ≡ record { words = take part.count (drop from list); verdict = part.verdict; facts = part.facts.value }
 
 pub cut_at : (list : List (ℕ × ℕ)) (parts : List FetchedPart) (i from : ℕ) (d : FetchedPart) (member : FetchedData) → i < length parts → from ≡ length (batch_words (take i (parts_of list parts))) → words_of_parts parts ≡ length list
     → IsCut list parts i from (get_or parts i d) member
 cut_at list [] i from d member within at all = absurd (omega (arith, within))
 cut_at list (p ∷ ps) zero from d member within at all = record {
   ends = omega (arith, at, all);
-  is = ap (λ (n : ℕ). record { words = take p.count (drop n list); verdict = p.verdict; facts = p.facts.facts }) (sym at);
+  is = ap (λ (n : ℕ). record { words = take p.count (drop n list); verdict = p.verdict; facts = p.facts.value }) (sym at);
 }
 cut_at list (p ∷ ps) (suc i) from d member within at all =
     let left : List (ℕ × ℕ) = drop p.count list in
@@ -31,7 +30,7 @@ cut_at list (p ∷ ps) (suc i) from d member within at all =
     let rest = cut_at left ps i (length before) d member (omega (arith, within)) refl (omega (arith, all, long)) in
     record {
       ends = (let ends = rest.ends in omega (arith, ends, behind, long, all));
-      is = rest.is ∙ ap (λ (l : List (ℕ × ℕ)). record { words = take part.count l; verdict = part.verdict; facts = part.facts.facts }) (drop-drop (length before) p.count list ∙ ap (λ (n : ℕ). drop n list) (sym behind));
+      is = rest.is ∙ ap (λ (l : List (ℕ × ℕ)). record { words = take part.count l; verdict = part.verdict; facts = part.facts.value }) (drop-drop (length before) p.count list ∙ ap (λ (n : ℕ). drop n list) (sym behind));
     }
 
 -- ---- of a batch, as contracts see it
@@ -50,17 +49,16 @@ module _ (list : List (ℕ × ℕ)) (parts : List FetchedPart) (members : List F
 
     -- its words are within the list that is read
     pub cut_ends : from + part.count ≤ length read
-    cut_ends = let ends = (cut record { words = []; verdict = part.verdict; facts = part.facts.facts }).ends in let long = ap length same in omega (arith, ends, long)
+    cut_ends = let ends = (cut record { words = []; verdict = part.verdict; facts = part.facts.value }).ends in let long = ap length same in omega (arith, ends, long)
 
-    pub cut_read : (member : FetchedData) (facts : StreamFacts) → facts ≡ part.facts.facts → get_or members i member ≡ record { words = take (from + part.count - from) (drop from read); verdict = part.verdict; facts = facts }
-    cut_read member facts its =
+    pub cut_read : (member : FetchedData) → get_or members i member ≡ record { words = take (from + part.count - from) (drop from read); verdict = part.verdict; facts = part.facts.value }
+    cut_read member =
         let words : take part.count (drop from list) ≡ take (from + part.count - from) (drop from read) =
         ap (λ (l : List (ℕ × ℕ)). take part.count (drop from l)) (sym same) ∙ ap (λ (n : ℕ). take n (drop from read)) {x = part.count} {y = from + part.count - from} (omega arith) in
         ap (λ (l : List FetchedData). get_or l i member) (sym view) ∙ (cut member).is
-        ∙ ap (λ (l : List (ℕ × ℕ)). record { words = l; verdict = part.verdict; facts = part.facts.facts }) words
-        ∙ ap (λ (f : StreamFacts). record { words = take (from + part.count - from) (drop from read); verdict = part.verdict; facts = f }) (sym its)
+        ∙ ap (λ (l : List (ℕ × ℕ)). record { words = l; verdict = part.verdict; facts = part.facts.value }) words
 
-    pub cut_fetched : (facts : StreamFacts) → facts ≡ part.facts.facts → All IsFetched (parts_of list parts) → IsFetched record { words = take (from + part.count - from) (drop from read); verdict = part.verdict; facts = facts }
-    cut_fetched facts its copies =
-        let member : FetchedData = record { words = []; verdict = part.verdict; facts = facts } in
-        subst IsFetched (cut_read member facts its) (subst (All IsFetched) view copies i member within)
+    pub cut_fetched : All IsFetched (parts_of list parts) → IsFetched record { words = take (from + part.count - from) (drop from read); verdict = part.verdict; facts = part.facts.value }
+    cut_fetched copies =
+        let member : FetchedData = record { words = []; verdict = part.verdict; facts = part.facts.value } in
+        subst IsFetched (cut_read member) (subst (All IsFetched) view copies i member within)

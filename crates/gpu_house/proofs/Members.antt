@@ -9,19 +9,18 @@ use Rattle.std.proofs.lemmas.List.Elements.{All-nil, All-cons, All-append}
 use Rattle.atomic_table.specs.Seated.{TableId}
 use Rattle.gpu_word.specs.Header.{size_of}
 use Rattle.gpu_cmd.specs.declared.command.Command.{Command}
-use Rattle.gpu_cmd.specs.declared.error.CmdError.{CmdError}
 use Rattle.gpu_cmd.specs.declared.facts.StreamFacts.{StreamFacts}
-use Rattle.gpu_cmd.specs.Copied.{value_in, copied, fetched_places, places_listed, IsCopy}
+use Rattle.gpu_cmd.specs.Copied.{value_in, fetched_places, places_listed, IsCopy}
 use Rattle.gpu_cmd.specs.Lawful.{IsLawfulFacts}
 use Rattle.gpu_cmd.specs.Laws.{LeavesRoom}
 use Rattle.gpu_cmd.proofs.Fitting.{accepted_leaves_room}
 use Rattle.gpu_plan.specs.Plans.{PlansData}
 use Rattle.gpu_plan.proofs.Dumps.{found_behind}
-use Rattle.gpu_fetch.specs.Side.{SideData, Fetches}
+use Rattle.gpu_fetch.specs.Side.{SideData, SideFetches}
 use Rattle.gpu_fetch.specs.declared.fetched_part.FetchedPart.{FetchedPart}
-use Rattle.gpu_fetch.specs.Fetched.{FetchedData, items_since, IsFetched, FetchesSome}
+use Rattle.gpu_fetch.specs.Fetched.{FetchedData, items_since, IsFetched, FetchesCommand, FetchesSome}
 use Rattle.gpu_fetch.specs.Parts.{words_of_parts, parts_of}
-use Rattle.gpu_fetch.proofs.Fetching.{fetches_none, fetches_then}
+use Rattle.gpu_fetch.proofs.Fetching.{fetches_then, finds_none, finds_then}
 use Rattle.gpu_fetch.proofs.Cutting.{parts_more, words_whole}
 use Rattle.stream_state.specs.Steps.{header_in}
 use Rattle.stream_state.proofs.Accepting.{told, says}
@@ -107,96 +106,86 @@ ends_exactly members member few goes_on ends =
 
 -- ---- members that were fetched so far, at none of which the batch ends
 
-pub record Gathered (old new : SideData) (first next : StreamFacts) (members : List FetchedData) : Type 0 where
+pub record Gathered (S : ℕ × ℕ → Type 0) (old new : SideData) (first next : StreamFacts) (members : List FetchedData) : Type 0 where
   pub few : length members < most_members
   pub chained : AreChained first members
   pub copies : All IsFetched members
   pub goes_on : All (λ member. is_last member ≡ false) members
-  pub whole : Fetches old new (batch_words members)
+  pub whole : SideFetches S old new (batch_words members)
   pub next_is : next ≡ facts_behind first (member_words members)
   pub lawful : IsLawfulFacts next
   pub more : next.get ≢ next.put
   pub areas : next.areas ≡ new.plan.areas
 
-pub gathered_none : (old : SideData) (facts : StreamFacts) → IsLawfulFacts facts → facts.get ≢ facts.put → facts.areas ≡ old.plan.areas → Gathered old old facts facts []
-gathered_none old facts lawful more areas = record {
+pub gathered_none : (S : ℕ × ℕ → Type 0) (old : SideData) (facts : StreamFacts) → IsLawfulFacts facts → facts.get ≢ facts.put → facts.areas ≡ old.plan.areas → Gathered S old old facts facts []
+gathered_none S old facts lawful more areas = record {
   few = omega arith;
   chained = tt;
   copies = All-nil IsFetched;
   goes_on = All-nil (λ (m : FetchedData). is_last m ≡ false);
-  whole = fetches_none old old refl;
+  whole = finds_none S old old refl;
   next_is = refl;
   lawful = lawful;
   more = more;
   areas = areas;
 }
 
--- a further command was not fetched whole
-pub gathered_part : (old between new : SideData) (first next : StreamFacts) (members : List FetchedData) → Gathered old between first next members → FetchesSome between new next → FetchesInPart old new first
-gathered_part old between new first next members were some = record {
-  members = members;
-  between = between;
-  few = were.few;
-  chained = were.chained;
-  copies = were.copies;
-  goes_on = were.goes_on;
-  whole = were.whole;
-  part = subst (FetchesSome between new) were.next_is some;
-}
-
 -- the side fetched one command more
-pub record Fetched (between new : SideData) (next : StreamFacts) (member : FetchedData) : Type 0 where
+pub record Fetched (S : ℕ × ℕ → Type 0) (between new : SideData) (next : StreamFacts) (member : FetchedData) : Type 0 where
   pub facts : member.facts ≡ next
-  pub fetches : Fetches between new member.words
+  pub fetches : SideFetches S between new member.words
   pub copy : IsCopy member.words member.facts member.verdict
 
-pub fetched_one : (between new : SideData) (next : StreamFacts) (member : FetchedData) → member.facts ≡ next → Fetches between new member.words → places_listed member.words ≡ fetched_places member.words next → copied member.words next ≡ member.verdict → Fetched between new next member
-fetched_one between new next member facts fetches places verdict = record {
-  facts = facts;
-  fetches = fetches;
-  copy = subst (λ (f : StreamFacts). IsCopy member.words f member.verdict) (sym facts) record { places = places; verdict = verdict };
-}
-
-module _ (old between new : SideData) (first next : StreamFacts) (members : List FetchedData) (member : FetchedData) (were : Gathered old between first next members) (one : Fetched between new next member) where
-  pub whole_more : Fetches old new (batch_words (members ++ member ∷ []))
-  whole_more = subst (Fetches old new) (sym (batch_words_more members member)) (fetches_then old between new (batch_words members) member.words were.whole one.fetches)
-
-  pub links_more : AreChained first (members ++ member ∷ [])
-  links_more = chained_more first members member were.chained (one.facts ∙ were.next_is)
-
-  pub copies_more : All IsFetched (members ++ member ∷ [])
-  copies_more = all_more IsFetched members member were.copies record {
-    lawful = subst IsLawfulFacts (sym one.facts) were.lawful;
-    more = subst (λ (f : StreamFacts). f.get ≢ f.put) (sym one.facts) were.more;
-    copy = one.copy;
+module _ {S : ℕ × ℕ → Type 0} {old between : SideData} {first next : StreamFacts} {members : List FetchedData} (were : Gathered S old between first next members) (new : SideData) where
+  -- a further command was not fetched whole
+  pub gathered_part : FetchesSome between new next → FetchesInPart old new first
+  gathered_part some = record {
+    members = members;
+    between = between;
+    few = were.few;
+    chained = were.chained;
+    copies = were.copies;
+    goes_on = were.goes_on;
+    whole = were.whole.fetches;
+    part = subst (FetchesSome between new) were.next_is some;
   }
 
-  -- a batch does not end at it
-  pub gathered_more : (behind : StreamFacts) → behind ≡ facts_after member.facts member.words → IsLawfulFacts behind → behind.get ≢ behind.put → is_last member ≡ false → length members + 1 < most_members → Gathered old new first behind (members ++ member ∷ [])
-  gathered_more behind is lawful more goes_on few = record {
-    few = (let long = length-append members (member ∷ []) in omega (arith, long, few));
-    chained = links_more;
-    copies = copies_more;
-    goes_on = all_more (λ (m : FetchedData). is_last m ≡ false) members member were.goes_on goes_on;
-    whole = whole_more;
-    next_is = is ∙ ap (λ (f : StreamFacts). facts_after f member.words) (one.facts ∙ were.next_is) ∙ sym (behind_more first (member_words members) member.words) ∙ ap (facts_behind first) (sym (member_words_more members member));
-    lawful = lawful;
-    more = more;
-    areas = ap (λ (f : StreamFacts). f.areas) is ∙ ap (λ (f : StreamFacts). f.areas) one.facts ∙ were.areas ∙ ap (λ (s : SideData). s.plan.areas) (sym one.fetches.grows);
-  }
+  module _ (member : FetchedData) (one : Fetched S between new next member) where
+    pub whole_more : SideFetches S old new (batch_words (members ++ member ∷ []))
+    whole_more = subst (SideFetches S old new) (sym (batch_words_more members member)) (finds_then were.whole one.fetches)
 
-  -- the facts of each word are facts of its words
-  pub shown_more : (S : ℕ × ℕ → Type 0) → All S (batch_words members) → All S member.words → All S (batch_words (members ++ member ∷ []))
-  shown_more S all of_it = subst (All S) (sym (batch_words_more members member)) (All-append S (batch_words members) member.words all of_it)
+    pub links_more : AreChained first (members ++ member ∷ [])
+    links_more = chained_more first members member were.chained (one.facts ∙ were.next_is)
 
-  -- it was fetched, and no room is found for it
-  pub gathered_lost : FetchesInPart old new first
-  gathered_lost = gathered_part old between new first next members were record {
-    words = member.words;
-    rest = [];
-    fetches = one.fetches;
-    first = subst (λ (f : StreamFacts). fetched_places member.words f ≡ places_listed member.words ++ []) one.facts (sym one.copy.places ∙ sym (append-nil (places_listed member.words)));
-  }
+    pub copies_more : All IsFetched (members ++ member ∷ [])
+    copies_more = all_more IsFetched members member were.copies record {
+      lawful = subst IsLawfulFacts (sym one.facts) were.lawful;
+      more = subst (λ (f : StreamFacts). f.get ≢ f.put) (sym one.facts) were.more;
+      copy = one.copy;
+    }
+
+    -- a batch does not end at it
+    pub gathered_more : (behind : StreamFacts) → behind ≡ facts_after member.facts member.words → IsLawfulFacts behind → behind.get ≢ behind.put → is_last member ≡ false → length members + 1 < most_members → Gathered S old new first behind (members ++ member ∷ [])
+    gathered_more behind is lawful more goes_on few = record {
+      few = (let long = length-append members (member ∷ []) in omega (arith, long, few));
+      chained = links_more;
+      copies = copies_more;
+      goes_on = all_more (λ (m : FetchedData). is_last m ≡ false) members member were.goes_on goes_on;
+      whole = whole_more;
+      next_is = is ∙ ap (λ (f : StreamFacts). facts_after f member.words) (one.facts ∙ were.next_is) ∙ sym (behind_more first (member_words members) member.words) ∙ ap (facts_behind first) (sym (member_words_more members member));
+      lawful = lawful;
+      more = more;
+      areas = ap (λ (f : StreamFacts). f.areas) is ∙ ap (λ (f : StreamFacts). f.areas) one.facts ∙ were.areas ∙ ap (λ (s : SideData). s.plan.areas) (sym one.fetches.fetches.grows);
+    }
+
+    -- it was fetched, and no room is found for it
+    pub gathered_lost : FetchesInPart old new first
+    gathered_lost = gathered_part record {
+      words = member.words;
+      rest = [];
+      fetches = one.fetches.fetches;
+      first = subst (λ (f : StreamFacts). fetched_places member.words f ≡ places_listed member.words ++ []) one.facts (sym one.copy.places ∙ sym (append-nil (places_listed member.words)));
+    }
 
 -- ---- a command whose words stand after those of the others
 
@@ -206,67 +195,65 @@ parts_long list [] = refl
 parts_long list (part ∷ parts) = ap suc (parts_long (drop part.count list) parts)
 
 -- one command more was fetched onto the list, and is reported after the others
-pub record IsOneMore (old between new : SideData) (first next : StreamFacts) (list longer : List (ℕ × ℕ)) (parts again : List FetchedPart) (verdict : Result Command CmdError) (count : ℕ) : Type 0 where
-  pub were : Gathered old between first next (parts_of list parts)
+pub record IsOneMore (S : ℕ × ℕ → Type 0) (old between new : SideData) (first next : StreamFacts) (list longer : List (ℕ × ℕ)) (parts again : List FetchedPart) (part : FetchedPart) : Type 0 where
+  pub were : Gathered S old between first next (parts_of list parts)
   pub full : words_of_parts parts ≡ length list
-  pub adds : longer ≡ list ++ items_since list longer
-  pub fetches : Fetches between new (items_since list longer)
-  pub copy : IsCopy (items_since list longer) next verdict
-  pub pushed : again ≡ parts ++ record { count = count; verdict = verdict; facts = record { facts = next } } ∷ []
-  pub counted : count ≡ length longer - length list
+  pub fetched : FetchesCommand S between new next list longer part.verdict
+  pub facts : part.facts.value ≡ next
+  pub pushed : again ≡ parts ++ part ∷ []
+  pub counted : part.count ≡ length longer - length list
 
-module _ {old between new : SideData} {first next : StreamFacts} {list longer : List (ℕ × ℕ)} {parts again : List FetchedPart} {verdict : Result Command CmdError} {count : ℕ} (more : IsOneMore old between new first next list longer parts again verdict count) where
-  abbrev last_part : FetchedPart
-  last_part = record { count = count; verdict = verdict; facts = record { facts = next } }
-
+module _ {S : ℕ × ℕ → Type 0} {old between new : SideData} {first next : StreamFacts} {list longer : List (ℕ × ℕ)} {parts again : List FetchedPart} {part : FetchedPart} (more : IsOneMore S old between new first next list longer parts again part) where
   abbrev last_member : FetchedData
-  last_member = record { words = items_since list longer; verdict = verdict; facts = next }
+  last_member = record { words = items_since list longer; verdict = part.verdict; facts = next }
 
-  one_fetched : Fetched between new next last_member
-  one_fetched = record { facts = refl; fetches = more.fetches; copy = more.copy }
+  one_fetched : Fetched S between new next last_member
+  one_fetched = record { facts = refl; fetches = more.fetched.fetches; copy = more.fetched.copy }
 
   pub parts_are : parts_of longer again ≡ parts_of list parts ++ last_member ∷ []
-  parts_are = ap (parts_of longer) more.pushed ∙ parts_more list longer parts last_part more.full more.adds more.counted
+  parts_are =
+      ap (parts_of longer) more.pushed ∙ parts_more list longer parts part more.full more.fetched.adds more.counted
+      ∙ ap (λ (f : StreamFacts). parts_of list parts ++ record { words = items_since list longer; verdict = part.verdict; facts = f } ∷ []) more.facts
 
   pub parts_whole : words_of_parts again ≡ length longer
-  parts_whole = ap words_of_parts more.pushed ∙ words_whole list longer parts last_part more.full more.adds more.counted
+  parts_whole = ap words_of_parts more.pushed ∙ words_whole list longer parts part more.full more.fetched.adds more.counted
 
   pub parts_copies : All IsFetched (parts_of longer again)
-  parts_copies = subst (All IsFetched) (sym parts_are) (copies_more old between new first next (parts_of list parts) last_member more.were one_fetched)
+  parts_copies = subst (All IsFetched) (sym parts_are) (copies_more more.were new last_member one_fetched)
 
   pub parts_chained : AreChained first (parts_of longer again)
-  parts_chained = subst (AreChained first) (sym parts_are) (links_more old between new first next (parts_of list parts) last_member more.were one_fetched)
+  parts_chained = subst (AreChained first) (sym parts_are) (links_more more.were new last_member one_fetched)
 
-  pub parts_fetched : Fetches old new (batch_words (parts_of longer again))
-  parts_fetched = subst (λ (l : List FetchedData). Fetches old new (batch_words l)) (sym parts_are) (whole_more old between new first next (parts_of list parts) last_member more.were one_fetched)
+  pub parts_fetched : SideFetches S old new (batch_words (parts_of longer again))
+  parts_fetched = subst (λ (l : List FetchedData). SideFetches S old new (batch_words l)) (sym parts_are) (whole_more more.were new last_member one_fetched)
 
-  pub parts_shown : (S : ℕ × ℕ → Type 0) → All S (batch_words (parts_of list parts)) → All S (items_since list longer) → All S (batch_words (parts_of longer again))
-  parts_shown S all one = subst (λ (l : List FetchedData). All S (batch_words l)) (sym parts_are) (shown_more old between new first next (parts_of list parts) last_member more.were one_fetched S all one)
+  pub parts_longer : length again ≡ length (parts_of list parts) + 1
+  parts_longer = ap length more.pushed ∙ length-append parts (part ∷ []) ∙ ap (λ (n : ℕ). n + 1) (sym (parts_long list parts))
 
-  -- the batch goes on after it
-  pub parts_go_on : (behind : StreamFacts) → behind ≡ facts_after next (items_since list longer) → IsLawfulFacts behind → behind.get ≢ behind.put → ends_by verdict (facts_after next (items_since list longer)) ≡ false → length again < most_members
-      → Gathered old new first behind (parts_of longer again)
-  parts_go_on behind is lawful going goes_on few =
-      let long : length again ≡ length parts + 1 = ap length more.pushed ∙ length-append parts (last_part ∷ []) in
-      let same = parts_long list parts in
-      subst (Gathered old new first behind) (sym parts_are)
-      (gathered_more old between new first next (parts_of list parts) last_member more.were one_fetched behind is lawful going goes_on (omega (arith, long, same, few)))
+  -- its words, as they are read
+  module _ {words : List (ℕ × ℕ)} (read : words ≡ items_since list longer) where
+    -- the batch goes on after it
+    pub parts_go_on : (behind : StreamFacts) → behind ≡ facts_after next words → IsLawfulFacts behind → behind.get ≢ behind.put → ends_by part.verdict (facts_after next words) ≡ false → length again < most_members → Gathered S old new first behind (parts_of longer again)
+    parts_go_on behind is lawful going goes_on few =
+        let same : facts_after next words ≡ facts_after next (items_since list longer) = ap (facts_after next) read in
+        let long = parts_longer in
+        subst (Gathered S old new first behind) (sym parts_are)
+        (gathered_more more.were new last_member one_fetched behind (is ∙ same) lawful going (ap (ends_by part.verdict) (sym same) ∙ goes_on) (omega (arith, long, few)))
 
-  -- it ends at it
-  pub parts_end : (ends_by verdict (facts_after next (items_since list longer)) ≡ true) ⊎ (length again ≡ most_members) → EndsExactly (parts_of longer again)
-  parts_end ends =
-      let long : length again ≡ length parts + 1 = ap length more.pushed ∙ length-append parts (last_part ∷ []) in
-      let same = parts_long list parts in
-      subst EndsExactly (sym parts_are)
-      (ends_exactly (parts_of list parts) last_member more.were.few more.were.goes_on (⊎_elim (λ e. inl e) (λ n. inr (omega (arith, long, same, n))) ends))
+    -- it ends at it
+    pub parts_end : (ends_by part.verdict (facts_after next words) ≡ true) ⊎ (length again ≡ most_members) → EndsExactly (parts_of longer again)
+    parts_end ends =
+        let same : facts_after next words ≡ facts_after next (items_since list longer) = ap (facts_after next) read in
+        let long = parts_longer in
+        subst EndsExactly (sym parts_are)
+        (ends_exactly (parts_of list parts) last_member more.were.few more.were.goes_on (⊎_elim (λ e. inl (ap (ends_by part.verdict) (sym same) ∙ e)) (λ n. inr (omega (arith, long, n))) ends))
 
 -- ---- what a run keeps while a batch is fetched
 
 module _ {Side Note : Type 0} (side : Side → SideData) (table : Side → TableId) (mark : Note → ℕ) (note_of : Note → TableId → Type 0) (p : PlansData) (tables books : ℕ → TableId) (run : RunData) where
   -- a fetch of a batch, whole or in part
-  pub batch_fetched : {Error : Type 0} (x y : Side) (facts : StreamFacts) (result : Result (List FetchedData) Error) → run.facts.get ≢ run.facts.put → RunFits side table mark note_of p tables books run x None → table y ≡ table x
-      → IfOk result (λ batch. Fetches (side x) (side y) (batch_words batch)) → IfErr result (λ _. FetchesInPart (side x) (side y) facts) → RunFits side table mark note_of p tables books run y None
-  batch_fetched x y facts (Ok batch) going fits same whole part = fetched_again side table mark note_of p tables books run x y (batch_words batch) going fits whole same
-  batch_fetched x y facts (Err error) going fits same whole part =
-      fetched_again side table mark note_of p tables books run x y (batch_words part.members ++ part.part.words) going fits
-      (fetches_then (side x) part.between (side y) (batch_words part.members) part.part.words part.whole part.part.fetches) same
+  pub batch_fetched : {Error : Type 0} (S : ℕ × ℕ → Type 0) (x y : Side) (facts : StreamFacts) (result : Result (List FetchedData) Error) → run.facts.get ≢ run.facts.put → RunFits side table mark note_of p tables books run x None → table y ≡ table x
+      → IfOk result (λ batch. SideFetches S (side x) (side y) (batch_words batch)) → IfErr result (λ _. FetchesInPart (side x) (side y) facts) → RunFits side table mark note_of p tables books run y None
+  batch_fetched S x y facts (Ok batch) going fits same whole part = fetched_again side table mark note_of p tables books run x y (batch_words batch) going fits whole.fetches same
+  batch_fetched S x y facts (Err error) going fits same whole part =
+      fetched_again side table mark note_of p tables books run x y (batch_words part.members ++ part.part.words) going fits (fetches_then part.whole part.part.fetches) same

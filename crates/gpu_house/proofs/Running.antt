@@ -1,18 +1,20 @@
 -- What a run keeps while it meets a note and fetches, without the lock.
 use Rattle.std.proofs.Common.{◌≡◌, ◌≢◌, ℕ, ◌+◌, ◌≤◌, max, List, [], ◌∷◌, ◌++◌, length, drop, Option, Some, None, sym, ap, subst, ◌∙◌, arith, length-append}
-use Rattle.std.specs.Prelude.{Result, Ok, Err, IfOk, IfErr, OnOk}
+use Rattle.std.specs.Prelude.{Result, Ok, Err, IfOk, IfErr}
 use Rattle.std.specs.List.{All}
 use Rattle.std.proofs.Math.Nat.{max-le, le-max_right}
 use Rattle.std.proofs.lemmas.List.{drop-append-le}
 use Rattle.std.proofs.lemmas.List.Elements.{All-append, All-weaker}
 use Rattle.atomic_table.specs.Seated.{TableId}
+use Rattle.gpu_cmd.specs.declared.command.Command.{Command}
+use Rattle.gpu_cmd.specs.declared.error.CmdError.{CmdError}
 use Rattle.gpu_cmd.specs.declared.facts.StreamFacts.{StreamFacts}
 use Rattle.gpu_plan.specs.Plans.{PlansData, PlanData, plan_of}
 use Rattle.gpu_plan.specs.Passes.{bound}
 use Rattle.gpu_plan.specs.MayHold.{MayHold}
 use Rattle.gpu_plan.proofs.Holding.{may_hold_between}
 use Rattle.gpu_fetch.specs.Side.{SideData, side_reach, MayFetch, with_met, Fetches}
-use Rattle.gpu_fetch.specs.Fetched.{items_since, FetchesSome}
+use Rattle.gpu_fetch.specs.Fetched.{items_since, FetchesCommand, FetchesSome}
 use Rattle.house_core.specs.Core.{MayHavePut}
 use Rattle.house_core.specs.Desks.{RunData}
 use Rattle.gpu_house.specs.Slots.{RunFits}
@@ -80,18 +82,13 @@ module _ {Side Note : Type 0} (side : Side → SideData) (table : Side → Table
       (subst (λ (s : SideData). s.met ≤ side_reach s) (sym told) fits.noted.1)
 
   -- a fetch of a command, whole or in part
-  pub command_fetched : {T Error : Type 0} (x y : Side) (facts : StreamFacts) (words : List (ℕ × ℕ)) (result : Result T Error) → run.facts.get ≢ run.facts.put → Fits x None → table y ≡ table x → IfOk result (λ _. Fetches (side x) (side y) words) → IfErr result (λ _. FetchesSome (side x) (side y) facts)
-      → Fits y None
-  command_fetched x y facts words (Ok verdict) going fits same whole part = fetched_again x y words going fits whole same
-  command_fetched x y facts words (Err error) going fits same whole part = fetched_again x y part.words going fits part.fetches same
+  pub command_fetched : {Error : Type 0} (S : ℕ × ℕ → Type 0) (x y : Side) (facts : StreamFacts) (old list : List (ℕ × ℕ)) (result : Result (Result Command CmdError) Error) → run.facts.get ≢ run.facts.put → Fits x None → table y ≡ table x → IfOk result (FetchesCommand S (side x) (side y) facts old list)
+      → IfErr result (λ _. FetchesSome (side x) (side y) facts) → Fits y None
+  command_fetched S x y facts old list (Ok verdict) going fits same whole part = fetched_again x y (items_since old list) going fits whole.fetches.fetches same
+  command_fetched S x y facts old list (Err error) going fits same whole part = fetched_again x y part.words going fits part.fetches same
 
 -- ---- a list that a command's words were fetched into
 
 -- all that it has is new, since it was empty
 pub all_new : (old list : List (ℕ × ℕ)) → old ≡ [] → items_since old list ≡ list
 all_new old list none = ap (λ (l : List (ℕ × ℕ)). items_since l list) none
-
--- what follows from two facts of a fetch, where that was made
-pub both_found : {T E A B Q : Type 0} (r : Result T E) → IfOk r (λ _. A) → IfOk r (λ _. B) → (A → B → Q) → OnOk r Q
-both_found (Ok t) a b f = f a b
-both_found (Err e) a b f = tt

@@ -1,6 +1,6 @@
 -- What a call makes of a house.
 use Rattle.std.specs.Prelude.{◌≡◌, ◌≢◌, ℕ, ◌-◌, ◌++◌, [], ◌∷◌, true, false, List, Some, None, Option, IfSome, option_map, slice_get}
-use Rattle.gpu_fetch.specs.Side.{SideData, with_met, finish_published}
+use Rattle.gpu_fetch.specs.Side.{SideData, StillBelongs, with_met, finish_published}
 use Rattle.gpu_journal.specs.declared.event.Event.{Event}
 use Rattle.gpu_house.specs.Slots.{SlotData, slot_at, with_slot}
 use Rattle.gpu_house.specs.House.{HouseData}
@@ -37,12 +37,6 @@ module _ {Side Note : Type 0} where
 abbrev pub met_by : Option ℕ → SideData → SideData
 met_by None side = side
 met_by (Some mark) side = with_met side mark
-
--- what the calls on a side keep: it belongs with its words, and so does every note that did
-module _ {Side Note Words : Type 0} (belongs : Side → Words → Type 0) (note_belongs : Side → Words → Note → Type 0) where
-  pub record StillBelongs (words : Words) (old new : Side) : Type 0 where
-    pub beside : belongs new words
-    pub notes : (note : Note) → note_belongs old words note → note_belongs new words note
 
 module _ {Side Note Words : Type 0} (side : Side → SideData) (mark : Note → ℕ) (belongs : Side → Words → Type 0) (note_belongs : Side → Words → Note → Type 0) where
   -- a side came home once its order was finished: it has met the note that no fetch had met, and published the finish

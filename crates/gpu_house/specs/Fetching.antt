@@ -1,9 +1,8 @@
 -- What a fetch of a run asks, and what it gives.
 use Rattle.std.specs.Prelude.{◌≡◌, ◌≢◌, ◌++◌, ℕ, false, List, length, None, option_map, IfSome}
-use Rattle.std.specs.List.{All}
-use Rattle.gpu_fetch.specs.Side.{SideData, Fetches}
+use Rattle.gpu_fetch.specs.Side.{SideData, SideFetches, StillBelongs}
 use Rattle.gpu_house.specs.House.{OutData}
-use Rattle.gpu_house.specs.Changes.{StillBelongs, met_by}
+use Rattle.gpu_house.specs.Changes.{met_by}
 
 module _ {Side Note Words : Type 0} (side : Side → SideData) (belongs : Side → Words → Type 0) (note_belongs : Side → Words → Note → Type 0) where
   -- something is left of the run's flush, it is not paused, and it has fetched no more than its facts say; its side and its note belong
@@ -26,5 +25,4 @@ module _ {Side Note Words : Type 0} (side : Side → SideData) (mark : Note → 
   -- once the note of its run was met, a side found these words, and its list has them after all others
   pub record RunFetches (words : Words) (old new : OutData Side Note) (list : List (ℕ × ℕ)) : Type 0 where
     pub grows : (side new.side).fetched ≡ (side old.side).fetched ++ list
-    pub fetches : Fetches (met_by (option_map mark old.note) (side old.side)) (side new.side) list
-    pub found : All (shows words) list
+    pub found : SideFetches (shows words) (met_by (option_map mark old.note) (side old.side)) (side new.side) list

@@ -1,13 +1,13 @@
 -- What steps of a run ask, and what they give.
 use Rattle.std.specs.Prelude.{◌≡◌, ◌≢◌, ℕ, false, List, drop, IfSome}
 use Rattle.gpu_plan.specs.Plans.{PlansData}
-use Rattle.gpu_fetch.specs.Side.{SideData}
+use Rattle.gpu_fetch.specs.Side.{SideData, StillBelongs}
 use Rattle.gpu_fetch.specs.Fetched.{FetchedData}
 use Rattle.gpu_journal.specs.World.{replay}
 use Rattle.gpu_house.specs.declared.answers.Next.TheVariants.{More, FlushEnd}
 use Rattle.gpu_house.specs.declared.answers.Progress.{Progress}
 use Rattle.gpu_house.specs.House.{HouseData, OutData}
-use Rattle.gpu_house.specs.Changes.{ResultsBelong, WroteResults, StillBelongs}
+use Rattle.gpu_house.specs.Changes.{ResultsBelong, WroteResults}
 use Rattle.gpu_house.specs.Steps.{Steps}
 use Rattle.gpu_house.specs.Drawing.{drawn_at, drawn_if, Draws}
 use Rattle.gpu_house.specs.Batches.{AreNext, AreChained, batch_words}

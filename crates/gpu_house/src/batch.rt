@@ -3,16 +3,17 @@ ghost use Rattle.std.specs.Prelude.{◌≡◌, ◌≢◌, ◌+◌, ◌<◌, ◌^
 ghost use Rattle.std.specs.List.{All};
 ghost use Rattle.gpu_cmd.specs.Copied.{IsCopy};
 ghost use Rattle.gpu_cmd.specs.Lawful.{IsLawfulFacts};
-ghost use Rattle.gpu_fetch.specs.Side.{Fetches};
+ghost use Rattle.gpu_fetch.specs.Side.{SideFetches, StillBelongs};
 ghost use Rattle.gpu_fetch.specs.Fetched.{IsFetched};
 ghost use Rattle.house_core.specs.Answers.{further};
 ghost use Rattle.gpu_house.specs.Batches.{facts_after, batch_words, AreChained, is_heard, ends_by, EndsExactly, FetchesInPart};
 
 use gpu_cmd::{CmdError, Command, StreamFacts};
-use gpu_fetch::{Fetched, FetchedPart, SeenFacts, ServiceSide, fetch_onto};
+use gpu_fetch::{Fetched, FetchedPart, ServiceSide, fetch_onto};
 use gpu_word::{Memory, split};
 use std::alloc::Global;
 use std::marker::Model;
+use std::snapshot::Snapshot;
 
 /// How many members a batch has at most.
 const MOST_MEMBERS: usize = 64;
@@ -141,13 +142,11 @@ impl Batch {
         ensures copies { IfOk result (All IsFetched) }
         ensures end { IfOk result EndsExactly }
         ensures fetches { IfOk result
-            (λ batch. Fetches (P.side side.old) (P.side side.new) (batch_words batch)) }
-        ensures shows { IfOk result (λ batch. All (P.shows words.now) (batch_words batch)) }
+            (λ batch. SideFetches (P.shows words.now) (P.side side.old) (P.side side.new)
+            (batch_words batch)) }
         ensures some { IfErr result
             (λ _. FetchesInPart (P.side side.old) (P.side side.new) facts.now) }
-        ensures belongs { P.belongs side.new words.now }
-        ensures notes { (n : P.Note) → P.note_belongs side.old words.now n
-            → P.note_belongs side.new words.now n }
+        ensures still { StillBelongs P.belongs P.note_belongs words.now side.old side.new }
         ensures table { P.table side.new ≡ P.table side.old }
     {
         let mut list = Vec::new(alloc);
@@ -160,7 +159,7 @@ impl Batch {
             parts.push(FetchedPart {
                 count,
                 verdict,
-                facts: SeenFacts::of(&next),
+                facts: Snapshot::of(&next),
             })?;
             match facts_behind(&next, &list[from..], &verdict) {
                 Some(facts) if parts.len() < MOST_MEMBERS => next = facts,
@@ -188,6 +187,6 @@ impl Batch {
     {
         let part = &self.parts[index];
         let words = &self.list[from..from + part.count];
-        Fetched::of(words, &part.verdict, part.facts.again())
+        Fetched::of(words, &part.verdict, &part.facts)
     }
 }

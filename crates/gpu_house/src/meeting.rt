@@ -1,7 +1,7 @@
 //! The note of a run is met once.
 ghost use Rattle.std.specs.Prelude.{◌≡◌, ◌≤◌, None, option_map, IfSome};
-ghost use Rattle.gpu_fetch.specs.Side.{side_reach};
-ghost use Rattle.gpu_house.specs.Changes.{StillBelongs, met_by};
+ghost use Rattle.gpu_fetch.specs.Side.{StillBelongs, side_reach};
+ghost use Rattle.gpu_house.specs.Changes.{met_by};
 
 use gpu_fetch::ServiceSide;
 

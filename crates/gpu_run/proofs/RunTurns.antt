@@ -8,7 +8,7 @@ use Rattle.gpu_cmd.specs.declared.error.CmdError.{CmdError}
 use Rattle.gpu_cmd.specs.Copied.{IsCopy}
 use Rattle.std.specs.Prelude.{Result}
 use Rattle.gpu_plan.specs.Plans.{PlansData}
-use Rattle.gpu_fetch.specs.Side.{SideData}
+use Rattle.gpu_fetch.specs.Side.{SideData, StillBelongs}
 use Rattle.gpu_fetch.specs.Plain.{PlainData, IsBeside, IsNoteBeside, IsValueOfPlace}
 use Rattle.sync_core.specs.Standing.{IsKnown, is_open}
 use Rattle.gpu_journal.specs.declared.event.Event.{Event}
@@ -22,7 +22,7 @@ use Rattle.house_core.specs.Core.{with_out}
 use Rattle.house_core.specs.Desks.{RunData, at_home}
 use Rattle.gpu_house.specs.Slots.{slot_at}
 use Rattle.gpu_house.specs.House.{OutData}
-use Rattle.gpu_house.specs.Changes.{CameDone, StillBelongs}
+use Rattle.gpu_house.specs.Changes.{CameDone}
 use Rattle.gpu_house.specs.Fetching.{HasMetNote}
 use Rattle.gpu_house.specs.Steps.{Steps}
 use Rattle.gpu_house.specs.declared.answers.Next.{Next}

@@ -4,9 +4,10 @@ ghost use Rattle.gpu_run.specs.Turning.{IsInTurn, HasTakenNext, HasRunOut};
 ghost use Rattle.gpu_run.specs.Stands.{Acting, Running, Stands, EndsWhereNoneCame};
 
 use crate::client::Client;
-use gpu_fetch::{Fetched, PlainPass, SeenFacts};
+use gpu_fetch::{Fetched, PlainPass};
 use gpu_house::{House, Naming, Next, Run};
 use gpu_word::Memory;
+use std::snapshot::Snapshot;
 use wait_hooks::Hook;
 
 /// A run takes the next command of its flush. The answer says whether it goes on.
@@ -26,9 +27,9 @@ fn turn<N: Naming, H: Hook>(
         run.old.run.stream run.new) }
 {
     let words = clients[run.stream() as usize - 1].words();
-    let facts = SeenFacts::of(run.facts());
+    let facts = Snapshot::of(run.facts());
     let verdict = run.fetch(words, list)?;
-    let fetched = Fetched::of(list, &verdict, facts);
+    let fetched = Fetched::of(list, &verdict, &facts);
     match house.step(run, words, &fetched)?.into_next() {
         Next::More => Ok(true),
         Next::FlushEnd => Ok(true),

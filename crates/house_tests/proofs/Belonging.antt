@@ -3,10 +3,10 @@ use Rattle.std.proofs.Common.{◌≡◌, ℕ, Bool, true, false, cond, Option, S
 use Rattle.std.proofs.lemmas.List.Elements.{All-tail, All-push, All-weaker, All-nil}
 use Rattle.std.specs.Prelude.{slice_get, IfSome}
 use Rattle.std.specs.List.{All}
-use Rattle.gpu_fetch.specs.Side.{SideData}
+use Rattle.gpu_fetch.specs.Side.{SideData, StillBelongs}
 use Rattle.gpu_house.specs.Slots.{SlotData, slot_at, with_slot, note_ahead, left_slot}
 use Rattle.gpu_house.specs.House.{HouseData, OutData}
-use Rattle.gpu_house.specs.Changes.{StillBelongs, ResultsBelong, with_note}
+use Rattle.gpu_house.specs.Changes.{ResultsBelong, with_note}
 use Rattle.gpu_house.specs.Making.{fresh_slots}
 use Rattle.gpu_house.proofs.Sides.{first_of}
 use Rattle.house_tests.specs.Alone.{AllBelong, IsHome, IsOutAlone}

@@ -5,17 +5,17 @@ ghost use Rattle.gpu_fetch.specs.Side.{MayFetch, fresh_side, with_words};
 ghost use Rattle.gpu_fetch.specs.Plain.{IsBeside, IsNoteBeside, IsValueOfPlace};
 
 use crate::plain::list::FetchList;
-use crate::plain::seen_plan::SeenPlan;
 use crate::plain::words::{PlainNote, PlainWords};
 use crate::side::ServiceSide;
 use gpu_plan::Plan;
 use gpu_word::Memory;
 use std::marker::Model;
+use std::snapshot::Snapshot;
 
 /// The service's side of plain words.
 #[derive(Drop)]
 pub struct PlainPass {
-    plan: SeenPlan,
+    plan: Snapshot<Plan>,
     fetched: FetchList,
     finished: u64,
     greatest: u32,
@@ -28,7 +28,7 @@ impl Model for PlainPass {
     ghost Value = { SideData };
 
     ghost view = { λ p. record {
-      plan = p.plan.plan;
+      plan = p.plan.value;
       fetched = p.fetched.items;
       finished = p.finished;
       greatest = p.greatest;
@@ -42,7 +42,7 @@ impl PlainPass {
         ensures { result ≡ fresh_side plan.now }
     {
         PlainPass {
-            plan: SeenPlan::of(plan),
+            plan: Snapshot::of(plan),
             fetched: FetchList::new(),
             finished: 0,
             greatest: 0,

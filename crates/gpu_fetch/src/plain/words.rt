@@ -7,18 +7,18 @@ ghost use Rattle.gpu_fetch.specs.Side.{SideData, fresh_side};
 ghost use Rattle.gpu_fetch.specs.Plain.{fresh_words, one_further, ArePuts, IsNext, IsPut, IsFlush, IsAwait, IsBeside, IsNoteBeside};
 
 use crate::plain::pass::PlainPass;
-use crate::plain::seen_plan::SeenPlan;
 use gpu_plan::{Action, Plan};
 use gpu_word::Memory;
 use std::alloc::Global;
 use std::marker::Model;
+use std::snapshot::Snapshot;
 
 /// The words of a stream as one thread keeps them: the value of each place after the actions that the client has done.
 ///
 /// Seen as the plan and the number of actions done.
 #[derive(Drop)]
 pub struct PlainWords {
-    plan: SeenPlan,
+    plan: Snapshot<Plan>,
     done: u32,
     values: Vec<u32>,
 }
@@ -28,9 +28,9 @@ impl Model for PlainWords {
 
     ghost Value = { PlainData };
 
-    ghost view = { λ w. record { plan = w.plan.plan; done = w.done } };
+    ghost view = { λ w. record { plan = w.plan.value; done = w.done } };
 
-    ghost invariant = { λ w. HoldItsValues (w.plan.plan) w.done w.values.items };
+    ghost invariant = { λ w. HoldItsValues (w.plan.value) w.done w.values.items };
 }
 
 /// What the client of plain words hands over with a flush.
@@ -93,7 +93,7 @@ impl PlainWords {
     {
         let values = zeros(alloc, plan.areas().places() as usize)?;
         let words = PlainWords {
-            plan: SeenPlan::of(plan),
+            plan: Snapshot::of(plan),
             done: 0,
             values,
         };

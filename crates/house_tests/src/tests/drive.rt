@@ -6,11 +6,12 @@ ghost use Rattle.gpu_house.specs.Names.{table_at};
 ghost use Rattle.gpu_house.specs.Slots.{slot_at};
 ghost use Rattle.house_tests.specs.Alone.{ordered, IsHome, IsOutAlone};
 
-use gpu_fetch::{Fetched, SeenFacts, ServiceSide};
+use gpu_fetch::{Fetched, ServiceSide};
 use gpu_house::{House, Naming, Next, Run};
 use gpu_store::Op;
 use gpu_word::Memory;
 use std::alloc::Global;
+use std::snapshot::Snapshot;
 use std::test::Fail;
 use wait_hooks::Hook;
 
@@ -82,12 +83,12 @@ fn turn<N: Naming, P: ServiceSide, H: Hook>(
         house.finish(run, words);
         return Ok(None);
     }
-    let facts = SeenFacts::of(run.facts());
+    let facts = Snapshot::of(run.facts());
     let Ok(verdict) = run.fetch(words, list) else {
         house.lose(run);
         return Err(Memory);
     };
-    let fetched = Fetched::of(list, &verdict, facts);
+    let fetched = Fetched::of(list, &verdict, &facts);
     let Ok(progress) = house.step(&mut run, words, &fetched) else {
         house.lose(run);
         return Err(Memory);

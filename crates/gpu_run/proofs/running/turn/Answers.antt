@@ -65,7 +65,7 @@ stepped g c more answer =
     let found = c.of-fetched.result.words in
     let same : list ≡ found = sym (ap (λ (f : FetchedData). f.words) c.of-fetched.ensures.is ∙ c.deref.ensures.value) in
     let its_words = words_are p c.args.clients.now run.run.stream c.stream.result c.index-clients-stream.result w turn.out.is_known turn.out.many.as_clients c.stream.ensures c.index-clients-stream.is c.words-words.ensures in
-    let has = fetched_with p c.args.house.now c.args.clients.now run c.fetch.new.self list c.in_ok-verdict.verdict w turn its_words c.requires.more e.keeps e.fetches.grows e.fetches.found e.copy in
+    let has = fetched_with p c.args.house.now c.args.clients.now run c.fetch.new.self list c.in_ok-verdict.verdict w turn its_words c.requires.more e.keeps e.fetches.grows e.fetches.found.shows e.copy in
     stepped_with p c.args.house.now c.step.new.self c.args.clients.now run c.fetch.new.self c.step.new.run found w c.in_ok-step.field-0.next more turn (subst (HasFetched p c.args.house.now c.args.clients.now c.fetch.new.self) same has) e.keeps.run e.keeps.met its_words _ _ t.steps.steps t.keeps.slots t.keeps.still
     t.keeps.list answer
 
@@ -75,7 +75,7 @@ returns-in-More g c = stepped g (goal.at.returns-in-More g c).In_ok-step true (s
 pub returns-in-FlushEnd : goal.returns-in-FlushEnd
 returns-in-FlushEnd g c = stepped g (goal.at.returns-in-FlushEnd g c).In_ok-step true (sym (ap goes_further (sym c.into_next.ensures ∙ c.in-FlushEnd.is)))
 
-pub returns-in_default : goal.returns-in_default
-returns-in_default g c =
-    stepped g (goal.at.returns-in_default g c).In_ok-step false
+pub returns : goal.returns
+returns g c =
+    stepped g (goal.at.returns g c).In_ok-step false
     (sym (stops c.in_ok-step.field-0.next (λ e. c.in_default.not-More (c.into_next.ensures ∙ e)) (λ e. c.in_default.not-FlushEnd (c.into_next.ensures ∙ e))))

@@ -4,4 +4,4 @@ use Rattle.gpu_cmd.proofs.Rising.{places_rise}
 use Rattle.gpu_fetch.proofs.fetched.Fetched.of.Goals as goal
 
 pub returns-clause-once : goal.returns-clause-once
-returns-clause-once c = subst IsStrictlyIncreasing (sym c.requires.copy.places) (places_rise c.args.words.now c.args.facts.facts c.requires.lawful)
+returns-clause-once c = subst IsStrictlyIncreasing (sym c.requires.copy.places) (places_rise c.args.words.now c.args.facts.now.value c.requires.lawful)

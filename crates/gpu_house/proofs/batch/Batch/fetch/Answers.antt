@@ -1,27 +1,21 @@
 -- Each goal is a lemma of Members on the commands that were fetched so far.
-use Rattle.std.proofs.Common.{◌≡◌, ◌-◌, inl, inr, List, [], ◌∷◌, ◌++◌, ℕ, length, length-append, refl, sym, ap, ◌∙◌, arith, rules}
+use Rattle.std.proofs.Common.{◌≡◌, ◌-◌, inl, inr, List, ℕ, length, refl, sym, ap, subst, ◌∙◌, arith}
 use Rattle.std.specs.Prelude.{slice_range}
-use Rattle.gpu_fetch.specs.Side.{SideData}
-use Rattle.gpu_cmd.specs.declared.facts.StreamFacts.{StreamFacts}
+use Rattle.std.proofs.lemmas.Result.{MatchResult-from_err}
+use Rattle.gpu_cmd.specs.Copied.{IsCopy}
+use Rattle.gpu_fetch.specs.declared.fetched_part.FetchedPart.{FetchedPart}
 use Rattle.gpu_fetch.specs.Fetched.{items_since}
-use Rattle.gpu_fetch.specs.Parts.{parts_of}
+use Rattle.gpu_fetch.specs.Parts.{words_of_parts, parts_of}
 use Rattle.gpu_fetch.proofs.Parts.{added_read}
-use Rattle.gpu_house.specs.Batches.{facts_after, ends_by, EndsExactly, FetchesInPart}
-use Rattle.gpu_house.proofs.Members.{gathered_lost, IsOneMore, parts_long, parts_whole, parts_copies, parts_chained, parts_fetched, parts_shown, parts_go_on, parts_end}
+use Rattle.gpu_house.specs.Batches.{EndsExactly}
+use Rattle.gpu_house.proofs.Members.{Gathered, gathered_none, gathered_part, gathered_lost, IsOneMore, parts_whole, parts_copies, parts_chained, parts_fetched, parts_longer, parts_go_on, parts_end}
 use Rattle.gpu_house.proofs.batch.Batch.fetch.Given.{Over}
 use Rattle.gpu_house.proofs.batch.Batch.fetch.Goals as goal
-use Rattle.gpu_house.proofs.batch.Batch.fetch.Goals.{After-deref, In_default, In_ok-verdict, in_default-via-in-Some+else-len-lt-MOST_MEMBERS, in_default-via-in_default}
+use Rattle.gpu_house.proofs.batch.Batch.fetch.Goals.{After-deref, In_default, in_default-via-in-Some+else-len-lt-MOST_MEMBERS, in_default-via-in_default}
 
 -- ---- once a command is added after the others
 
 module _ (g : Over) (c : goal.After-deref g) where
-  -- the side before the batch, and with the command
-  abbrev old : SideData
-  old = g.P.ServiceSide.side c.args.side.now
-
-  abbrev new : SideData
-  new = g.P.ServiceSide.side c.fetch_onto.new.side
-
   -- the words of the others, and those of the command after them
   abbrev list : List (ℕ × ℕ)
   list = c.loop-parts.list.items
@@ -29,23 +23,40 @@ module _ (g : Over) (c : goal.After-deref g) where
   abbrev longer : List (ℕ × ℕ)
   longer = c.fetch_onto.new.list.items
 
-  more : IsOneMore old (g.P.ServiceSide.side c.loop-parts.side) new c.args.facts.now c.loop-parts.next list longer c.loop-parts.parts.items c.push.new.self.items c.in_ok-verdict.verdict (c.len.result - c.len-from.result)
-  more =
-      let was = c.loop-parts.invariant in
-      let e = c.in_ok-verdict.ensures in
-      record {
-        were = was.gathered;
-        full = was.full;
-        adds = e.adds;
-        fetches = e.fetches;
-        copy = e.copy;
-        pushed = c.in_ok-push.ensures.items ∙ ap (λ (f : StreamFacts). c.loop-parts.parts.items ++ record { count = c.len.result - c.len-from.result; verdict = c.in_ok-verdict.verdict; facts = record { facts = f } } ∷ []) c.of.ensures;
-        counted = omega (arith, c.len-from.ensures);
-      }
+  abbrev part : FetchedPart
+  part = record { count = c.len.result - c.len-from.result; verdict = c.in_ok-verdict.verdict; facts = c.of.result }
+
+  more : IsOneMore (g.P.ServiceSide.shows c.args.words.now) (g.P.ServiceSide.side c.args.side.now) (g.P.ServiceSide.side c.loop-parts.side) (g.P.ServiceSide.side c.fetch_onto.new.side) c.args.facts.now c.loop-parts.next list longer c.loop-parts.parts.items c.push.new.self.items part
+  more = record {
+    were = c.loop-parts.invariant.gathered;
+    full = c.loop-parts.invariant.full;
+    fetched = c.in_ok-verdict.ensures.fetches;
+    facts = c.of.ensures;
+    pushed = c.in_ok-push.ensures.items;
+    counted = omega (arith, c.len-from.ensures);
+  }
 
   -- its words, as they are read
   read : slice_range c.deref.result.now c.len-from.result (length c.deref.result.now) ≡ items_since list longer
   read = added_read list c.deref.result.now longer c.len-from.result c.deref.ensures.value (omega (arith, c.len-from.ensures))
+
+pub facts_behind-requires-clause-copy : goal.facts_behind-requires-clause-copy
+facts_behind-requires-clause-copy g c =
+    let told = (goal.at.facts_behind-requires-clause-copy g c).After-deref in
+    subst (λ (l : List (ℕ × ℕ)). IsCopy l c.loop-parts.next c.in_ok-verdict.verdict) (sym (read g told)) c.in_ok-verdict.ensures.fetches.copy
+
+pub loop-parts-init : goal.loop-parts-init
+loop-parts-init g c =
+    let S = g.P.ServiceSide.shows c.args.words.now in
+    let old = g.P.ServiceSide.side c.args.side.now in
+    let facts = c.args.facts.now in
+    let none = c.new-parts.ensures.items in
+    record {
+      full = ap words_of_parts none ∙ ap length (sym c.new-list.ensures.items);
+      gathered = subst (Gathered S old old facts facts) (ap (parts_of c.new-list.result.items) (sym none)) (gathered_none S old facts c.requires.lawful c.requires.more c.requires.areas);
+      still = record { beside = c.requires.belongs; notes = λ n b. b };
+      table = refl;
+    }
 
 pub loop-parts-preserved : goal.loop-parts-preserved
 loop-parts-preserved g c =
@@ -55,35 +66,34 @@ loop-parts-preserved g c =
     let some = c.in-Some.ensures in
     record {
       full = parts_whole (more g told);
-      gathered = parts_go_on (more g told) c.in-Some.facts (some.some ∙ ap (facts_after c.loop-parts.next) (read g told)) some.lawful some.more
-          (ap (λ (l : List (ℕ × ℕ)). ends_by c.in_ok-verdict.verdict (facts_after c.loop-parts.next l)) (sym (read g told)) ∙ some.goes_on) (omega (arith, c.len.ensures));
-      shows = parts_shown (more g told) (g.P.ServiceSide.shows c.args.words.now) was.shows e.shows;
-      belongs = e.belongs;
-      notes = λ n b. e.notes n (was.notes n b);
+      gathered = parts_go_on (more g told) (read g told) c.in-Some.facts some.some some.lawful some.more some.goes_on (omega (arith, c.len.ensures));
+      still = record { beside = e.still.beside; notes = λ n b. e.still.notes n (was.still.notes n b) };
       table = e.table ∙ was.table;
     }
 
--- ---- no room is found for it
+-- ---- it is not fetched whole, or no room is found for it
 
-lost : (g : Over) (c : goal.In_ok-verdict g) → FetchesInPart (g.P.ServiceSide.side c.args.side.now) (g.P.ServiceSide.side c.fetch_onto.new.side) c.args.facts.now
-lost g c =
-    let e = c.in_ok-verdict.ensures in
-    let words = items_since c.loop-parts.list.items c.fetch_onto.new.list.items in
-    gathered_lost _ _ _ _ _ (parts_of c.loop-parts.list.items c.loop-parts.parts.items) (record { words = words; verdict = c.in_ok-verdict.verdict; facts = c.loop-parts.next }) c.loop-parts.invariant.gathered
-    record { facts = refl; fetches = e.fetches; copy = e.copy }
+pub returns-in_err-verdict-clause-some : goal.returns-in_err-verdict-clause-some
+returns-in_err-verdict-clause-some g c =
+    let here = gathered_part c.loop-parts.invariant.gathered (g.P.ServiceSide.side c.fetch_onto.new.side) c.in_err-verdict.ensures.some in
+    MatchResult-from_err c.from_residual.result _ _ c.from_residual.ensures.0 (λ _. here)
 
 pub returns-in_err-push-clause-some : goal.returns-in_err-push-clause-some
-returns-in_err-push-clause-some g c = let lost_here = lost g (goal.at.returns-in_err-push-clause-some g c).In_ok-verdict in search rules
+returns-in_err-push-clause-some g c =
+    let e = c.in_ok-verdict.ensures.fetches in
+    let words = items_since c.loop-parts.list.items c.fetch_onto.new.list.items in
+    let here = gathered_lost c.loop-parts.invariant.gathered (g.P.ServiceSide.side c.fetch_onto.new.side) record { words = words; verdict = c.in_ok-verdict.verdict; facts = c.loop-parts.next } record { facts = refl; fetches = e.fetches; copy = e.copy } in
+    MatchResult-from_err c.from_residual-in_err-push.result _ _ c.from_residual-in_err-push.ensures.0 (λ _. here)
 
 -- ---- where the batch ends
 
 end : (g : Over) (c : goal.In_default g) → EndsExactly (parts_of c.fetch_onto.new.list.items c.push.new.self.items)
 end g c =
     let told = (goal.at.In_default g c).After-deref in
-    parts_end (more g told)
+    parts_end (more g told) (read g told)
     (elim c.in_default.branch [
-      | in_default-via-in-Some+else-len-lt-MOST_MEMBERS w ↦ inr (let few = c.loop-parts.invariant.gathered.few in let long = parts_long (list g told) c.loop-parts.parts.items in let pushed = ap length c.in_ok-push.ensures.items ∙ length-append c.loop-parts.parts.items _ in omega (arith, few, long, pushed, w.len-in-Some-1.ensures, w.if-len-lt-MOST_MEMBERS.false))
-      | in_default-via-in_default w ↦ inl (ap (λ (l : List (ℕ × ℕ)). ends_by c.in_ok-verdict.verdict (facts_after c.loop-parts.next l)) (sym (read g told)) ∙ w.in_default.ensures.none)
+      | in_default-via-in-Some+else-len-lt-MOST_MEMBERS w ↦ inr (let few = c.loop-parts.invariant.gathered.few in let long = parts_longer (more g told) in omega (arith, few, long, w.len-in-Some-1.ensures, w.if-len-lt-MOST_MEMBERS.false))
+      | in_default-via-in_default w ↦ inl w.in_default.ensures.none
     ])
 
 pub invariant_of-result : goal.invariant_of-result
@@ -102,7 +112,3 @@ returns-in_default-clause-end g c = end g c
 
 pub returns-in_default-clause-fetches : goal.returns-in_default-clause-fetches
 returns-in_default-clause-fetches g c = parts_fetched (more g (goal.at.returns-in_default-clause-fetches g c).After-deref)
-
-pub returns-in_default-clause-shows : goal.returns-in_default-clause-shows
-returns-in_default-clause-shows g c =
-    parts_shown (more g (goal.at.returns-in_default-clause-shows g c).After-deref) (g.P.ServiceSide.shows c.args.words.now) c.loop-parts.invariant.shows c.in_ok-verdict.ensures.shows

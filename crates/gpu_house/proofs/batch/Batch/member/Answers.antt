@@ -24,10 +24,10 @@ slice_bounds-words-end c =
     let ends = cut_ends c.self.inside.list.items c.self.inside.parts.items c.args.self.now c.self.view_is c.args.index c.args.from c.index-part.result.now c.deref.result.now c.self.invariant.0 c.requires.within c.requires.from c.index-part.ensures c.deref.ensures.value in
     search rules
 
-found : (c : goal.After-again) → IsFetched record { words = take (c.args.from + c.index-part.result.now.count - c.args.from) (drop c.args.from c.deref.result.now); verdict = c.index-part.result.now.verdict; facts = c.again.result.facts }
+found : (c : goal.After-words-1) → IsFetched record { words = take (c.args.from + c.index-part.result.now.count - c.args.from) (drop c.args.from c.deref.result.now); verdict = c.index-part.result.now.verdict; facts = c.index-part.result.now.facts.value }
 found c =
     cut_fetched c.self.inside.list.items c.self.inside.parts.items c.args.self.now c.self.view_is c.args.index c.args.from c.index-part.result.now c.deref.result.now c.self.invariant.0 c.requires.within c.requires.from c.index-part.ensures c.deref.ensures.value
-    c.again.result.facts c.again.ensures c.self.invariant.2
+    c.self.invariant.2
 
 pub of-requires-clause-lawful : goal.of-requires-clause-lawful
 of-requires-clause-lawful c = (found c).lawful
@@ -41,4 +41,4 @@ of-requires-clause-copy c = (found c).copy
 pub returns-clause-is : goal.returns-clause-is
 returns-clause-is c =
     c.of.ensures.is ∙ sym (cut_read c.self.inside.list.items c.self.inside.parts.items c.args.self.now c.self.view_is c.args.index c.args.from c.index-part.result.now c.deref.result.now c.self.invariant.0 c.requires.within c.requires.from c.index-part.ensures c.deref.ensures.value
-    c.of.result c.again.result.facts c.again.ensures)
+    c.of.result)

@@ -1,9 +1,9 @@
-use Rattle.std.proofs.Common.{◌≡◌, ℕ, ◌+◌, ◌-◌, true, false, Some, None, List, refl, sym, ap, subst, ◌∙◌, length-set}
+use Rattle.std.proofs.Common.{◌≡◌, ℕ, ◌+◌, ◌-◌, true, false, Some, None, List, refl, sym, ap, subst, ◌∙◌, length, length-set, arith}
 use Rattle.std.specs.Prelude.{slice_set, IfSome}
 use Rattle.gpu_word.specs.Results.{finishes_in}
 use Rattle.gpu_plan.specs.Plans.{PlansData}
-use Rattle.gpu_fetch.specs.Side.{finish_published}
-use Rattle.sync_core.specs.Standing.{is_open}
+use Rattle.gpu_fetch.specs.Side.{StillBelongs, finish_published}
+use Rattle.sync_core.specs.Standing.{IsKnown, is_open}
 use Rattle.gpu_journal.specs.declared.event.Event.{Event}
 use Rattle.gpu_journal.specs.declared.event.Event.TheVariants.{Finish}
 use Rattle.gpu_journal.specs.World.{known as known'}
@@ -12,13 +12,13 @@ use Rattle.house_core.specs.Core.{IsRunOf, book_at}
 use Rattle.gpu_house.specs.Marks.{AreMarked}
 use Rattle.gpu_house.specs.Names.{table_at}
 use Rattle.gpu_house.specs.House.{OutData}
-use Rattle.gpu_house.specs.Changes.{StillBelongs, CameDone}
+use Rattle.gpu_house.specs.Changes.{CameDone}
 use Rattle.gpu_house.proofs.Rows.{slot_changed}
 use Rattle.gpu_house.proofs.Stepping.{note_marked}
 use Rattle.gpu_house.proofs.Homes.{came_back, came_done, is_away, side_seen}
 use Rattle.gpu_house.proofs.Cases.{open_here, known_here}
 use Rattle.gpu_house.proofs.Endings.{grown_quietly}
-use Rattle.gpu_house.proofs.Counting.{counted_next}
+use Rattle.gpu_house.proofs.Counting.{counted_next, few_finishes}
 use Rattle.gpu_house.proofs.Writings.{AllFit, all_more, at_stream, read_belongs, wrote, wrote_none}
 use Rattle.gpu_house.proofs.Keeping.{kept}
 use Rattle.gpu_house.proofs.house.House.finish.Goals as goal
@@ -157,3 +157,12 @@ publish_finish-requires-clause-counted g c =
     let same : (known' p core.past t).finished ≡ (S.side c.meet.new.side).finished =
     ap (λ (s : ℕ). (known' p core.past s).finished) c.stream-stream.ensures ∙ sym run_of.finished ∙ sym c.run.invariant.finished ∙ sym c.meet.ensures.finished in
     subst (λ (n : ℕ). IfSome (S.written c.count_finish.new.results) (λ list. finishes_in list ≡ n + 1)) same next
+
+pub publish_finish-requires-clause-room : goal.publish_finish-requires-clause-room
+publish_finish-requires-clause-room g c =
+    let core = c.self.inside.core in
+    let run = c.run.inside.carried in
+    let was = c.self.invariant in
+    let of_core = c.finish-2.ensures.shows (open_here core c.stream-stream.result run.stream c.is_open.result true c.stream-stream.ensures c.is_open.ensures c.if-not-is_open.false) in
+    let few = few_finishes core run.stream was.core (subst (λ (q : PlansData). IsKnown (length q.plans) run.stream) (sym was.plans) c.run.invariant.of_plans.known) in
+    omega (arith, few, of_core.finished, c.run.invariant.finished, c.meet.ensures.finished)

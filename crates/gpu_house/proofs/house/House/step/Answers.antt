@@ -4,7 +4,7 @@ use Rattle.std.specs.List.{All}
 use Rattle.gpu_word.specs.Results.{writes_listed}
 use Rattle.gpu_cmd.specs.Spans.{words_in}
 use Rattle.gpu_plan.specs.Plans.{PlansData, plan_of}
-use Rattle.gpu_fetch.specs.Side.{SideData, told_more}
+use Rattle.gpu_fetch.specs.Side.{SideData, StillBelongs, told_more}
 use Rattle.stream_state.specs.declared.effect.Effect.{Effect}
 use Rattle.stream_state.specs.Steps.{writes}
 use Rattle.stream_state.specs.Told.{writes_told}
@@ -32,7 +32,7 @@ use Rattle.gpu_house.proofs.Keeping.{kept, kept_still, ended_homes}
 use Rattle.house_core.specs.Desks.{RunData}
 use Rattle.gpu_house.specs.Slots.{RunFits}
 use Rattle.gpu_house.specs.House.{HouseData, OutData, HouseInvariant}
-use Rattle.gpu_house.specs.Changes.{ResultsBelong, StillBelongs, met_by}
+use Rattle.gpu_house.specs.Changes.{ResultsBelong, met_by}
 use Rattle.gpu_house.specs.Batches.{AreNext}
 use Rattle.gpu_house.specs.Steps.{told_side, IsRunStepDone, IsRefused, Steps}
 use Rattle.gpu_house.specs.Stepping.{KeepsBeside, TookStep}

@@ -5,9 +5,11 @@ use Rattle.house_core.specs.Core.{is_home, book_at}
 use Rattle.house_core.specs.Desks.{Out}
 use Rattle.house_core.proofs.Held.{core_legal}
 use Rattle.gpu_house.specs.Names.{table_at}
-use Rattle.gpu_house.specs.Slots.{SlotData}
+use Rattle.gpu_house.specs.Slots.{SlotData, slot_at, note_ahead, left_slot}
+use Rattle.gpu_house.specs.House.{HouseData}
 use Rattle.gpu_house.specs.Marks.{AreMarked}
 use Rattle.gpu_house.proofs.Keeping.{kept_still}
+use Rattle.gpu_house.proofs.Rows.{slot_there, slot_changed}
 use Rattle.gpu_house.proofs.Writings.{AllFit}
 use Rattle.gpu_house.proofs.Sides.{taken_fits}
 use Rattle.gpu_house.proofs.Homes.{Taken, taken, taken_list, went_out, is_away}
@@ -95,3 +97,20 @@ returns-clause-list g c =
     let S = g.P.ServiceSide in
     taken_list S.side S.table S.mark S.note_of g.N.Naming.plans (table_at g.N.Naming.words) (book_at g.N.Naming.books) c.in_ok-carried.carried c.self.inside.core c.take.new.self c.self.inside.slots.items c.stream.result c.index_mut.result.now c.leave.new.self c.in-Some.side
     (it g (goal.at.returns-clause-list g c).After-index_mut c.leave.new.self) (sym c.in-Some.ensures.side)
+
+-- the slot of the stream, as contracts see it
+slot_is : (g : Over) (c : goal.After-index_mut g) → c.index_mut.result.now ≡ slot_at c.args.self.now.slots c.in_ok-carried.carried.stream
+slot_is g c =
+    c.index_mut.ensures.value ∙ slot_there c.self.inside.slots.items c.stream.result c.index_mut.result.now (it g c c.index_mut.result.now).known
+    ∙ ap (λ (h : HouseData g.row.P.Denot g.row.P-Note.Denot g.row.P-Results.Denot). slot_at h.slots c.stream.result) c.self.view_is ∙ ap (slot_at c.args.self.now.slots) c.stream.ensures
+
+pub returns-clause-side : goal.returns-clause-side
+returns-clause-side g c = c.in-Some.ensures.side ∙ ap (λ (slot : SlotData g.row.P.Denot g.row.P-Note.Denot). slot.side) (slot_is g (goal.at.returns-clause-side g c).After-index_mut)
+
+pub returns-clause-note : goal.returns-clause-note
+returns-clause-note g c = c.in-Some.ensures.note ∙ ap note_ahead (slot_is g (goal.at.returns-clause-note g c).After-index_mut)
+
+pub returns-clause-slots : goal.returns-clause-slots
+returns-clause-slots g c =
+    let known = (it g (goal.at.returns-clause-slots g c).After-index_mut c.leave.new.self).known in
+    slot_changed left_slot c.self.inside.slots.items c.args.self.now.slots c.in_ok-carried.carried.stream c.stream.result c.index_mut.result.now c.leave.new.self (ap (λ (h : HouseData g.row.P.Denot g.row.P-Note.Denot g.row.P-Results.Denot). h.slots) c.self.view_is) c.stream.ensures known c.index_mut.ensures.value c.leave.ensures.slot

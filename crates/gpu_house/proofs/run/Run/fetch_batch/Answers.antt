@@ -21,4 +21,4 @@ invariant_of-self g c =
     let going : run.facts.get ≢ run.facts.put = λ end. c.requires.more (ap (λ (out : OutData g.row.P.Denot g.row.P-Note.Denot). out.run.facts.get) (sym view) ∙ end ∙ ap (λ (out : OutData g.row.P.Denot g.row.P-Note.Denot). out.run.facts.put) view) in
     let met = met_fits S.side S.table S.mark S.note_of g.N.Naming.plans tables books run c.self.inside.side c.meet.new.side c.self.inside.note c.self.invariant c.meet.ensures.told c.meet.ensures.bounded c.meet.ensures.table in
     subst (RunFits S.side S.table S.mark S.note_of g.N.Naming.plans tables books run c.fetch.new.side) (sym c.meet.ensures.met)
-    (batch_fetched S.side S.table S.mark S.note_of g.N.Naming.plans tables books run c.meet.new.side c.fetch.new.side c.facts.result.now c.fetch.result going met c.fetch.ensures.table c.fetch.ensures.fetches c.fetch.ensures.some)
+    (batch_fetched S.side S.table S.mark S.note_of g.N.Naming.plans tables books run (S.shows c.args.words.now) c.meet.new.side c.fetch.new.side c.facts.result.now c.fetch.result going met c.fetch.ensures.table c.fetch.ensures.fetches c.fetch.ensures.some)

@@ -9,7 +9,7 @@ use Rattle.gpu_fetch.proofs.plain.words.PlainWords.put_all.Goals as goal
 pub loop-actions-preserved : goal.loop-actions-preserved
 loop-actions-preserved c =
     let i = c.loop-actions.invariant in
-    let same : c.self.inside.plan.plan ≡ c.args.plan.now = ap (λ (w : PlainData). w.plan) c.self.view_is ∙ sym c.requires in
+    let same : c.self.inside.plan.value ≡ c.args.plan.now = ap (λ (w : PlainData). w.plan) c.self.view_is ∙ sym c.requires in
     let these = c.actions-actions.ensures.value in
     let there : IsNext IsPut c.actions-actions.result.now c.loop-actions.done = c.is_put.ensures.0 c.loop-actions-test.true in
     let one : IsNext IsPut c.args.plan.now.actions c.loop-actions.done = subst (λ (actions : List Action). IsNext IsPut actions c.loop-actions.done) these there in
@@ -18,23 +18,23 @@ loop-actions-preserved c =
       plan = i.plan;
       fits = let most = c.actions-actions.ensures.lawful.few in let few = ap length these in omega (arith, most, within, few);
       further = let low = i.further in omega (arith, low);
-      stored = stored_again c.self.inside.plan.plan c.args.plan.now c.loop-actions.done c.loop-actions.self-inside.values.items c.store.new.values.items c.actions-actions.result.now c.index-actions-done.result same these within c.index-actions-done.is c.store.ensures.count c.store.ensures.each i.stored;
+      stored = stored_again c.self.inside.plan.value c.args.plan.now c.loop-actions.done c.loop-actions.self-inside.values.items c.store.new.values.items c.actions-actions.result.now c.index-actions-done.result same these within c.index-actions-done.is c.store.ensures.count c.store.ensures.each i.stored;
       puts = puts_more c.args.plan.now.actions c.self.inside.done c.loop-actions.done (c.loop-actions.done + 1) i.puts one refl;
     }
 
 pub returns-clause-beside : goal.returns-clause-beside
 returns-clause-beside c side h =
     let i = c.loop-actions.invariant in
-    let same : c.args.plan.now ≡ c.self.inside.plan.plan = c.requires ∙ ap (λ (w : PlainData). w.plan) (sym c.self.view_is) in
+    let same : c.args.plan.now ≡ c.self.inside.plan.value = c.requires ∙ ap (λ (w : PlainData). w.plan) (sym c.self.view_is) in
     let puts = subst (λ (q : PlanData). ArePuts q.actions c.self.inside.done c.loop-actions.done) same i.puts in
-    puts_beside side (record { plan = c.self.inside.plan.plan; done = c.self.inside.done }) (record { plan = c.loop-actions.self-inside.plan.plan; done = c.loop-actions.done }) (ap (λ p. p.plan) i.plan) i.further puts (subst (IsBeside side) (sym c.self.view_is) h)
+    puts_beside side (record { plan = c.self.inside.plan.value; done = c.self.inside.done }) (record { plan = c.loop-actions.self-inside.plan.value; done = c.loop-actions.done }) (ap (λ p. p.value) i.plan) i.further puts (subst (IsBeside side) (sym c.self.view_is) h)
 
 pub returns-clause-notes : goal.returns-clause-notes
 returns-clause-notes c side mark h =
     let i = c.loop-actions.invariant in
-    let same : c.args.plan.now ≡ c.self.inside.plan.plan = c.requires ∙ ap (λ (w : PlainData). w.plan) (sym c.self.view_is) in
+    let same : c.args.plan.now ≡ c.self.inside.plan.value = c.requires ∙ ap (λ (w : PlainData). w.plan) (sym c.self.view_is) in
     let puts = subst (λ (q : PlanData). ArePuts q.actions c.self.inside.done c.loop-actions.done) same i.puts in
     let mine = subst (λ (w : PlainData). IsNoteBeside side w mark) (sym c.self.view_is) h in
     let low = mine.1 in
     let further = i.further in
-    (puts_beside side (record { plan = c.self.inside.plan.plan; done = c.self.inside.done }) (record { plan = c.loop-actions.self-inside.plan.plan; done = c.loop-actions.done }) (ap (λ p. p.plan) i.plan) i.further puts mine.0, omega (arith, low, further))
+    (puts_beside side (record { plan = c.self.inside.plan.value; done = c.self.inside.done }) (record { plan = c.loop-actions.self-inside.plan.value; done = c.loop-actions.done }) (ap (λ p. p.value) i.plan) i.further puts mine.0, omega (arith, low, further))

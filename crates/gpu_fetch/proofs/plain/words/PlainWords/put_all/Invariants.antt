@@ -7,7 +7,7 @@ invariant-loop-actions l = record {
   plan : l.self-inside.plan ≡ l.initial.self-inside.plan;
   fits : l.done < 2 ^ 32;
   further : l.initial.self-inside.done ≤ l.done;
-  stored : HoldItsValues l.initial.self-inside.plan.plan l.done l.self-inside.values.items;
+  stored : HoldItsValues l.initial.self-inside.plan.value l.done l.self-inside.values.items;
   puts : ArePuts l.plan.actions l.initial.self-inside.done l.done;
 }
 
