@@ -51,6 +51,3 @@ pub use look::Look;
 pub use making::make;
 pub use viewer::{Told, Viewer};
 pub use writer::ViewWriter;
-
-#[cfg(test)]
-mod tests;
