@@ -152,7 +152,7 @@ FACTS = (
         r"|queue has # places",
         MOST_NOTES,
     ),
-    Fact(r"hands # flushes", constant("flush_queue/src/tests/posting.rt", "FLUSHES")),
+    Fact(r"hands # flushes", constant("part_tests/src/tests/queue/posting.rt", "FLUSHES")),
     Fact(r"room for # words from the first", constant("gpu_fetch/src/fetch.rt", "USUAL_ENTRIES")),
     Fact(r"up to # commands", constant("gpu_house/src/batch.rt", "MOST_MEMBERS")),
     Fact(r"viewer has # looks|the # lines of each|viewers, # lines for each", ALL_LOOKS),

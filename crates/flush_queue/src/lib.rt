@@ -16,15 +16,13 @@
 //! Notes:
 //! - A note tells its words and its mark alone, and the plan says which flush has which mark. So the client's pass goes
 //!   through the queue once, before the ends are parted, and both ends learn from it whose flushes they are.
-//! - Of Full it follows that 16 flushes were posted, and no more; `post_early` in the tests rests on this clause alone.
+//! - Of Full it follows that 16 flushes were posted, and no more; `post_early` of `part_tests` rests on this clause alone.
 //!   None changes nothing, and no clause says more of it. That neither comes too early is tested.
 //! - What a client has posted is the definition `HasPostedAll`.
 #![tactic(auto)]
 
 mod queue;
 mod rule;
-#[cfg(test)]
-mod tests;
 mod view;
 
 pub use queue::{FlushQueue, Full, Poster, Taker, make};

@@ -46,8 +46,3 @@ pub use sink::Sink;
 pub use source::Source;
 pub use steady_sink::SteadySink;
 pub use steady_source::SteadySource;
-
-#[cfg(test)]
-mod reading_tests;
-#[cfg(test)]
-mod tests;

@@ -34,6 +34,3 @@ pub use op::{Answer, Op};
 pub use rect::Rect;
 pub use sums::texel_sum;
 pub use texels::Texels;
-
-#[cfg(test)]
-mod tests;

@@ -25,6 +25,3 @@ pub use header::{Header, join, split};
 pub use laws::header_round_trip;
 pub use memory::Memory;
 pub use words::Words;
-
-#[cfg(test)]
-mod tests;

@@ -1,12 +1,8 @@
 mod batches;
-mod books;
-mod commands;
 mod drive;
 mod losses;
 mod opening;
 mod output;
-mod scripts;
 mod stirred_pass;
 mod stirred_words;
 mod texts;
-mod words;

@@ -51,6 +51,3 @@ pub use look::{ALL_LOOKS, LOOKS, Look};
 pub use making::{MOST_VIEWERS, make};
 pub use viewer::{Told, Viewer};
 pub use writer::ViewWriter;
-
-#[cfg(test)]
-mod tests;

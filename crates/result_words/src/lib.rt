@@ -20,8 +20,8 @@
 //! - A read that answers None loads no result, and is not in the list of reads.
 //! - A read asks for less than 2^32 finishes, so no answer depends on what a word of 64 bits cannot count.
 //! - How many finishes a read asks for comes to its load by a meaning of a trait, and is noted with the value.
-//! - The number of places is the key of the rule; there is one word more. The tests of the crate also say that its types
-//!   may cross threads.
+//! - The number of places is the key of the rule; there is one word more. `part_tests` shows that the types may cross
+//!   threads.
 #![tactic(auto)]
 
 mod dumps;
@@ -37,6 +37,3 @@ pub use maker::make;
 pub use reader::ResultReader;
 pub use words::ResultWords;
 pub use writer::ResultWriter;
-
-#[cfg(test)]
-mod tests;

@@ -44,6 +44,3 @@ pub use input::take_input;
 pub use laws::{runs_are_judged_whole, viewed_runs_tell_histories};
 pub use plain::plain_top;
 pub use status::Status;
-
-#[cfg(test)]
-mod tests;

@@ -1,2 +1,4 @@
 mod on_threads;
+mod plain;
 mod promises;
+mod words;

@@ -13,6 +13,3 @@ mod scheduler;
 mod seat;
 
 pub use scheduler::Scheduler;
-
-#[cfg(test)]
-mod tests;

@@ -1,15 +1,7 @@
 -- Lines stand where they are due in one way alone, and one line alone is the first that is off.
-use Rattle.std.proofs.Common.{◌≡◌, ◌⊎◌, inl, inr, ℕ, zero, suc, List, [], ◌∷◌, ◌++◌, drop, refl, sym, ap, subst, ◌∙◌}
-use Rattle.std.specs.Prelude.{codes}
+use Rattle.verify_input.proofs.Names.{◌≡◌, ◌⊎◌, inl, inr, ℕ, zero, suc, List, [], ◌∷◌, ◌++◌, drop, refl, sym, ap, subst, ◌∙◌, codes, PlansData, Event, hex8, number_text, view_text, sum_after, Due, Same, Dump, Look, LastLook, MayStand, AreTakenOff, IsOff, AreDue, IsMore, IsFirstOff, What}
 use Rattle.gpu_word.proofs.Pieces.{five_pieces}
-use Rattle.gpu_plan.specs.Plans.{PlansData}
-use Rattle.gpu_journal.specs.declared.event.Event.{Event}
-use Rattle.journal_text.specs.Digits.{hex8, number_text}
-use Rattle.journal_text.specs.Lines.{view_text}
 use Rattle.journal_text.proofs.Numerals.{number_cut}
-use Rattle.journal_verify.specs.Followed.{sum_after}
-use Rattle.verify_input.specs.Due.{Due, Same, Dump, Look, LastLook, MayStand, AreTakenOff, IsOff, AreDue, IsMore, IsFirstOff}
-use Rattle.verify_input.specs.declared.what.What.{What}
 use Rattle.verify_input.specs.declared.what.What.TheVariants as what
 
 -- ---- the line of a look names its number of events

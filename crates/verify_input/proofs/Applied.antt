@@ -1,11 +1,5 @@
 -- The laws of findings, on which no proof rests, each applied once: if one said less, this could not be shown.
-use Rattle.std.proofs.Common.{◌≡◌, ℕ, List}
-use Rattle.gpu_store.specs.Images.{Pictures}
-use Rattle.verify_input.specs.declared.what.What.{What}
-use Rattle.verify_input.specs.declared.finding.Finding.TheVariants.{No, Differs, NotComplete, Yes}
-use Rattle.verify_input.specs.Found.{Finds}
-use Rattle.verify_input.specs.Whole.{FindsWhole}
-use Rattle.verify_input.specs.Laws.{FindingIsOne, WholeFindingIsOne}
+use Rattle.verify_input.proofs.Names.{◌≡◌, ℕ, List, Pictures, What, No, Differs, NotComplete, Yes, Finds, FindsWhole, FindingIsOne, WholeFindingIsOne}
 
 -- of an input of which an event breaks a rule, it is not found that the history is only not complete
 no_more : FindingIsOne → (input : List ℕ) (event rule : ℕ) → Finds input (No event rule) → Finds input NotComplete → ⊥

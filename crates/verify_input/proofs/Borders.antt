@@ -1,11 +1,5 @@
 -- A text that is gone through line by line, up to a border.
-use Rattle.std.proofs.Common.{◌≡◌, ℕ, ◌+◌, ◌-◌, ◌<◌, ◌≤◌, true, false, List, [], ◌∷◌, ◌++◌, length, length-append, take, drop, Bor, Some, None, refl, sym, ap, ◌∙◌, append_assoc, arith}
-use Rattle.std.proofs.lemmas.List.{append-nil, take_at, drop_at}
-use Rattle.script_lines.specs.Text.{words_of}
-use Rattle.verify_input.specs.Reading.{whole_lines}
-use Rattle.verify_input.specs.declared.border.Border.{Border}
-use Rattle.verify_input.specs.Parts.{words_on, is_end, before, behind}
-use Rattle.verify_input.specs.Cuts.{IsFirstLine, IsCutAt}
+use Rattle.verify_input.proofs.Names.{◌≡◌, ℕ, ◌+◌, ◌-◌, ◌<◌, ◌≤◌, true, false, List, [], ◌∷◌, ◌++◌, length, length-append, take, drop, Bor, Some, None, refl, sym, ap, ◌∙◌, append_assoc, arith, append-nil, take_at, drop_at, words_of, whole_lines, Border, words_on, is_end, before, behind, IsFirstLine, IsCutAt}
 use Rattle.verify_input.proofs.Wholes.{Starts, starts}
 
 -- a given number of lines of a text ends no part, and this is after them

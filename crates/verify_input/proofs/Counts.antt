@@ -1,9 +1,5 @@
 -- A journal has no more events than bytes.
-use Rattle.std.proofs.Common.{ℕ, ◌≤◌, List, length, ap, arith}
-use Rattle.std.proofs.lemmas.List.{length-map}
-use Rattle.gpu_journal.specs.declared.event.Event.{Event}
-use Rattle.journal_text.specs.Text.{event_text}
-use Rattle.verify_input.specs.Reading.{IsJournal}
+use Rattle.verify_input.proofs.Names.{ℕ, ◌≤◌, List, length, ap, arith, length-map, Event, event_text, IsJournal}
 use Rattle.verify_input.proofs.Lines.{told_lines}
 use Rattle.verify_input.proofs.Wholes.{few_whole}
 

@@ -1,23 +1,8 @@
 -- Lines that are due, one part after the other.
-use Rattle.std.proofs.Common.{◌≡◌, ℕ, zero, suc, ◌+◌, ◌<◌, List, map, [], ◌∷◌, ◌++◌, length, drop, get_or, refl, ap, subst, append_assoc, Result, Ok, Err, arith, Bool, true, false, cond, eqb, sym, ◌∙◌, ◌≤◌}
-use Rattle.std.specs.Prelude.{◌≢◌, ◌==◌, if◌then◌else◌}
-use Rattle.std.specs.List.{concat, flat_map, range_with_len}
-use Rattle.std.proofs.lemmas.Bool.{ne_eqb}
-use Rattle.std.proofs.lemmas.List.{append-nil, drop_more, drop_all}
-use Rattle.std.proofs.lemmas.List.FromFn.{length-range_with_len, get_or-range_with_len}
-use Rattle.std.proofs.lemmas.Bool.Decides.{nat_tests}
-use Rattle.gpu_plan.specs.Plans.{PlansData}
-use Rattle.gpu_journal.specs.declared.event.Event.{Event}
-use Rattle.verify_input.specs.Reading.{whole_lines}
-use Rattle.verify_input.specs.Due.{Due, Same, what_of, same_lines, MayStand, AreTakenOff, IsOff}
-use Rattle.verify_input.specs.Found.{IsFirstOther}
-use Rattle.verify_input.specs.Taking.{off_of, HasTaken, IsBad, Judges}
+use Rattle.verify_input.proofs.Names.{◌≡◌, ℕ, zero, suc, ◌+◌, ◌<◌, List, map, [], ◌∷◌, ◌++◌, length, drop, get_or, refl, ap, subst, append_assoc, Result, Ok, Err, arith, Bool, true, false, cond, eqb, sym, ◌∙◌, ◌≤◌, ◌≢◌, ◌==◌, if◌then◌else◌, concat, flat_map, range_with_len, ne_eqb, append-nil, drop_more, drop_all, length-range_with_len, get_or-range_with_len, nat_tests, PlansData, Event, whole_lines, Due, Same, what_of, same_lines, MayStand, AreTakenOff, IsOff, IsFirstOther, off_of, HasTaken, IsBad, Judges, What, Rest, Bad, Off}
 use Rattle.verify_input.proofs.Wholes.{concat_whole, few_whole}
-use Rattle.verify_input.specs.declared.what.What.{What}
 use Rattle.verify_input.specs.declared.what.What.TheVariants as what
-use Rattle.verify_input.specs.declared.rest.Rest.{Rest}
-use Rattle.verify_input.specs.declared.rest.Bad.{Bad}
-use Rattle.verify_input.specs.declared.rest.Bad.TheVariants.{Off, Memory}
+use Rattle.verify_input.specs.declared.rest.Bad.TheVariants.{Memory}
 
 -- of all that is due some is taken, and this is left
 pub record IsTaking (p : PlansData) (h : List Event) (all left : List Due) (old new : Rest) (last : ℕ) : Type 0 where

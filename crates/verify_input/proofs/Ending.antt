@@ -1,26 +1,11 @@
 -- All parts after a journal, one after the other, and the end of the text.
-use Rattle.std.proofs.Common.{◌≡◌, ℕ, List, [], ◌∷◌, ◌++◌, map, length, drop, Result, Ok, Err, refl, sym, ap, subst, ◌∙◌, append_assoc}
-use Rattle.std.specs.Prelude.{◌≢◌, OnOk, OnErr, IfErr}
-use Rattle.std.specs.List.{concat, flat_map}
-use Rattle.std.proofs.lemmas.List.{append-nil}
-use Rattle.gpu_store.specs.Images.{Pictures}
-use Rattle.gpu_plan.specs.Plans.{PlansData}
+use Rattle.verify_input.proofs.Names.{◌≡◌, ℕ, List, [], ◌∷◌, ◌++◌, map, length, drop, Result, Ok, Err, refl, sym, ap, subst, ◌∙◌, append_assoc, ◌≢◌, OnOk, OnErr, IfErr, concat, flat_map, append-nil, Pictures, PlansData, sync_of, Ending, Event, whole_lines, Due, same_lines, lines_of_image, images_due, streams_due, marks_due, all_dumps_due, viewers_due, dues, AreTakenOff, IsOff, AreDue, IsMore, IsFirstOff, HasTaken, IsBad, IsHistory, IsFirstBadOf, JudgesAll, past_of, History, What, Rest, Bad, Off}
 use Rattle.sync_core.specs.Pending.{endings}
-use Rattle.gpu_journal.specs.Waits.{sync_of}
-use Rattle.sync_core.specs.declared.ending.Ending.{Ending}
-use Rattle.gpu_journal.specs.declared.event.Event.{Event}
-use Rattle.verify_input.specs.Reading.{whole_lines}
-use Rattle.verify_input.specs.Due.{Due, same_lines, lines_of_image, images_due, streams_due, marks_due, all_dumps_due, viewers_due, dues, AreTakenOff, IsOff, AreDue, IsMore, IsFirstOff}
-use Rattle.verify_input.specs.Taking.{HasTaken, IsBad, IsHistory, IsFirstBadOf, JudgesAll, past_of}
-use Rattle.verify_input.specs.declared.sections.History.{History}
 use Rattle.verify_input.proofs.Dues.{IsTaking, Begins, taking_bad, taking_all}
 use Rattle.verify_input.proofs.Lefts.{mark_at}
 use Rattle.verify_input.proofs.Wholes.{concat_whole}
-use Rattle.verify_input.specs.declared.what.What.{What}
 use Rattle.verify_input.specs.declared.what.What.TheVariants as what
-use Rattle.verify_input.specs.declared.rest.Rest.{Rest}
-use Rattle.verify_input.specs.declared.rest.Bad.{Bad}
-use Rattle.verify_input.specs.declared.rest.Bad.TheVariants.{Off, Memory}
+use Rattle.verify_input.specs.declared.rest.Bad.TheVariants.{Memory}
 
 -- ---- the first line that is off
 

@@ -1,23 +1,12 @@
 -- The lines after a journal are lines.
-use Rattle.std.proofs.Common.{◌≡◌, ℕ, true, false, not, List, [], ◌∷◌, ◌++◌, map, refl}
-use Rattle.std.specs.Prelude.{codes}
-use Rattle.std.specs.List.{list_all, join_with_byte}
-use Rattle.std.proofs.lemmas.List.Elements.{All-weaker}
-use Rattle.script_lines.specs.Text.{ends_line}
+use Rattle.verify_input.proofs.Names.{◌≡◌, ℕ, true, false, not, List, [], ◌∷◌, ◌++◌, map, refl, codes, list_all, join_with_byte, All-weaker, ends_line, Ending, hex8, number_text, Tally, why_text, end_text, tally_text, stream_text, head_text, row_text, how_text, mark_text, dump_text, view_text, IsLine}
 use Rattle.gpu_cmd.specs.Errors.{code_of}
-use Rattle.sync_core.specs.declared.ending.Ending.{Ending}
 use Rattle.sync_core.specs.declared.ending.How.{How}
 use Rattle.sync_core.specs.declared.ending.How.TheVariants.{Release, Guard, Closed}
 use Rattle.gpu_journal.specs.declared.event.Why.{Why}
 use Rattle.gpu_journal.specs.declared.event.Why.TheVariants.{Error, Memory}
 use Rattle.gpu_journal.specs.declared.end.End as ends
 use Rattle.gpu_journal.specs.declared.end.End.TheVariants as end
-use Rattle.journal_text.specs.Digits.{hex8, number_text}
-use Rattle.journal_text.specs.declared.tally.Tally.{Tally}
-use Rattle.journal_text.specs.Text.{why_text, end_text, tally_text, stream_text}
-use Rattle.journal_text.specs.Picture.{head_text, row_text}
-use Rattle.journal_text.specs.Lines.{how_text, mark_text, dump_text, view_text}
-use Rattle.verify_input.specs.Cuts.{IsLine}
 use Rattle.verify_input.proofs.Lines.{IsInk, ink_value, feed_none}
 use Rattle.verify_input.proofs.Heads.{Plain, letters, both, number, line}
 

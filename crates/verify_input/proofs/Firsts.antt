@@ -1,11 +1,5 @@
 -- Lines that end no part, by the bytes that they begin with.
-use Rattle.std.proofs.Common.{◌≡◌, ℕ, ◌<◌, Bool, false, not, List, [], ◌∷◌, length, get_or, refl, sym, ap, subst, ◌∙◌, arith}
-use Rattle.std.specs.Prelude.{filter}
-use Rattle.std.specs.List.{onto_first, slice_split}
-use Rattle.std.proofs.lemmas.Bool.{ne_eqb}
-use Rattle.std.proofs.lemmas.List.Splits.{slice_split-cons_no}
-use Rattle.script_lines.specs.Text.{is_blank, is_empty, words_of}
-use Rattle.verify_input.specs.Parts.{is_journal, begins_part}
+use Rattle.verify_input.proofs.Names.{◌≡◌, ℕ, ◌<◌, Bool, false, not, List, [], ◌∷◌, length, get_or, refl, sym, ap, subst, ◌∙◌, arith, filter, onto_first, slice_split, ne_eqb, slice_split-cons_no, is_blank, is_empty, words_of, is_journal, begins_part}
 
 -- the pieces that are words
 abbrev words_in : List (List ℕ) → List (List ℕ)

@@ -1,20 +1,6 @@
 -- The head of a journal text.
-use Rattle.std.proofs.Common.{◌≡◌, ◌≢◌, ℕ, zero, suc, ◌+◌, ◌-◌, ◌%◌, ◌/◌, ◌<◌, ◌≤◌, Bool, true, false, not, ltb, Option, Some, None, MatchOption, Bor, List, [], ◌∷◌, ◌++◌, map, length, refl, sym, ap, subst, ◌∙◌, arith}
-use Rattle.std.specs.Prelude.{codes, option_map, slice_get}
-use Rattle.std.specs.List.{list_all, concat}
-use Rattle.std.proofs.lemmas.Bool.{and_parts, not-true}
-use Rattle.std.proofs.lemmas.Bool.Decides.{nat_tests}
-use Rattle.std.proofs.lemmas.List.Elements.{All-nil, All-cons, All-append}
+use Rattle.verify_input.proofs.Names.{◌≡◌, ◌≢◌, ℕ, zero, suc, ◌+◌, ◌-◌, ◌%◌, ◌/◌, ◌<◌, ◌≤◌, Bool, true, false, not, ltb, Option, Some, None, MatchOption, Bor, List, [], ◌∷◌, ◌++◌, map, length, refl, sym, ap, subst, ◌∙◌, arith, codes, option_map, slice_get, list_all, concat, and_parts, not-true, nat_tests, All-nil, All-cons, All-append, ends_line, PlanData, PlansData, plan_of, streams_of, plan_here, digits_within, numeral, number_text, journal_head, name_text, HasNoFeed, IsFirstBad, whole_lines, IsLine, head_of, IsFirstOther}
 use Rattle.gpu_cmd.specs.declared.name.Name.{Name}
-use Rattle.script_lines.specs.Text.{ends_line}
-use Rattle.gpu_plan.specs.Plans.{PlanData, PlansData, plan_of}
-use Rattle.gpu_journal.specs.Ended.{streams_of}
-use Rattle.gpu_journal.proofs.Following.{plan_here}
-use Rattle.journal_text.specs.Digits.{digits_within, numeral, number_text}
-use Rattle.journal_text.specs.Lines.{journal_head, name_text}
-use Rattle.verify_input.specs.Reading.{HasNoFeed, IsFirstBad, whole_lines}
-use Rattle.verify_input.specs.Cuts.{IsLine}
-use Rattle.verify_input.specs.Found.{head_of, IsFirstOther}
 use Rattle.verify_input.proofs.Wholes.{concat_whole, few_whole, line_first}
 
 -- ---- the lines of a head are lines

@@ -1,14 +1,7 @@
 -- What is kept of a whole history, as it is asked for.
-use Rattle.std.proofs.Common.{◌≡◌, ℕ, ◌+◌, ◌<◌, List, [], ◌∷◌, length, get_or, refl, ap, ◌∙◌, arith}
-use Rattle.std.proofs.lemmas.List.FromFn.{length-map-range_with_len, get_or-map-range_with_len}
+use Rattle.verify_input.proofs.Names.{◌≡◌, ℕ, ◌+◌, ◌<◌, List, [], ◌∷◌, length, get_or, refl, ap, ◌∙◌, arith, length-map-range_with_len, get_or-map-range_with_len, End, tally_of, stream_text, end_of, past_of, IsHistory, History, same_lines}
 use Rattle.stream_state.specs.State.{State}
-use Rattle.gpu_journal.specs.declared.end.End.{End}
-use Rattle.journal_text.specs.Text.{tally_of, stream_text}
-use Rattle.gpu_journal.specs.Ended.{end_of}
 use Rattle.journal_verify.specs.Faults.{kept_state}
-use Rattle.verify_input.specs.Taking.{past_of, IsHistory}
-use Rattle.verify_input.specs.declared.sections.History.{History}
-use Rattle.verify_input.specs.Due.{same_lines}
 use Rattle.verify_input.specs.declared.what.What.TheVariants as what
 use Rattle.verify_input.proofs.Dues.{Begins, at_range, lines_next}
 use Rattle.verify_input.proofs.Lefts.{end_at, streams_left}

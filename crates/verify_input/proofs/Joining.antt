@@ -1,16 +1,5 @@
 -- The verdict on an input, by the verdict on its parts.
-use Rattle.std.proofs.Common.{◌≡◌, ℕ, ◌+◌, List, length, Option, Some, None, MatchOption, Bor, Result, Ok, Err, sym, ap, subst, ◌∙◌}
-use Rattle.std.specs.Prelude.{IfOk}
-use Rattle.std.specs.List.{concat}
-use Rattle.gpu_plan.specs.Plans.{PlansData}
-use Rattle.gpu_plan.specs.Script.{script_of}
-use Rattle.verify_input.specs.Reading.{whole_lines}
-use Rattle.verify_input.specs.declared.border.Border.TheVariants.{Script, Journal}
-use Rattle.verify_input.specs.declared.finding.Finding.{Finding}
-use Rattle.verify_input.specs.declared.finding.Finding.TheVariants.{Refused, NoJournal, No, Differs, NotComplete, Yes}
-use Rattle.verify_input.specs.Parts.{before, behind, script_part, journal_from}
-use Rattle.verify_input.specs.Found.{script_in, LacksText, HasNoJournal, Finds}
-use Rattle.verify_input.specs.Steps.{FindsIn}
+use Rattle.verify_input.proofs.Names.{◌≡◌, ℕ, ◌+◌, List, length, Option, Some, None, MatchOption, Bor, Result, Ok, Err, sym, ap, subst, ◌∙◌, IfOk, concat, PlansData, script_of, whole_lines, Script, Journal, Finding, Refused, NoJournal, No, Differs, NotComplete, Yes, before, behind, script_part, journal_from, script_in, LacksText, HasNoJournal, Finds, FindsIn}
 use Rattle.verify_input.proofs.Wholes.{concat_whole}
 
 -- the text of the script

@@ -1,28 +1,6 @@
 -- With which word the lines of an output begin.
-use Rattle.std.proofs.Common.{◌≡◌, ℕ, Bool, true, false, cond, not, List, [], ◌∷◌, ◌++◌, map, length, refl, ap, ◌∙◌, arith}
-use Rattle.std.specs.Prelude.{codes, bytes_eq, filter}
-use Rattle.std.specs.List.{All, list_all, flat_map, join_with_byte}
-use Rattle.std.proofs.lemmas.Bool.{and_parts, not-true, false_from_ne_true}
-use Rattle.std.proofs.lemmas.Bool.Decides.{nat_tests}
-use Rattle.std.proofs.lemmas.Slice.Eq.{bytes_eq-Decides}
-use Rattle.std.proofs.lemmas.List.Elements.{All-nil, All-cons, All-head, All-tail, All-append, All-weaker}
-use Rattle.std.proofs.lemmas.List.Splits.{slice_split_none, slice_split_at}
-use Rattle.gpu_store.specs.Picture.{texel_row}
-use Rattle.gpu_store.specs.Images.{Pictures}
-use Rattle.script_lines.specs.Text.{is_blank, is_empty, words_of}
-use Rattle.sync_core.specs.declared.ending.Ending.{Ending}
-use Rattle.gpu_journal.specs.declared.event.Event.{Event}
-use Rattle.gpu_journal.specs.declared.event.Event.TheVariants.{Order, Step, Finish, Lost, Close}
-use Rattle.gpu_journal.specs.declared.end.End.{End}
-use Rattle.journal_text.specs.declared.tally.Tally.{Tally}
-use Rattle.journal_text.specs.Digits.{hex8}
-use Rattle.journal_text.specs.Text.{event_text, stream_text}
-use Rattle.journal_text.specs.Picture.{head_text, row_text}
-use Rattle.journal_text.specs.Lines.{mark_text, dump_text, view_text}
-use Rattle.journal_text.proofs.Lengths.{length-hex8}
-use Rattle.verify_input.specs.Reading.{HasNoFeed}
-use Rattle.verify_input.specs.Parts.{words_on, begins_part}
-use Rattle.verify_input.specs.Due.{lines_of_image, begins_view}
+use Rattle.verify_input.proofs.Names.{◌≡◌, ℕ, Bool, true, false, cond, not, List, [], ◌∷◌, ◌++◌, map, length, refl, ap, ◌∙◌, arith, codes, bytes_eq, filter, All, list_all, flat_map, join_with_byte, and_parts, not-true, false_from_ne_true, nat_tests, bytes_eq-Decides, All-nil, All-cons, All-head, All-tail, All-append, All-weaker, slice_split_none, slice_split_at, texel_row, Pictures, is_blank, is_empty, words_of, Ending, Event, Order, Step, Lost, Close, End, Tally, hex8, event_text, stream_text, head_text, row_text, mark_text, dump_text, view_text, length-hex8, HasNoFeed, words_on, begins_part, lines_of_image, begins_view}
+use Rattle.gpu_journal.specs.declared.event.Event.TheVariants.{Finish}
 use Rattle.verify_input.proofs.Lines.{IsInk, ink_value}
 use Rattle.verify_input.proofs.Wholes.{kept_front}
 use Rattle.verify_input.proofs.Feeds.{texels_plain}

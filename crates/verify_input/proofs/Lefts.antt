@@ -1,21 +1,6 @@
 -- What is left of the parts of an output, and the next lines of it.
-use Rattle.std.proofs.Common.{◌≡◌, ℕ, ◌+◌, ◌-◌, ◌<◌, ◌≤◌, List, Option, Some, suc, [], ◌∷◌, ◌++◌, map, length, drop, replicate, sym, ap, ◌∙◌, arith}
-use Rattle.std.specs.Prelude.{option_map, slice_get, IfSome}
-use Rattle.std.specs.List.{flat_map, range_with_len}
+use Rattle.verify_input.proofs.Names.{◌≡◌, ℕ, ◌+◌, ◌-◌, ◌<◌, ◌≤◌, List, Option, Some, suc, [], ◌∷◌, ◌++◌, map, length, drop, replicate, sym, ap, ◌∙◌, arith, option_map, slice_get, IfSome, flat_map, range_with_len, Picture, texel_row, Pictures, Stands, PlanData, PlansData, mark, Ending, Event, tally_of, stream_text, head_text, row_text, journal_head, name_text, mark_text, state_of, streams_of, end_of, Due, Same, Dump, Look, LastLook, same_lines, lines_of_image, heads_due, dumps_due, looks_due}
 use Rattle.gpu_cmd.specs.declared.name.Name.{Name}
-use Rattle.gpu_store.specs.Picture.{Picture, texel_row}
-use Rattle.gpu_store.specs.Images.{Pictures}
-use Rattle.gpu_store.proofs.Lookups.{Stands}
-use Rattle.gpu_plan.specs.Plans.{PlanData, PlansData}
-use Rattle.wait_hooks.specs.Marks.{mark}
-use Rattle.sync_core.specs.declared.ending.Ending.{Ending}
-use Rattle.gpu_journal.specs.declared.event.Event.{Event}
-use Rattle.journal_text.specs.Text.{tally_of, stream_text}
-use Rattle.journal_text.specs.Picture.{head_text, row_text}
-use Rattle.journal_text.specs.Lines.{journal_head, name_text, mark_text}
-use Rattle.gpu_journal.specs.World.{state_of}
-use Rattle.gpu_journal.specs.Ended.{streams_of, end_of}
-use Rattle.verify_input.specs.Due.{Due, Same, Dump, Look, LastLook, same_lines, lines_of_image, heads_due, dumps_due, looks_due}
 use Rattle.verify_input.specs.declared.what.What.TheVariants as what
 use Rattle.verify_input.proofs.Heads.{line_of, second, name_here}
 use Rattle.verify_input.proofs.Rows.{said_of}

@@ -1,3 +1,4 @@
+pub mod Names
 pub mod Absent
 pub mod Cuts
 pub mod Lines

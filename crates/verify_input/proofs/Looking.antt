@@ -1,15 +1,6 @@
 -- What is read at its place in the line of a dump or of a look is what the line names.
-use Rattle.std.proofs.Common.{◌≡◌, ℕ, ◌-◌, ◌^◌, ◌<◌, ◌≤◌, Some, List, [], ◌∷◌, ◌++◌, length, length-append, take, drop, inl, inr, refl, sym, ap, subst, ◌∙◌, append_assoc, arith}
-use Rattle.std.specs.Prelude.{codes, unwrap_or}
-use Rattle.std.specs.List.{slice_split, join_with_byte}
-use Rattle.std.proofs.lemmas.List.{take_at, drop_at, append_cancel_right}
-use Rattle.journal_text.specs.Digits.{numeral, hex8}
-use Rattle.journal_text.specs.Lines.{view_text}
-use Rattle.journal_text.proofs.Lengths.{length-hex8}
+use Rattle.verify_input.proofs.Names.{◌≡◌, ℕ, ◌-◌, ◌^◌, ◌<◌, ◌≤◌, Some, List, [], ◌∷◌, ◌++◌, length, length-append, take, drop, inl, inr, refl, sym, ap, subst, ◌∙◌, append_assoc, arith, codes, unwrap_or, slice_split, join_with_byte, take_at, drop_at, append_cancel_right, numeral, hex8, view_text, length-hex8, HasNoFeed, whole_lines, IsFirstLine, IsLine, EndsWith, look_said, BeginsWithLook}
 use Rattle.verify_input.specs.Said.{is_space, pieces_of, own_value}
-use Rattle.verify_input.specs.Reading.{HasNoFeed, whole_lines}
-use Rattle.verify_input.specs.Cuts.{IsFirstLine, IsLine}
-use Rattle.verify_input.specs.Looks.{EndsWith, look_said, BeginsWithLook}
 use Rattle.verify_input.proofs.Numbers.{own_number_there, own_value_there}
 use Rattle.verify_input.proofs.Lines.{feed_there, AreInk, ink_letters, ink_number, ink_value, split_joined, regroup, lines_first}
 use Rattle.verify_input.proofs.Wholes.{last_whole}

@@ -1,22 +1,12 @@
 -- A stream is lost in a legal history exactly where it ended so.
-use Rattle.std.proofs.Common.{◌≡◌, ℕ, ◌+◌, eqb, Bool, true, false, not, cond, ◌&&◌, List, [], ◌∷◌, map, refl, sym, ap, subst, ◌∙◌}
-use Rattle.std.proofs.lemmas.Bool.{eqb-true, eq-eqb}
-use Rattle.gpu_plan.specs.Plans.{PlansData, plan_of}
+use Rattle.verify_input.proofs.Names.{◌≡◌, ℕ, ◌+◌, eqb, Bool, true, false, not, cond, ◌&&◌, List, [], ◌∷◌, map, refl, sym, ap, subst, ◌∙◌, eqb-true, eq-eqb, PlansData, plan_of, Event, Order, Step, Lost, Close, End, world, stream_in, asked_by, deed, deed_asked, standing_of, drawn, Obeys, IsLegal, end_of, Dump, dumps_due, is_lost}
 use Rattle.stream_state.specs.declared.effect.Effect.{Effect}
 use Rattle.stream_state.specs.declared.effect.Effect.TheVariants.{Nothing, Token, Release, Wait, WaitName, Pixels, Results}
 use Rattle.sync_core.specs.Standing.{Standing}
 use Rattle.sync_core.specs.Events as sync
-use Rattle.gpu_journal.specs.declared.event.Event.{Event}
-use Rattle.gpu_journal.specs.declared.event.Event.TheVariants.{Order, Step, Finish, Lost, Close}
-use Rattle.gpu_journal.specs.declared.end.End.{End}
-use Rattle.gpu_journal.specs.World.{world, stream_in, asked_by}
-use Rattle.gpu_journal.specs.Waits.{deed, deed_asked, standing_of, drawn}
-use Rattle.gpu_journal.specs.Legal.{Obeys, IsLegal}
-use Rattle.gpu_journal.specs.Ended.{end_of}
+use Rattle.gpu_journal.specs.declared.event.Event.TheVariants.{Finish}
 use Rattle.gpu_journal.proofs.Worlds.{sync_none}
 use Rattle.serial_laws.proofs.Others.{moved_by, standing_own, standing_other}
-use Rattle.verify_input.specs.Due.{Dump, dumps_due}
-use Rattle.verify_input.specs.Taking.{is_lost}
 
 -- whether a stream is lost after an event of it
 abbrev lost_after : Event → Bool → Bool

@@ -1,32 +1,6 @@
 -- Lines that are as they are due are taken off as such.
-use Rattle.std.proofs.Common.{◌≡◌, ℕ, zero, suc, ◌+◌, ◌*◌, ◌≤◌, Bool, true, false, cond, List, [], ◌∷◌, ◌++◌, map, drop, length, length-append, refl, sym, ap, subst, ◌∙◌, append_assoc, arith}
-use Rattle.std.specs.Prelude.{◌==◌}
-use Rattle.std.specs.List.{All, concat, flat_map, join_with_byte, range_with_len}
-use Rattle.std.proofs.lemmas.List.{append-nil, drop_at, length-map}
-use Rattle.std.proofs.lemmas.List.Elements.{All-nil, All-cons, All-head, All-tail, All-append}
-use Rattle.std.proofs.lemmas.List.Folds.{concat-append}
-use Rattle.gpu_store.specs.Picture.{texel_row}
-use Rattle.gpu_store.specs.Images.{Pictures}
-use Rattle.gpu_plan.specs.Plans.{PlansData, plan_of}
-use Rattle.wait_hooks.specs.Marks.{mark}
-use Rattle.gpu_journal.specs.declared.event.Event.{Event}
-use Rattle.gpu_journal.specs.World.{state_of, replay}
-use Rattle.gpu_journal.specs.Waits.{endings_in}
-use Rattle.gpu_journal.specs.Ended.{streams_of, end_of}
-use Rattle.gpu_journal.specs.Dumps.{dumps_of}
-use Rattle.journal_text.specs.Text.{event_text, journal_text, tally_of}
-use Rattle.journal_text.specs.Picture.{head_text, row_text}
-use Rattle.journal_text.specs.Lines.{journal_head, name_text, dump_text}
-use Rattle.journal_text.specs.Output.{AreDumps, AreDumpsOf}
-use Rattle.verify_input.specs.Reading.{HasNumbersOfWords, whole_lines}
-use Rattle.verify_input.specs.Cuts.{IsLine}
-use Rattle.verify_input.specs.Parts.{before}
-use Rattle.verify_input.specs.Found.{head_of}
-use Rattle.verify_input.specs.Due.{Due, Same, Dump, same_lines, lines_of_image, picture_lines, end_lines, ending_lines, dumps_due, looks_due, images_due, streams_due, marks_due, all_dumps_due, viewers_due, dues, AreTakenOff, AreDue, viewers_in}
-use Rattle.verify_input.specs.Whole.{TellsAll}
-use Rattle.verify_input.specs.declared.what.What.{What}
+use Rattle.verify_input.proofs.Names.{◌≡◌, ℕ, zero, suc, ◌+◌, ◌*◌, ◌≤◌, Bool, true, false, cond, List, [], ◌∷◌, ◌++◌, map, drop, length, length-append, refl, sym, ap, subst, ◌∙◌, append_assoc, arith, ◌==◌, All, concat, flat_map, join_with_byte, range_with_len, append-nil, drop_at, length-map, All-nil, All-cons, All-head, All-tail, All-append, concat-append, texel_row, Pictures, PlansData, plan_of, mark, Event, state_of, replay, endings_in, streams_of, end_of, dumps_of, event_text, journal_text, tally_of, head_text, row_text, journal_head, name_text, dump_text, AreDumps, AreDumpsOf, HasNumbersOfWords, whole_lines, IsLine, before, head_of, Due, Same, Dump, same_lines, lines_of_image, picture_lines, end_lines, ending_lines, dumps_due, looks_due, images_due, streams_due, marks_due, all_dumps_due, viewers_due, dues, AreTakenOff, AreDue, viewers_in, TellsAll, What, Journal}
 use Rattle.verify_input.specs.declared.what.What.TheVariants as what
-use Rattle.verify_input.specs.declared.border.Border.TheVariants.{Journal}
 use Rattle.verify_input.proofs.Events.{event_pieces}
 use Rattle.verify_input.proofs.Lines.{event_joined, event_no_feed, told_lines}
 use Rattle.verify_input.proofs.Wholes.{line_first}

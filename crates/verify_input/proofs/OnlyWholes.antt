@@ -1,25 +1,6 @@
 -- One finding alone is that of an input with an output.
-use Rattle.std.proofs.Common.{◌≡◌, ◌⊎◌, inl, inr, ℕ, ◌+◌, ◌-◌, List, [], ◌++◌, length, drop, reverse, Option, Some, None, Result, Ok, refl, sym, ap, subst, ◌∙◌, arith}
-use Rattle.std.specs.List.{All, concat}
-use Rattle.std.proofs.lemmas.List.{append_cancel_left}
-use Rattle.script_lines.specs.declared.fault.Kind.{Kind}
-use Rattle.gpu_plan.specs.Plans.{PlansData}
-use Rattle.gpu_journal.specs.declared.event.Event.{Event}
-use Rattle.journal_text.specs.Text.{journal_text}
-use Rattle.journal_verify.proofs.Firsts.{wrong_is_illegal}
-use Rattle.verify_input.specs.Reading.{HasNumbersOfWords, IsFirstBad, whole_lines}
-use Rattle.verify_input.specs.Parts.{before, script_part}
-use Rattle.verify_input.specs.Found.{script_in, head_of}
-use Rattle.verify_input.specs.Due.{dues, heads_due, IsOff, AreDue, IsFirstOff, viewers_in}
-use Rattle.verify_input.specs.Steps.{FindsOf}
-use Rattle.journal_verify.specs.Answers.{IsWholeHistory}
-use Rattle.verify_input.specs.Whole.{output_part, HasOutput, AreHeaded, TellsAll, LacksEvent, FindsAll, FindsWhole}
-use Rattle.verify_input.specs.Laws.{WholeFindingIsOne}
-use Rattle.verify_input.specs.declared.border.Border.TheVariants.{Journal}
-use Rattle.verify_input.specs.declared.what.What.{What}
+use Rattle.verify_input.proofs.Names.{◌≡◌, ◌⊎◌, inl, inr, ℕ, ◌+◌, ◌-◌, List, [], ◌++◌, length, drop, reverse, Option, Some, None, Result, Ok, refl, sym, ap, subst, ◌∙◌, arith, All, concat, append_cancel_left, Kind, PlansData, Event, journal_text, wrong_is_illegal, HasNumbersOfWords, IsFirstBad, whole_lines, before, script_part, script_in, head_of, dues, heads_due, IsOff, AreDue, IsFirstOff, viewers_in, FindsOf, IsWholeHistory, output_part, HasOutput, AreHeaded, TellsAll, LacksEvent, FindsAll, FindsWhole, WholeFindingIsOne, Journal, What, Finding, Refused, NoJournal, No, Differs, NotComplete, Yes}
 use Rattle.verify_input.specs.declared.what.What.TheVariants.{Name}
-use Rattle.verify_input.specs.declared.finding.Finding.{Finding}
-use Rattle.verify_input.specs.declared.finding.Finding.TheVariants.{Refused, NoJournal, No, Differs, NotComplete, Yes}
 use Rattle.verify_input.proofs.Lines.{refused_is_no_journal, journal_is_one}
 use Rattle.verify_input.proofs.Wholes.{concat_whole}
 use Rattle.verify_input.proofs.Offered.{same_offered}

@@ -1,25 +1,7 @@
 -- One finding alone is that of an input.
-use Rattle.std.proofs.Common.{◌≡◌, ℕ, ◌+◌, ◌-◌, ◌<◌, zero, suc, ◌⊎◌, inl, inr, List, [], ◌∷◌, ◌++◌, length, take, reverse, Option, Some, None, Result, Ok, Err, refl, sym, ap, subst, ◌∙◌, arith}
-use Rattle.std.specs.Prelude.{slice_get}
-use Rattle.std.specs.List.{concat}
-use Rattle.std.proofs.lemmas.Bool.{cases_order}
-use Rattle.std.proofs.lemmas.List.{take-take, append_cancel_left}
-use Rattle.script_lines.specs.declared.fault.Kind.{Kind}
-use Rattle.gpu_plan.specs.Plans.{PlansData}
-use Rattle.gpu_journal.specs.declared.event.Event.{Event}
-use Rattle.gpu_journal.specs.Legal.{IsLegal}
-use Rattle.journal_text.specs.Text.{journal_text}
-use Rattle.verify_input.specs.Reading.{IsFirstBad, whole_lines}
+use Rattle.verify_input.proofs.Names.{◌≡◌, ℕ, ◌+◌, ◌-◌, ◌<◌, zero, suc, ◌⊎◌, inl, inr, List, [], ◌∷◌, ◌++◌, length, take, reverse, Option, Some, None, Result, Ok, Err, refl, sym, ap, subst, ◌∙◌, arith, slice_get, concat, cases_order, take-take, append_cancel_left, Kind, PlansData, Event, IsLegal, journal_text, IsFirstBad, whole_lines, IsFirstWrong, wrong_is_illegal, rule_is_one, Finding, Refused, NoJournal, No, Differs, NotComplete, Yes, script_part, journal_part, script_in, head_of, TellsBehind, Records, IsFirstOther, LacksText, Finds, FindsOf, FindingIsOne}
 use Rattle.verify_input.proofs.Lines.{refused_is_no_journal, journal_is_one}
 use Rattle.journal_verify.specs.Rules.{BreaksFirst}
-use Rattle.journal_verify.specs.Answers.{IsFirstWrong}
-use Rattle.journal_verify.proofs.Firsts.{wrong_is_illegal, rule_is_one}
-use Rattle.verify_input.specs.declared.finding.Finding.{Finding}
-use Rattle.verify_input.specs.declared.finding.Finding.TheVariants.{Refused, NoJournal, No, Differs, NotComplete, Yes}
-use Rattle.verify_input.specs.Parts.{script_part, journal_part}
-use Rattle.verify_input.specs.Found.{script_in, head_of, TellsBehind, Records, IsFirstOther, LacksText, Finds}
-use Rattle.verify_input.specs.Steps.{FindsOf}
-use Rattle.verify_input.specs.Laws.{FindingIsOne}
 use Rattle.verify_input.proofs.Wholes.{concat_whole}
 
 -- ---- one line alone is the first that is another

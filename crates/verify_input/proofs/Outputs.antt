@@ -1,15 +1,5 @@
 -- Lines that are due are the text of the output.
-use Rattle.std.proofs.Common.{◌≡◌, ℕ, List, [], ◌∷◌, ◌++◌, map, drop, refl, sym, ap, subst, ◌∙◌, append_assoc}
-use Rattle.std.specs.List.{concat, flat_map, range_with_len}
-use Rattle.std.proofs.lemmas.List.{append-nil}
-use Rattle.std.proofs.lemmas.List.Folds.{concat-append}
-use Rattle.gpu_plan.specs.Plans.{PlansData}
-use Rattle.gpu_journal.specs.declared.event.Event.{Event}
-use Rattle.gpu_journal.specs.Ended.{streams_of}
-use Rattle.gpu_journal.specs.Dumps.{dumps_of}
-use Rattle.journal_text.specs.Output.{AreDumps, AreDumpsOf, AreDumpLines}
-use Rattle.verify_input.specs.Due.{Due, Dump, same_lines, picture_lines, end_lines, ending_lines, dumps_due, looks_due, images_due, streams_due, marks_due, all_dumps_due, viewers_due, dues, AreTakenOff, AreDue}
-use Rattle.verify_input.specs.declared.what.What.{What}
+use Rattle.verify_input.proofs.Names.{◌≡◌, ℕ, List, [], ◌∷◌, ◌++◌, map, drop, refl, sym, ap, subst, ◌∙◌, append_assoc, concat, flat_map, range_with_len, append-nil, concat-append, PlansData, Event, streams_of, dumps_of, AreDumps, AreDumpsOf, AreDumpLines, Due, Dump, same_lines, picture_lines, end_lines, ending_lines, dumps_due, looks_due, images_due, streams_due, marks_due, all_dumps_due, viewers_due, dues, AreTakenOff, AreDue, What}
 use Rattle.verify_input.specs.declared.what.What.TheVariants as what
 use Rattle.verify_input.proofs.Ending.{joined, parts, dues_parts}
 

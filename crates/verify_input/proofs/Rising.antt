@@ -1,14 +1,7 @@
 -- The dumps of a stream rise, so the flushes before each are those before the last and those between.
-use Rattle.std.proofs.Common.{◌≡◌, ℕ, ◌+◌, ◌-◌, ◌<◌, ◌≤◌, List, [], ◌∷◌, ◌++◌, length, take, drop, get_or, sym, ap, subst, ◌∙◌, arith}
-use Rattle.std.specs.Prelude.{Contains}
-use Rattle.std.specs.List.{All}
-use Rattle.std.proofs.lemmas.List.{take-append-drop, drop_more, drop-drop, length-drop}
-use Rattle.std.proofs.lemmas.List.Elements.{All-get_or, Contains-get_or}
-use Rattle.std.proofs.lemmas.Option.{slice_get_within}
+use Rattle.verify_input.proofs.Names.{◌≡◌, ℕ, ◌+◌, ◌-◌, ◌<◌, ◌≤◌, List, [], ◌∷◌, ◌++◌, length, take, drop, get_or, sym, ap, subst, ◌∙◌, arith, Contains, All, take-append-drop, drop_more, drop-drop, length-drop, All-get_or, Contains-get_or, slice_get_within, PlanData, IsDump, RiseFrom, flushes}
 use Rattle.gpu_plan.specs.declared.plan.Action.{Action}
 use Rattle.gpu_plan.specs.declared.plan.Action.TheVariants.{Finish}
-use Rattle.gpu_plan.specs.Plans.{PlanData, IsDump, RiseFrom}
-use Rattle.gpu_plan.specs.Passes.{flushes}
 
 flushes_both : (xs ys : List Action) → flushes (xs ++ ys) ≡ flushes xs + flushes ys
 flushes_both [] ys = omega arith

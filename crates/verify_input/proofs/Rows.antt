@@ -1,9 +1,5 @@
 -- An image that is found: its height, and its lines.
-use Rattle.std.proofs.Common.{◌≡◌, ℕ, ◌<◌, Option, Some, None, List, refl, sym, ap, subst, ◌∙◌}
-use Rattle.std.specs.Prelude.{option_map, unwrap_or, IsSome, IfSome, IsSomeAnd}
-use Rattle.gpu_store.specs.Picture.{Picture, texel_row}
-use Rattle.journal_text.specs.Picture.{head_text, row_text}
-use Rattle.verify_input.specs.Cuts.{IsLine}
+use Rattle.verify_input.proofs.Names.{◌≡◌, ℕ, ◌<◌, Option, Some, None, List, refl, sym, ap, subst, ◌∙◌, option_map, unwrap_or, IsSome, IfSome, IsSomeAnd, Picture, texel_row, head_text, row_text, IsLine}
 use Rattle.verify_input.proofs.Feeds.{image_line, row_line}
 
 pub height_is : (found : Option Picture) (width height : ℕ) (picture : Picture) → option_map {U = ℕ × ℕ} (λ (picture : Picture). (picture.width, picture.height)) found ≡ Some (width, height) → found ≡ Some picture → height ≡ picture.height

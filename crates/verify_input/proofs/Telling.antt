@@ -1,21 +1,6 @@
 -- The lines of dumps and of looks: what is read at its place decides whether a line may stand there.
-use Rattle.std.proofs.Common.{◌≡◌, ℕ, ◌+◌, ◌^◌, ◌<◌, ◌≤◌, Bool, true, false, Result, Ok, Err, List, [], ◌∷◌, ◌++◌, length, length-append, refl, sym, ap, subst, ◌∙◌, append_assoc, arith}
-use Rattle.std.specs.List.{concat}
-use Rattle.gpu_store.specs.Sums.{texel_sum}
-use Rattle.gpu_plan.specs.Plans.{PlansData}
-use Rattle.gpu_journal.specs.declared.event.Event.{Event}
-use Rattle.gpu_journal.specs.Dumps.{MayDump}
-use Rattle.journal_text.specs.Digits.{hex8}
-use Rattle.journal_text.specs.Lines.{dump_text, view_text}
-use Rattle.journal_text.proofs.Lengths.{length-hex8}
-use Rattle.journal_verify.specs.Followed.{sum_after}
-use Rattle.verify_input.specs.Reading.{whole_lines}
-use Rattle.verify_input.specs.Due.{Same, Dump, Look, LastLook, same_lines}
-use Rattle.verify_input.specs.Taking.{off_of, HasTaken, IsBad, Judges, IsLook}
-use Rattle.verify_input.specs.Looks.{EndsWith, BeginsWithLook}
+use Rattle.verify_input.proofs.Names.{◌≡◌, ℕ, ◌+◌, ◌^◌, ◌<◌, ◌≤◌, Bool, true, false, Result, Ok, Err, List, [], ◌∷◌, ◌++◌, length, length-append, refl, sym, ap, subst, ◌∙◌, append_assoc, arith, concat, texel_sum, PlansData, Event, MayDump, hex8, dump_text, view_text, length-hex8, sum_after, whole_lines, Same, Dump, Look, LastLook, same_lines, off_of, HasTaken, IsBad, Judges, IsLook, EndsWith, BeginsWithLook, Rest, Bad}
 use Rattle.verify_input.specs.declared.what.What.TheVariants as what
-use Rattle.verify_input.specs.declared.rest.Rest.{Rest}
-use Rattle.verify_input.specs.declared.rest.Bad.{Bad}
 use Rattle.verify_input.proofs.Wholes.{concat_whole}
 use Rattle.verify_input.proofs.Feeds.{dump_front}
 use Rattle.verify_input.proofs.Dues.{taken_as, bad_as, due_bad}

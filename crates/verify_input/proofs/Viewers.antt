@@ -1,12 +1,6 @@
 -- How many viewers the view lines of a text are of.
-use Rattle.std.proofs.Common.{◌≡◌, ℕ, ◌+◌, ◌≤◌, min, cond, List, ◌∷◌, ap, ◌∙◌, arith}
-use Rattle.std.specs.Prelude.{count_by}
+use Rattle.verify_input.proofs.Names.{◌≡◌, ℕ, ◌+◌, ◌≤◌, min, cond, List, ◌∷◌, ap, ◌∙◌, arith, count_by, words_of, whole_lines, words_on, IsFirstLine, begins_view}
 use Rattle.std.proofs.lemmas.List.Sums.{sum_by-cons}
-use Rattle.script_lines.specs.Text.{words_of}
-use Rattle.verify_input.specs.Reading.{whole_lines}
-use Rattle.verify_input.specs.Parts.{words_on}
-use Rattle.verify_input.specs.Cuts.{IsFirstLine}
-use Rattle.verify_input.specs.Due.{begins_view}
 use Rattle.verify_input.proofs.Wholes.{starts}
 
 -- how many of the lines are view lines

@@ -1,14 +1,6 @@
 -- The lines of a text, each with its line feed.
-use Rattle.std.proofs.Common.{◌≡◌, ℕ, suc, ◌<◌, ◌≤◌, true, false, cond, not, inl, inr, List, [], ◌∷◌, ◌++◌, length, length-append, refl, sym, ap, ◌∙◌, append_assoc, arith}
-use Rattle.std.specs.Prelude.{filter}
-use Rattle.std.specs.List.{concat}
-use Rattle.std.proofs.lemmas.List.{append-nil}
-use Rattle.std.proofs.lemmas.List.Elements.{All-head, All-tail}
-use Rattle.script_lines.specs.Text.{ends_line, words_of}
-use Rattle.verify_input.specs.Reading.{HasNoFeed, byte_before, whole_lines}
+use Rattle.verify_input.proofs.Names.{◌≡◌, ℕ, suc, ◌<◌, ◌≤◌, true, false, cond, not, inl, inr, List, [], ◌∷◌, ◌++◌, length, length-append, refl, sym, ap, ◌∙◌, append_assoc, arith, filter, concat, append-nil, All-head, All-tail, ends_line, words_of, HasNoFeed, byte_before, whole_lines, words_on, IsFirstLine, IsLine}
 use Rattle.verify_input.proofs.Lines.{lines_first}
-use Rattle.verify_input.specs.Parts.{words_on}
-use Rattle.verify_input.specs.Cuts.{IsFirstLine, IsLine}
 
 -- ---- lines and their text
 

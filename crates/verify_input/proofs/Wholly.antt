@@ -1,28 +1,8 @@
 -- The verdict on an input with an output, by the verdict on its parts.
-use Rattle.std.proofs.Common.{◌≡◌, ℕ, zero, suc, ◌+◌, ◌-◌, ◌≤◌, Bool, true, false, cond, inr, List, [], ◌∷◌, ◌++◌, length, length-append, drop, refl, Option, Some, None, Ok, sym, ap, subst, ◌∙◌, arith}
-use Rattle.std.specs.Prelude.{option_map}
-use Rattle.std.specs.List.{concat}
-use Rattle.std.proofs.lemmas.List.{length-drop}
-use Rattle.std.proofs.lemmas.List.Folds.{concat-append}
-use Rattle.gpu_plan.specs.Plans.{PlansData}
-use Rattle.gpu_journal.specs.declared.event.Event.{Event}
-use Rattle.journal_text.specs.Text.{journal_text}
-use Rattle.script_lines.specs.Text.{ends_line}
-use Rattle.verify_input.specs.Reading.{byte_before, whole_lines, IsJournal}
-use Rattle.verify_input.specs.Parts.{words_on, is_end, before, behind, script_part}
-use Rattle.verify_input.specs.Found.{script_in, head_of, IsFirstOther}
-use Rattle.verify_input.specs.Due.{same_lines, heads_due, IsOff}
-use Rattle.verify_input.specs.Taking.{HasTaken}
-use Rattle.verify_input.specs.declared.rest.Rest.{Rest}
-use Rattle.verify_input.specs.declared.what.What.{What}
+use Rattle.verify_input.proofs.Names.{◌≡◌, ℕ, zero, suc, ◌+◌, ◌-◌, ◌≤◌, Bool, true, false, cond, inr, List, [], ◌∷◌, ◌++◌, length, length-append, drop, refl, Option, Some, None, Ok, sym, ap, subst, ◌∙◌, arith, option_map, concat, length-drop, concat-append, PlansData, Event, journal_text, ends_line, byte_before, whole_lines, IsJournal, words_on, is_end, before, behind, script_part, script_in, head_of, IsFirstOther, same_lines, heads_due, IsOff, HasTaken, Rest, What, output_part, IsAfterScript, TellsAll, LacksEvent, FindsAll, FindsWhole, Border, Script, Journal, Finding, Refused, NoJournal, No, Differs, NotComplete, Yes}
 use Rattle.verify_input.specs.declared.what.What.TheVariants as what
 use Rattle.verify_input.proofs.Outputs.{same_taken}
 use Rattle.verify_input.proofs.Wholes.{concat_whole}
-use Rattle.verify_input.specs.Whole.{output_part, IsAfterScript, TellsAll, LacksEvent, FindsAll, FindsWhole}
-use Rattle.verify_input.specs.declared.border.Border.{Border}
-use Rattle.verify_input.specs.declared.border.Border.TheVariants.{Script, Journal}
-use Rattle.verify_input.specs.declared.finding.Finding.{Finding}
-use Rattle.verify_input.specs.declared.finding.Finding.TheVariants.{Refused, NoJournal, No, Differs, NotComplete, Yes}
 
 -- the line that ends a part stands between what is before it and what is behind it
 parted_by : (b : Bool) (line : List ℕ) (lines rest before_them : List (List ℕ)) (found : Option (List (List ℕ))) → (found ≡ Some rest → length lines ≡ length before_them + 1 + length rest)

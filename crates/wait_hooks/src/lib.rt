@@ -18,6 +18,3 @@ mod marks;
 pub use hook::{Hook, Marker};
 pub use hooks::Hooks;
 pub use marks::mark;
-
-#[cfg(test)]
-mod tests;

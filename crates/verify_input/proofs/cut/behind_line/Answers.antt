@@ -1,5 +1,4 @@
-use Rattle.std.proofs.lemmas.Bool.Decides.{Decides-eqb}
-use Rattle.std.proofs.lemmas.Slice.Eq.{strip_prefix_is}
+use Rattle.verify_input.proofs.Names.{Decides-eqb, strip_prefix_is}
 use Rattle.verify_input.proofs.Heads.{stripped}
 use Rattle.verify_input.proofs.cut.behind_line.Goals as goal
 

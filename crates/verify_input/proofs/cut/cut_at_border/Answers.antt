@@ -1,4 +1,4 @@
-use Rattle.std.proofs.Common.{sym, ◌∙◌}
+use Rattle.verify_input.proofs.Names.{sym, ◌∙◌}
 use Rattle.verify_input.proofs.Borders.{on_none, on_more, cut_all, cut_end}
 use Rattle.verify_input.proofs.cut.cut_at_border.Goals as goal
 

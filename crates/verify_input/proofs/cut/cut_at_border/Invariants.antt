@@ -1,4 +1,4 @@
-use Rattle.std.proofs.Common.{length}
+use Rattle.verify_input.proofs.Names.{length}
 use Rattle.verify_input.proofs.Borders.{IsOn}
 use Rattle.verify_input.proofs.cut.cut_at_border.Given as goal
 

@@ -1,5 +1,4 @@
-use Rattle.std.proofs.Common.{◌∷◌, ◌++◌, inl, inr, refl, sym, subst, ◌∙◌, arith}
-use Rattle.verify_input.specs.Reading.{HasNoFeed}
+use Rattle.verify_input.proofs.Names.{◌∷◌, ◌++◌, inl, inr, refl, sym, subst, ◌∙◌, arith, HasNoFeed}
 use Rattle.verify_input.proofs.Lines.{feed_found, feed_missing}
 use Rattle.verify_input.proofs.cut.first_line.Goals as goal
 

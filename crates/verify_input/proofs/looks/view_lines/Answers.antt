@@ -1,4 +1,4 @@
-use Rattle.std.proofs.Common.{vec_len}
+use Rattle.verify_input.proofs.Names.{vec_len}
 use Rattle.verify_input.proofs.Viewers.{noted_more}
 use Rattle.verify_input.proofs.looks.view_lines.Goals as goal
 

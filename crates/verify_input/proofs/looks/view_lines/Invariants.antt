@@ -1,4 +1,4 @@
-use Rattle.std.proofs.Common.{length, vec_len}
+use Rattle.verify_input.proofs.Names.{length, vec_len}
 use Rattle.verify_input.proofs.Viewers.{IsNoted}
 use Rattle.verify_input.proofs.looks.view_lines.Given as goal
 

@@ -1,8 +1,4 @@
-use Rattle.std.proofs.Common.{length, refl, ap, ◌∙◌, arith}
-use Rattle.std.proofs.lemmas.List.{take_all}
-use Rattle.std.proofs.lemmas.Option.{slice_get_read}
-use Rattle.gpu_plan.specs.Passes.{flushes}
-use Rattle.gpu_plan.proofs.Passing.{flushes_one_further, flush_count_most}
+use Rattle.verify_input.proofs.Names.{length, refl, ap, ◌∙◌, arith, take_all, slice_get_read, flushes, flushes_one_further, flush_count_most}
 use Rattle.verify_input.proofs.sections.flushes_in.Goals as goal
 
 pub loop-action-preserved : goal.loop-action-preserved

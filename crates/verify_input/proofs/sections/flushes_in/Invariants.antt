@@ -1,5 +1,4 @@
-use Rattle.std.proofs.Common.{◌≡◌, ◌≤◌, take}
-use Rattle.gpu_plan.specs.Passes.{flushes}
+use Rattle.verify_input.proofs.Names.{◌≡◌, ◌≤◌, take, flushes}
 use Rattle.verify_input.proofs.sections.flushes_in.Given as goal
 
 abbrev pub invariant-loop-action : goal.invariant-loop-action

@@ -1,5 +1,4 @@
-use Rattle.std.proofs.Common.{sym, ◌∙◌}
-use Rattle.gpu_store.specs.Images.{picture_of}
+use Rattle.verify_input.proofs.Names.{sym, ◌∙◌, picture_of}
 use Rattle.verify_input.proofs.Rows.{height_is}
 use Rattle.verify_input.proofs.sections.height_of.Goals as goal
 

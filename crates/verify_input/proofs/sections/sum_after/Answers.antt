@@ -1,10 +1,5 @@
-use Rattle.std.proofs.Common.{◌-◌, length, take, drop, sym, ap, subst, ◌∙◌}
-use Rattle.std.proofs.lemmas.List.{take-append-drop}
-use Rattle.gpu_store.specs.Sums.{texel_sum}
-use Rattle.gpu_journal.specs.Legal.{IsLegal}
+use Rattle.verify_input.proofs.Names.{◌-◌, length, take, drop, sym, ap, subst, ◌∙◌, take-append-drop, texel_sum, IsLegal, noted_sum, past_of}
 use Rattle.gpu_journal.proofs.Following.{legal_tail}
-use Rattle.journal_verify.proofs.Asking.{noted_sum}
-use Rattle.verify_input.specs.Taking.{past_of}
 use Rattle.verify_input.proofs.sections.sum_after.Goals as goal
 
 pub returns-in-Some : goal.returns-in-Some

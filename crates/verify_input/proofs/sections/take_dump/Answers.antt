@@ -1,11 +1,4 @@
-use Rattle.std.proofs.Common.{◌≡◌, true, length, sym, ap, subst, ◌∙◌, [], ◌∷◌}
-use Rattle.journal_text.specs.Lines.{dump_text}
-use Rattle.journal_verify.specs.Followed.{may_be_told}
-use Rattle.journal_verify.proofs.Asking.{told_decides}
-use Rattle.verify_input.specs.Cuts.{IsLine}
-use Rattle.verify_input.specs.Due.{Dump}
-use Rattle.verify_input.specs.Looks.{EndsWith}
-use Rattle.verify_input.specs.Taking.{IsBad, past_of}
+use Rattle.verify_input.proofs.Names.{◌≡◌, true, length, sym, ap, subst, ◌∙◌, [], ◌∷◌, dump_text, may_be_told, told_decides, IsLine, Dump, EndsWith, IsBad, past_of}
 use Rattle.verify_input.proofs.Feeds.{dump_line}
 use Rattle.verify_input.proofs.Telling.{Told, dump_bad, dump_judged}
 use Rattle.verify_input.proofs.sections.take_dump.Goals as goal

@@ -1,8 +1,4 @@
-use Rattle.std.proofs.Common.{◌+◌, length, ap, arith}
-use Rattle.std.specs.List.{flat_map}
-use Rattle.std.proofs.lemmas.Result.{err_from_is_err_and}
-use Rattle.verify_input.specs.Due.{dumps_due}
-use Rattle.verify_input.specs.Taking.{past_of}
+use Rattle.verify_input.proofs.Names.{◌+◌, length, ap, arith, flat_map, err_from_is_err_and, dumps_due, past_of}
 use Rattle.verify_input.proofs.Dues.{at_range, range_end, dues_next, taking_none, taking_more, judged_exit, judged_all}
 use Rattle.verify_input.proofs.sections.take_dumps.Goals as goal
 

@@ -1,7 +1,4 @@
-use Rattle.std.specs.List.{flat_map}
-use Rattle.gpu_journal.specs.Ended.{streams_of}
-use Rattle.verify_input.specs.Due.{dumps_due}
-use Rattle.verify_input.specs.Taking.{past_of}
+use Rattle.verify_input.proofs.Names.{flat_map, streams_of, dumps_due, past_of}
 use Rattle.verify_input.proofs.Dues.{IsTaking}
 use Rattle.verify_input.proofs.Lefts.{all_dumps_left}
 use Rattle.verify_input.proofs.sections.take_dumps.Given as goal

@@ -1,8 +1,4 @@
-use Rattle.std.proofs.Common.{◌-◌, List, map, sym, ap, subst, ◌∙◌, arith}
-use Rattle.gpu_plan.specs.Plans.{PlanData}
-use Rattle.gpu_journal.proofs.Following.{plan_here}
-use Rattle.verify_input.specs.Due.{Due, Dump}
-use Rattle.verify_input.specs.Taking.{Judges, past_of}
+use Rattle.verify_input.proofs.Names.{◌-◌, List, map, sym, ap, subst, ◌∙◌, arith, PlanData, plan_here, Due, Dump, Judges, past_of}
 use Rattle.verify_input.proofs.Dues.{taking_none, judged_all}
 use Rattle.verify_input.proofs.Losing.{dumps_lost, dumps_told}
 use Rattle.verify_input.proofs.Histories.{ends_kept, end_there}

@@ -1,13 +1,5 @@
 -- Each goal of the loop is a fact of the dump at hand.
-use Rattle.std.proofs.Common.{◌≡◌, ◌+◌, ◌-◌, ◌<◌, ◌∷◌, [], ℕ, List, length, map, get_or, drop, take, refl, sym, ap, subst, ◌∙◌, arith}
-use Rattle.std.specs.Prelude.{Contains}
-use Rattle.std.specs.List.{All}
-use Rattle.std.proofs.lemmas.List.{get_or_default, length-take, length-drop, drop_all}
-use Rattle.std.proofs.lemmas.Result.{err_from_is_err_and}
-use Rattle.gpu_plan.specs.Plans.{PlanData, IsDump, RiseFrom}
-use Rattle.gpu_plan.specs.Passes.{flushes}
-use Rattle.gpu_plan.proofs.Passing.{flushes_within}
-use Rattle.verify_input.specs.Due.{Dump}
+use Rattle.verify_input.proofs.Names.{◌≡◌, ◌+◌, ◌-◌, ◌<◌, ◌∷◌, [], ℕ, List, length, map, get_or, drop, take, refl, sym, ap, subst, ◌∙◌, arith, Contains, All, get_or_default, length-take, length-drop, drop_all, err_from_is_err_and, PlanData, IsDump, RiseFrom, flushes, flushes_within, Dump}
 use Rattle.verify_input.proofs.Dues.{Begins, at_read, due_next, taking_none, taking_more, judged_exit, judged_all}
 use Rattle.verify_input.proofs.Lefts.{dumps_left}
 use Rattle.verify_input.proofs.Rising.{Next, next_dump}

@@ -1,8 +1,4 @@
-use Rattle.std.proofs.Common.{◌≡◌, ◌≤◌, length, map, drop, take}
-use Rattle.gpu_plan.specs.Plans.{RiseFrom}
-use Rattle.gpu_plan.specs.Passes.{flushes}
-use Rattle.verify_input.specs.Due.{Dump}
-use Rattle.verify_input.specs.Taking.{past_of}
+use Rattle.verify_input.proofs.Names.{◌≡◌, ◌≤◌, length, map, drop, take, RiseFrom, flushes, Dump, past_of}
 use Rattle.verify_input.proofs.Dues.{IsTaking}
 use Rattle.verify_input.proofs.Lefts.{dumps_left}
 use Rattle.verify_input.proofs.sections.take_dumps_of.Given as goal

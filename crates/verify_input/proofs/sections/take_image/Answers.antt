@@ -1,6 +1,4 @@
-use Rattle.std.proofs.Common.{arith}
-use Rattle.std.proofs.lemmas.Result.{err_from_is_err_and}
-use Rattle.gpu_store.specs.Images.{picture_of}
+use Rattle.verify_input.proofs.Names.{arith, err_from_is_err_and, picture_of}
 use Rattle.verify_input.proofs.Dues.{taking_none, taking_more, judged_exit, judged_all}
 use Rattle.verify_input.proofs.Rows.{head_is_line, row_is_line, row_within}
 use Rattle.verify_input.proofs.Lefts.{rows_first, rows_next, rows_end}

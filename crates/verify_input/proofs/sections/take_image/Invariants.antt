@@ -1,9 +1,4 @@
-use Rattle.std.proofs.Common.{◌≡◌, List, Some}
-use Rattle.gpu_store.specs.Picture.{Picture}
-use Rattle.gpu_store.specs.Images.{picture_of}
-use Rattle.gpu_plan.specs.Plans.{PlansData}
-use Rattle.gpu_journal.specs.declared.event.Event.{Event}
-use Rattle.verify_input.specs.Due.{same_lines, lines_of_image}
+use Rattle.verify_input.proofs.Names.{◌≡◌, List, Some, Picture, picture_of, PlansData, Event, same_lines, lines_of_image}
 use Rattle.verify_input.specs.declared.what.What.TheVariants as what
 use Rattle.verify_input.proofs.Dues.{IsTaking}
 use Rattle.verify_input.proofs.Lefts.{rows_left}

@@ -1,10 +1,4 @@
-use Rattle.std.proofs.Common.{length, sym, ap, subst, ◌∙◌, ℕ, arith}
-use Rattle.std.specs.List.{flat_map}
-use Rattle.std.proofs.lemmas.List.{length_push, drop_all}
-use Rattle.std.proofs.lemmas.Result.{err_from_is_err_and}
-use Rattle.gpu_store.specs.Images.{Pictures}
-use Rattle.gpu_store.proofs.Lookups.{Stands, number_stands, numbers_end}
-use Rattle.verify_input.specs.Due.{same_lines, lines_of_image}
+use Rattle.verify_input.proofs.Names.{length, sym, ap, subst, ◌∙◌, ℕ, arith, flat_map, length_push, drop_all, err_from_is_err_and, Pictures, Stands, number_stands, numbers_end, same_lines, lines_of_image}
 use Rattle.verify_input.specs.declared.what.What.TheVariants as what
 use Rattle.verify_input.proofs.Dues.{IsTaking, taking_none, taking_more, judged_exit, judged_all}
 use Rattle.verify_input.proofs.Lefts.{images_left, images_next}

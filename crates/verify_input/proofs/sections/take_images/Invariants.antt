@@ -1,8 +1,4 @@
-use Rattle.std.proofs.Common.{length, List}
-use Rattle.std.specs.List.{flat_map}
-use Rattle.gpu_plan.specs.Plans.{PlansData}
-use Rattle.gpu_journal.specs.declared.event.Event.{Event}
-use Rattle.verify_input.specs.Due.{same_lines, lines_of_image}
+use Rattle.verify_input.proofs.Names.{length, List, flat_map, PlansData, Event, same_lines, lines_of_image}
 use Rattle.verify_input.specs.declared.what.What.TheVariants as what
 use Rattle.verify_input.proofs.Dues.{IsTaking}
 use Rattle.verify_input.proofs.Lefts.{images_left}

@@ -1,8 +1,4 @@
-use Rattle.std.proofs.Common.{◌∷◌, [], subst, sym, ◌∙◌}
-use Rattle.std.proofs.lemmas.Result.{err_from_is_err_and}
-use Rattle.verify_input.specs.Cuts.{IsLine}
-use Rattle.verify_input.specs.Due.{Look}
-use Rattle.verify_input.specs.Taking.{IsBad, past_of}
+use Rattle.verify_input.proofs.Names.{◌∷◌, [], subst, sym, ◌∙◌, err_from_is_err_and, IsLine, Look, IsBad, past_of}
 use Rattle.verify_input.proofs.Dues.{no_memory}
 use Rattle.verify_input.proofs.Feeds.{view_line}
 use Rattle.verify_input.proofs.Telling.{Seen, look_bad, look_taken, look_off}

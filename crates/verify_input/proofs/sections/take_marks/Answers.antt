@@ -1,11 +1,4 @@
-use Rattle.std.proofs.Common.{◌≡◌, ◌+◌, ◌<◌, ◌∷◌, ℕ, List, length, get_or, [], map, sym, subst, ap, ◌∙◌, arith}
-use Rattle.std.proofs.lemmas.List.{get_or_default, drop_all}
-use Rattle.std.proofs.lemmas.Result.{err_from_is_err_and}
-use Rattle.sync_core.specs.declared.ending.Ending.{Ending}
-use Rattle.wait_hooks.specs.Marks.{mark}
-use Rattle.journal_text.specs.Lines.{mark_text}
-use Rattle.verify_input.specs.Cuts.{IsLine}
-use Rattle.verify_input.specs.Due.{same_lines}
+use Rattle.verify_input.proofs.Names.{◌≡◌, ◌+◌, ◌<◌, ◌∷◌, ℕ, List, length, get_or, [], map, sym, subst, ap, ◌∙◌, arith, get_or_default, drop_all, err_from_is_err_and, Ending, mark, mark_text, IsLine, same_lines}
 use Rattle.verify_input.specs.declared.what.What.TheVariants as what
 use Rattle.verify_input.proofs.Feeds.{mark_line}
 use Rattle.verify_input.proofs.Dues.{Begins, at_read, lines_next, taking_none, taking_more, judged_exit, judged_all}

@@ -1,7 +1,4 @@
-use Rattle.std.proofs.Common.{List, map}
-use Rattle.gpu_plan.specs.Plans.{PlansData}
-use Rattle.gpu_journal.specs.declared.event.Event.{Event}
-use Rattle.verify_input.specs.Due.{same_lines}
+use Rattle.verify_input.proofs.Names.{List, map, PlansData, Event, same_lines}
 use Rattle.verify_input.specs.declared.what.What.TheVariants as what
 use Rattle.verify_input.proofs.Dues.{IsTaking}
 use Rattle.verify_input.proofs.Lefts.{mark_at, marks_left}

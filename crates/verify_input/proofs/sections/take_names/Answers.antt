@@ -1,7 +1,4 @@
-use Rattle.std.proofs.Common.{◌+◌, sym, subst, ◌∙◌, arith}
-use Rattle.std.proofs.lemmas.Bool.Decides.{nat_tests}
-use Rattle.std.proofs.lemmas.Result.{err_from_is_err_and}
-use Rattle.verify_input.specs.Cuts.{IsLine}
+use Rattle.verify_input.proofs.Names.{◌+◌, sym, subst, ◌∙◌, arith, nat_tests, err_from_is_err_and, IsLine}
 use Rattle.verify_input.proofs.Heads.{head_line, name_line}
 use Rattle.verify_input.proofs.Dues.{taking_none, taking_more, judged_exit, judged_all}
 use Rattle.verify_input.proofs.Lefts.{names_first, names_next, names_end}

@@ -1,6 +1,4 @@
-use Rattle.std.proofs.Common.{List}
-use Rattle.gpu_journal.specs.declared.event.Event.{Event}
-use Rattle.verify_input.specs.Due.{heads_due}
+use Rattle.verify_input.proofs.Names.{List, Event, heads_due}
 use Rattle.verify_input.proofs.Dues.{IsTaking}
 use Rattle.verify_input.proofs.Lefts.{names_left}
 use Rattle.verify_input.proofs.sections.take_names.Given as goal

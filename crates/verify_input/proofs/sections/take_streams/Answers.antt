@@ -1,9 +1,5 @@
-use Rattle.std.proofs.Common.{List, ℕ, length, map, sym, subst, ap, ◌∙◌, arith}
-use Rattle.std.proofs.lemmas.Result.{err_from_is_err_and}
-use Rattle.verify_input.specs.Cuts.{IsLine}
-use Rattle.verify_input.specs.Due.{same_lines}
+use Rattle.verify_input.proofs.Names.{List, ℕ, length, map, sym, subst, ap, ◌∙◌, arith, err_from_is_err_and, IsLine, same_lines, past_of}
 use Rattle.verify_input.specs.declared.what.What.TheVariants as what
-use Rattle.verify_input.specs.Taking.{past_of}
 use Rattle.verify_input.proofs.Feeds.{stream_line}
 use Rattle.verify_input.proofs.Dues.{range_end, taking_none, taking_more, judged_exit, judged_all}
 use Rattle.verify_input.proofs.Lefts.{end_at}

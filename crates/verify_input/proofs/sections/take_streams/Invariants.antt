@@ -1,6 +1,5 @@
-use Rattle.verify_input.specs.Due.{same_lines, end_lines}
+use Rattle.verify_input.proofs.Names.{same_lines, end_lines, past_of}
 use Rattle.verify_input.specs.declared.what.What.TheVariants as what
-use Rattle.verify_input.specs.Taking.{past_of}
 use Rattle.verify_input.proofs.Dues.{IsTaking}
 use Rattle.verify_input.proofs.Lefts.{streams_left}
 use Rattle.verify_input.proofs.sections.take_streams.Given as goal

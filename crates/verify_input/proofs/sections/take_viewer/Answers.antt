@@ -1,5 +1,4 @@
-use Rattle.std.proofs.Common.{refl, arith}
-use Rattle.std.proofs.lemmas.Result.{err_from_is_err_and}
+use Rattle.verify_input.proofs.Names.{refl, arith, err_from_is_err_and}
 use Rattle.verify_input.proofs.Dues.{taking_none, taking_more, judged_exit, judged_all}
 use Rattle.verify_input.proofs.Lefts.{looks_next, looks_last}
 use Rattle.verify_input.proofs.Telling.{last_taken, last_bad}

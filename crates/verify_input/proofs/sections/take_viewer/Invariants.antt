@@ -1,5 +1,4 @@
-use Rattle.verify_input.specs.Due.{looks_due}
-use Rattle.verify_input.specs.Taking.{past_of}
+use Rattle.verify_input.proofs.Names.{looks_due, past_of}
 use Rattle.verify_input.proofs.Dues.{IsTaking}
 use Rattle.verify_input.proofs.Lefts.{looks_left}
 use Rattle.verify_input.proofs.sections.take_viewer.Given as goal

@@ -1,7 +1,4 @@
-use Rattle.std.proofs.Common.{◌+◌, ap, arith}
-use Rattle.std.specs.List.{flat_map}
-use Rattle.std.proofs.lemmas.Result.{err_from_is_err_and}
-use Rattle.verify_input.specs.Due.{looks_due}
+use Rattle.verify_input.proofs.Names.{◌+◌, ap, arith, flat_map, err_from_is_err_and, looks_due}
 use Rattle.verify_input.proofs.Dues.{at_range, range_end, dues_next, taking_none, taking_more, judged_exit, judged_all}
 use Rattle.verify_input.proofs.sections.take_viewers.Goals as goal
 

@@ -1,6 +1,4 @@
-use Rattle.std.specs.List.{flat_map, range_with_len}
-use Rattle.verify_input.specs.Due.{looks_due}
-use Rattle.verify_input.specs.Taking.{past_of}
+use Rattle.verify_input.proofs.Names.{flat_map, range_with_len, looks_due, past_of}
 use Rattle.verify_input.proofs.Dues.{IsTaking}
 use Rattle.verify_input.proofs.Lefts.{viewers_left}
 use Rattle.verify_input.proofs.sections.take_viewers.Given as goal

@@ -1,11 +1,4 @@
-use Rattle.std.proofs.Common.{◌≡◌, ◌+◌, ◌-◌, ℕ, List, Option, [], length, drop, reverse, refl, inl, sym, subst, ap, ◌∙◌, arith}
-use Rattle.std.proofs.lemmas.List.{length-reverse}
-use Rattle.verify_input.specs.Reading.{IsFault, IsFirstBad, whole_lines}
-use Rattle.std.proofs.lemmas.Result.{IfOk-weaker}
-use Rattle.verify_input.specs.Parts.{before, script_part}
-use Rattle.verify_input.specs.Due.{heads_due, IsOff}
-use Rattle.verify_input.specs.Whole.{output_part, LacksEvent, FindsAll, FindsWhole}
-use Rattle.verify_input.specs.declared.border.Border.TheVariants.{Journal}
+use Rattle.verify_input.proofs.Names.{◌≡◌, ◌+◌, ◌-◌, ℕ, List, Option, [], length, drop, reverse, refl, inl, sym, subst, ap, ◌∙◌, arith, length-reverse, IsFault, IsFirstBad, whole_lines, IfOk-weaker, before, script_part, heads_due, IsOff, output_part, LacksEvent, FindsAll, FindsWhole, Journal}
 use Rattle.verify_input.proofs.Heads.{bad_early}
 use Rattle.verify_input.proofs.Counts.{few_told}
 use Rattle.verify_input.proofs.Wholes.{few_whole}

@@ -1,7 +1,6 @@
-use Rattle.std.proofs.Common.{sym, ◌∙◌, subst, Err}
+use Rattle.verify_input.proofs.Names.{sym, ◌∙◌, subst, Err, script_of}
 use Rattle.script_lines.specs.Outcome.{FailsAt}
 use Rattle.script_lines.specs.declared.fault.ScriptFault.{ScriptFault}
-use Rattle.gpu_plan.specs.Script.{script_of}
 use Rattle.verify_input.proofs.Joining.{script_is, text_there, text_missing}
 use Rattle.verify_input.proofs.Wholly.{whole_missing}
 use Rattle.verify_input.proofs.whole.examine_whole.Goals as goal

@@ -1,13 +1,7 @@
-use Rattle.std.proofs.Common.{map, reverse, ap, subst, ◌∙◌, arith}
-use Rattle.std.specs.List.{range_with_len}
-use Rattle.std.proofs.lemmas.List.{reverse-reverse, length-reverse}
-use Rattle.gpu_journal.specs.Ended.{end_of}
+use Rattle.verify_input.proofs.Names.{map, reverse, ap, subst, ◌∙◌, arith, range_with_len, length-reverse, end_of, whole_lines, dues, AreDue, IsFirstBadOf, Off}
+use Rattle.std.proofs.lemmas.List.{reverse-reverse}
 use Rattle.journal_verify.specs.Ruled.{Rules}
 use Rattle.journal_verify.specs.declared.ruling.Ruling.{Ruling}
-use Rattle.verify_input.specs.Reading.{whole_lines}
-use Rattle.verify_input.specs.Due.{dues, AreDue}
-use Rattle.verify_input.specs.Taking.{IsFirstBadOf}
-use Rattle.verify_input.specs.declared.rest.Bad.TheVariants.{Off}
 use Rattle.verify_input.proofs.whole.judge_all.Goals as goal
 
 pub take_rest-requires : goal.take_rest-requires

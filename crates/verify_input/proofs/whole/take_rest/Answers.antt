@@ -1,10 +1,5 @@
 -- What the parts so far say of all of them.
-use Rattle.std.proofs.Common.{ℕ, drop}
-use Rattle.std.proofs.lemmas.Result.{err_from_is_err_and}
-use Rattle.verify_input.specs.Due.{dues}
-use Rattle.verify_input.specs.Taking.{past_of}
-use Rattle.verify_input.specs.declared.sections.History.{History}
-use Rattle.verify_input.specs.declared.rest.Rest.{Rest}
+use Rattle.verify_input.proofs.Names.{ℕ, drop, err_from_is_err_and, dues, past_of, History, Rest}
 use Rattle.verify_input.proofs.Dues.{IsTaking, taking_none, taking_more}
 use Rattle.verify_input.proofs.Ending.{joined, parts, part_next, images_next, marks_next, all_exit, judged_end}
 use Rattle.verify_input.proofs.whole.take_rest.Goals as goal

@@ -1,6 +1,4 @@
-use Rattle.std.proofs.Common.{[], ◌∷◌, sym, subst, arith}
-use Rattle.verify_input.specs.Due.{same_lines}
-use Rattle.verify_input.specs.Taking.{IsBad}
+use Rattle.verify_input.proofs.Names.{[], ◌∷◌, sym, subst, arith, same_lines, IsBad}
 use Rattle.verify_input.proofs.Dues.{line_taken, line_bad}
 use Rattle.verify_input.proofs.rest.Rest.take.Goals as goal
 

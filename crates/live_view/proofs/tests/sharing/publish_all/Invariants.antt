@@ -1,6 +1,0 @@
-use Rattle.std.proofs.Common.{◌++◌}
-use Rattle.live_view.specs.Versions.{IsLatest}
-use Rattle.live_view.proofs.tests.sharing.publish_all.Given as goal
-
-abbrev pub invariant-loop-events : goal.invariant-loop-events
-invariant-loop-events g l = IsLatest (l.writer.versions ++ l.writer.tried) l.events

@@ -1,0 +1,14 @@
+mod books;
+mod choices;
+mod commands;
+mod hooks;
+mod images;
+mod pairs;
+mod queue;
+mod reading;
+mod results;
+mod scripts;
+mod streams;
+mod view;
+mod waits;
+mod words;

@@ -1,0 +1,53 @@
+ghost use Rattle.std.specs.Prelude.{◌<◌, ◌^◌};
+
+use gpu_io::{MemorySource, ReadError, read_all, read_within};
+use std::alloc::{AllocError, Global};
+use std::test::Fail;
+
+// What reading `abcde` gives in pieces of two bytes, where the reads of these numbers fail.
+fn read_letters(
+    alloc: Global,
+    most: usize,
+    fails: &[u32],
+) -> Result<Result<Vec<u8>, ReadError>, AllocError>
+    requires { most < 2 ^ 63 }
+{
+    let bytes = Vec::from_slice(alloc, b"abcde")?;
+    let fails = Vec::from_slice(alloc, fails)?;
+    let mut source = MemorySource::make(bytes, 2, fails);
+    Ok(read_within(alloc, &mut source, most, &mut [0; 8]))
+}
+
+#[test]
+fn reading_stops_at_the_first_fault_or_byte_past_the_limit(rt: HostRuntime) -> Result<(), Fail> {
+    for (most, failing, want) in [
+        (4, 9, ReadError::TooLong),
+        (3, 2, ReadError::Fault),
+        (1, 2, ReadError::TooLong),
+        (1, 1, ReadError::Fault),
+        (5, 4, ReadError::Fault),
+    ] {
+        let read = read_letters(rt.alloc(), most, &[failing])?;
+        assert_eq!(rt;
+            read.err(),
+            Some(want),
+            "{failing} fails, and {most} are allowed"
+        );
+    }
+    let Ok(read) = read_letters(rt.alloc(), 5, &[])? else {
+        return Err(Fail::from("no read fails"));
+    };
+    assert_eq!(rt; read.as_slice(), b"abcde".as_slice());
+    Ok(())
+}
+
+#[test]
+fn a_whole_text_is_read(rt: HostRuntime) -> Result<(), Fail> {
+    let bytes = Vec::from_slice(rt.alloc(), b"abc")?;
+    let mut source = MemorySource::make(bytes, 1, Vec::new(rt.alloc()));
+    let Ok(read) = read_all(rt.alloc(), &mut source, 3) else {
+        return Err(Fail::from("memory is ample"));
+    };
+    assert_eq!(rt; read.as_slice(), b"abc".as_slice());
+    Ok(())
+}

@@ -1,5 +1,0 @@
-use Rattle.std.proofs.Common.{◌≡◌, ◌≤◌}
-use Rattle.result_words.proofs.tests.read_all.Given as goal
-
-abbrev pub invariant-loop : goal.invariant-loop
-invariant-loop l = (l.words ≡ l.reader.table) × (l.reader.places ≡ 2) × (l.found ≤ 100000)
