@@ -5,4 +5,3 @@ mod opening;
 mod output;
 mod stirred_pass;
 mod stirred_words;
-mod texts;
