@@ -1,4 +1,3 @@
-mod batches;
 mod drive;
 mod losses;
 mod opening;
