@@ -3,5 +3,4 @@ pub mod Flushing
 pub mod Belonging
 pub mod Turning
 pub mod Beginning
-pub mod Pairing
 pub mod Stirring

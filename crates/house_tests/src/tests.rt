@@ -1,5 +1,4 @@
 mod drive;
-mod losses;
 mod opening;
 mod output;
 mod stirred_pass;
