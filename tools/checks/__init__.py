@@ -94,7 +94,7 @@ PLANTED = (
     ("agreeing", "CHANGELOG.md", "## 0.1.0", "## 0.1.1"),
     ("typed_python", "tests/model_views.py", "import re\n", "import re\nimport sys\n\nsys.path\n"),
     ("typed_python", "tests/model_views.py", "import re\n", "import os\nimport re\n"),
-    ("agreeing", "docs/TESTS.md", "`two_workers_at_once`", "`two_workers_at_twice`"),
+    ("agreeing", "docs/TESTS.md", "`workers_beside_clients`", "`workers_below_clients`"),
 )
 
 

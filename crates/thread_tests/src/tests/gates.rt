@@ -1,9 +1,6 @@
 //! Runs that a gate leads.
 
-use super::scripts::{
-    LOST, ONE_EACH, RACE, TWO_AND_ONE, TWO_FLUSHES, TWO_TEXELS, doing, led, lines_of,
-};
-use gpu_house::Doing;
+use super::scripts::{LOST, RACE, TWO_AND_ONE, TWO_FLUSHES, TWO_TEXELS, led, lines_of};
 use gpu_io::{Gate, Place};
 use gpu_journal::Event;
 use std::sync::atomic::{AtomicU64, Ordering};
@@ -177,43 +174,5 @@ fn workers_beside_clients(rt: HostRuntime) -> Result<(), Fail> {
         }
     }
     assert_eq!(rt; last, 3);
-    Ok(())
-}
-
-/// Holds a fetch of each of two streams until one of the other has begun.
-#[derive(Drop)]
-struct AtOnce {
-    first: AtomicU64,
-    second: AtomicU64,
-    late: AtomicU64,
-}
-
-impl Gate for AtOnce {
-    fn reach(&self, place: Place) {
-        match place {
-            Place::BeforeFetch { stream: 1 } => {
-                one_more(&self.first);
-                hold_until(&self.second, &self.late);
-            }
-            Place::BeforeFetch { stream: 2 } => {
-                one_more(&self.second);
-                hold_until(&self.first, &self.late);
-            }
-            _ => {}
-        }
-    }
-}
-
-#[test]
-fn two_workers_at_once(rt: HostRuntime) -> Result<(), Fail> {
-    let gate = AtOnce {
-        first: AtomicU64::new(0),
-        second: AtomicU64::new(0),
-        late: AtomicU64::new(0),
-    };
-    let report = led(&rt, rt.alloc(), ONE_EACH, 2, &gate)?;
-    assert_eq!(rt; value_of(&gate.late), 0);
-    assert_eq!(rt; doing(&report, 1)?, Doing::AllDone);
-    assert_eq!(rt; doing(&report, 2)?, Doing::AllDone);
     Ok(())
 }

@@ -1,7 +1,7 @@
 //! Scripts of the tests, and what their runs leave.
 ghost use Rattle.std.specs.Prelude.{◌≤◌};
 
-use gpu_house::{Doing, Report};
+use gpu_house::Report;
 use gpu_io::Gate;
 use gpu_plan::{Plans, parse};
 use gpu_threads::{Team, ThreadedRun, run_threads};
@@ -36,16 +36,6 @@ put 0 1 1
 flush 2
 put 2 1 1 1
 flush 5
-";
-
-/// Two clients with a command each.
-pub(crate) const ONE_EACH: &str = "gpu-script 1
-stream 1 normal 16
-put 0 1
-flush 1
-stream 2 normal 16
-put 0 1
-flush 1
 ";
 
 /// A client whose one command has no size.
@@ -129,12 +119,4 @@ pub(crate) fn viewed<G: Gate + Sync, R: Threads + Wait + Sync>(
 pub(crate) fn lines_of(alloc: Global, report: &Report) -> Result<Vec<u8>, Fail> {
     let text = journal_text(alloc, report.journal()).ok();
     Ok(text.ok_or("memory is ample")?)
-}
-
-// What a stream was doing at the end.
-pub(crate) fn doing(report: &Report, stream: u32) -> Result<Doing, Fail> {
-    if stream == 0 || stream > report.plans().count() {
-        return Err("a stream of the script".into());
-    }
-    Ok(report.state(stream))
 }
