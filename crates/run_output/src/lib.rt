@@ -30,6 +30,3 @@ mod writing;
 pub use picture_output::PictureOutput;
 pub use run::RunOutput;
 pub use writing::write_all;
-
-#[cfg(test)]
-mod tests;
