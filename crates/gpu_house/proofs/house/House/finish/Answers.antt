@@ -163,6 +163,6 @@ publish_finish-requires-clause-room g c =
     let core = c.self.inside.core in
     let run = c.run.inside.carried in
     let was = c.self.invariant in
-    let of_core = c.finish-2.ensures.shows (open_here core c.stream-stream.result run.stream c.is_open.result true c.stream-stream.ensures c.is_open.ensures c.if-not-is_open.false) in
+    let of_core = c.finish-2.ensures.away.shows (open_here core c.stream-stream.result run.stream c.is_open.result true c.stream-stream.ensures c.is_open.ensures c.if-not-is_open.false) in
     let few = few_finishes core run.stream was.core (subst (λ (q : PlansData). IsKnown (length q.plans) run.stream) (sym was.plans) c.run.invariant.of_plans.known) in
     omega (arith, few, of_core.finished, c.run.invariant.finished, c.meet.ensures.finished)
