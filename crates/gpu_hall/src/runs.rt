@@ -90,7 +90,6 @@ impl<N: Naming, P: NamedSide, H: Hook> Hall<N, P, H> {
                 Some(run)
             }
             Next::FlushEnd => {
-                run.shows_fit();
                 self.house.finish(run, words);
                 None
             }

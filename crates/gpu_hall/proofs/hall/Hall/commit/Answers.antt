@@ -1,6 +1,8 @@
-use Rattle.std.proofs.Common.{◌≡◌, ℕ, false, Option, List, [], length, refl, ap, subst, ◌∙◌, arith}
-use Rattle.std.specs.Prelude.{option_map}
+use Rattle.std.proofs.Common.{◌≡◌, ℕ, ◌-◌, false, Option, List, [], length, refl, sym, ap, subst, ◌∙◌, arith}
+use Rattle.std.specs.Prelude.{option_map, slice_get, IfSome}
 use Rattle.std.proofs.lemmas.List.{length-map}
+use Rattle.std.proofs.lemmas.Option.{IfSome_then}
+use Rattle.atomic_table.specs.Seated.{TableId}
 use Rattle.live_view.specs.Seen.{WriterData}
 use Rattle.gpu_fetch.specs.Fetched.{FetchedData}
 use Rattle.shm_words.specs.Seen.{NoteData}
@@ -9,13 +11,17 @@ use Rattle.gpu_journal.specs.declared.event.Event.TheVariants.{Finish, Lost}
 use Rattle.gpu_journal.specs.declared.event.Why.TheVariants.{Memory}
 use Rattle.gpu_journal.specs.Waits.{standing_of}
 use Rattle.gpu_house.specs.declared.answers.Next.{Next}
+use Rattle.gpu_house.specs.declared.answers.Next.TheVariants as next
+use Rattle.gpu_house.specs.Names.{table_at}
 use Rattle.gpu_house.specs.Batches.{member_words}
-use Rattle.gpu_house.specs.Committing.{Stage, GoneInPart, Commits}
+use Rattle.gpu_house.specs.Committing.{Stage, is_executed, GoneInPart, Commits}
+use Rattle.gpu_house.specs.Changes.{ResultsBelong}
+use Rattle.gpu_house.proofs.Places.{if_there}
 use Rattle.house_core.specs.Core.{with_out}
 use Rattle.house_core.specs.Desks.{Out, at_home}
 use Rattle.gpu_hall.specs.Outs.{NoneIsPaused}
 use Rattle.gpu_hall.specs.Views.{ViewHasRoom, HasNoted, HallFits, view_front}
-use Rattle.gpu_hall.specs.Commits.{Return, CameHome}
+use Rattle.gpu_hall.specs.Commits.{Return, HasSteps, CameHome}
 use Rattle.gpu_hall.specs.Halls.{HallData}
 use Rattle.gpu_hall.proofs.Fitting.{fits_same, fits_while, fits_room}
 use Rattle.gpu_hall.proofs.Committed.{lost_first, may_come_back, came_back, was_ended, was_wanted}
@@ -57,6 +63,28 @@ pub returns-then-not-make_room-clause-view : goal.returns-then-not-make_room-cla
 returns-then-not-make_room-clause-view g c =
     seen_same c.self.inside.view c.make_room.new.view c.make_room.ensures.same ∙ ap (λ (d : HallData). d.view) c.self.view_is
 
+-- ---- the batch may be committed
+
+pub step_batch-answer-requires : goal.step_batch-answer-requires
+step_batch-answer-requires g c =
+    let S = g.P.ServiceSide in
+    let T = g.P.NamedSide in
+    let L = g.met.P.NamedSide in
+    let run = c.args.run in
+    let s = run.run.stream in
+    let w = c.args.words.now in
+    let fit = c.shows_fit.ensures in
+    let kept = slice_get c.self.inside.house.results (s - 1) in
+    let own = subst (λ (t : TableId). T.words_of w t (table_at g.N.Naming.result_words s)) (sym fit.shared) c.requires.words in
+    record {
+      going = c.requires.going;
+      chained = c.requires.chained;
+      list = c.requires.list;
+      beside = L.beside run.side w _ own;
+      note = IfSome_then run.note fit.note_shared (λ n of. L.note_beside run.side w n _ own (subst (S.note_of n) (sym fit.shared) of));
+      results = IfSome_then kept (if_there (λ x. S.results_of x (table_at g.N.Naming.result_words s)) kept (c.shows_laws.ensures.results s fit.of_plans.known)) (λ x its. L.results_beside x w _ _ c.requires.words its);
+    }
+
 -- ---- the batch was committed
 
 -- the house and the run before it and after it, how it was answered, and that the hall fits once what was drawn is noted
@@ -89,6 +117,10 @@ module _ (g : Over) (c : After-step_batch-answer g) where
 
   batch_back : (next : Next) → Commits g.P.ServiceSide.side g.P.ServiceSide.mark g.N.Naming.plans old new members next → (outs : List Out) → outs ≡ with_out new.house.core.outs new.out.run.stream at_home → outs ≡ with_out old.house.core.outs old.out.run.stream at_home
   batch_back next done = back_committed g.P.ServiceSide.side g.P.ServiceSide.mark g.N.Naming.plans old new members next done
+
+  -- the batch was answered so
+  answered : (said to : Next) → said ≡ to → Commits g.P.ServiceSide.side g.P.ServiceSide.mark g.N.Naming.plans old new members said → Commits g.P.ServiceSide.side g.P.ServiceSide.mark g.N.Naming.plans old new members to
+  answered said to is done = subst (Commits g.P.ServiceSide.side g.P.ServiceSide.mark g.N.Naming.plans old new members) is done
 
   -- the view is seen as before
   view_back : (view : Option WriterData) → HasNoted new.drawn c.make_room.new.view view → option_map view_front view ≡ option_map view_front c.self.inside.view
@@ -151,26 +183,57 @@ returns-in_default-clause-view g c =
 pub invariant_of-self-in-More : goal.invariant_of-self-in-More
 invariant_of-self-in-More g c =
     let b = (goal.at.invariant_of-self-in-More g c).After-step_batch-answer in
-    let S = g.P.ServiceSide in
     let run = c.args.run.run in
-    let done = subst (λ (next : Next). Commits S.side S.mark g.N.Naming.plans (old g b) (new g b) (members g b) next) c.in-More.is c.in-Ok.ensures.commits in
+    let done = answered g b c.in-Ok.next next.More c.in-More.is c.in-Ok.ensures.commits in
     record {
       fits = fit g b c.note_all.new.view c.note_all.ensures;
       going = none_set (old g b).house.core.outs (new g b).house.core.outs run.stream record { order = run.order; paused = false } done.outs refl c.self.invariant.going;
     }
 
+pub returns-in-More-clause-ready : goal.returns-in-More-clause-ready
+returns-in-More-clause-ready g c =
+    let b = (goal.at.returns-in-More-clause-ready g c).After-step_batch-answer in
+    let done = answered g b c.in-Ok.next next.More c.in-More.is c.in-Ok.ensures.commits in
+    record { fits = c.shows_fit-in-More.ensures; going = done.moved.paused; list = c.in-Ok.ensures.ready (ap is_executed c.in-More.is) }
+
+pub returns-in-More-clause-same : goal.returns-in-More-clause-same
+returns-in-More-clause-same g c =
+    let b = (goal.at.returns-in-More-clause-same g c).After-step_batch-answer in
+    (answered g b c.in-Ok.next next.More c.in-More.is c.in-Ok.ensures.commits).moved.stream
+
+pub returns-in-More-clause-more : goal.returns-in-More-clause-more
+returns-in-More-clause-more g c =
+    let b = (goal.at.returns-in-More-clause-more g c).After-step_batch-answer in
+    let done = answered g b c.in-Ok.next next.More c.in-More.is c.in-Ok.ensures.commits in
+    subst (λ (d : HallData). HasSteps g.N.Naming.plans d.past (new g b).house.core.past c.args.run.run.stream (members g b) false) c.self.view_is
+    record { still_open = done.still_open; valid = done.valid; waits = sym done.kept; steps = done.events }
+
 pub returns-in-More-clause-out : goal.returns-in-More-clause-out
 returns-in-More-clause-out g c =
     let b = (goal.at.returns-in-More-clause-out g c).After-step_batch-answer in
-    let S = g.P.ServiceSide in
     let run = c.args.run.run in
-    let done = subst (λ (next : Next). Commits S.side S.mark g.N.Naming.plans (old g b) (new g b) (members g b) next) c.in-More.is c.in-Ok.ensures.commits in
+    let done = answered g b c.in-Ok.next next.More c.in-More.is c.in-Ok.ensures.commits in
     done.outs ∙ ap (λ (d : HallData). with_out d.outs run.stream record { order = run.order; paused = false }) c.self.view_is
 
 pub returns-in-More-clause-view : goal.returns-in-More-clause-view
 returns-in-More-clause-view g c =
     let b = (goal.at.returns-in-More-clause-view g c).After-step_batch-answer in
     view_back g b c.note_all.new.view c.note_all.ensures ∙ ap (λ (d : HallData). d.view) c.self.view_is
+
+pub finish-requires : goal.finish-requires
+finish-requires g c =
+    let S = g.P.ServiceSide in
+    let b = (goal.at.finish-requires g c).After-step_batch-answer in
+    let keeps = c.step_batch-answer.ensures.keeps in
+    let done = answered g b c.in-Ok.next next.FlushEnd c.in-FlushEnd.is c.in-Ok.ensures.commits in
+    let w = c.args.words.now in
+    record {
+      end = c.in-Ok.ensures.end.0 c.in-FlushEnd.is;
+      going = done.moved.paused;
+      belongs = keeps.still.beside;
+      note = subst (λ (note : Option NoteData). IfSome note (S.note_belongs (new g b).out.side w)) (sym done.met) tt;
+      results = subst (ResultsBelong S.results_belong w (new g b).house.results) (sym done.moved.stream) keeps.results.belong;
+    }
 
 pub invariant_of-self-in-FlushEnd : goal.invariant_of-self-in-FlushEnd
 invariant_of-self-in-FlushEnd g c =
@@ -189,7 +252,7 @@ returns-in-FlushEnd-clause-home g c =
     let S = g.P.ServiceSide in
     let run = c.args.run.run in
     let b = (goal.at.returns-in-FlushEnd-clause-home g c).After-step_batch-answer in
-    let done = subst (λ (next : Next). Commits S.side S.mark N.plans (old g b) (new g b) (members g b) next) c.in-FlushEnd.is c.in-Ok.ensures.commits in
+    let done = answered g b c.in-Ok.next next.FlushEnd c.in-FlushEnd.is c.in-Ok.ensures.commits in
     subst (λ (d : HallData). (how : Return) × CameHome N.plans d.past c.finish.new.self.core.past run.stream run.order (members g b) how) c.self.view_is
     (was_ended S.side S.mark N.plans (old g b) (new g b) (members g b) c.finish.new.self.core.past done c.finish.ensures.event)
 

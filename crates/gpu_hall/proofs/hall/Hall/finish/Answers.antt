@@ -1,8 +1,13 @@
-use Rattle.std.proofs.Common.{refl}
+use Rattle.std.proofs.Common.{◌-◌, refl, sym, subst}
+use Rattle.std.specs.Prelude.{slice_get}
+use Rattle.std.proofs.lemmas.Option.{IfSome_then}
+use Rattle.atomic_table.specs.Seated.{TableId}
 use Rattle.sync_core.specs.Standing.{is_open}
 use Rattle.gpu_journal.specs.declared.event.Event.TheVariants.{Finish}
 use Rattle.gpu_journal.specs.Waits.{standing_of}
 use Rattle.house_core.specs.Desks.{at_home}
+use Rattle.gpu_house.specs.Names.{table_at}
+use Rattle.gpu_house.proofs.Places.{if_there}
 use Rattle.gpu_hall.proofs.Outs.{none_set}
 use Rattle.gpu_hall.proofs.Fitting.{fits_while}
 use Rattle.gpu_hall.proofs.hall.Hall.finish.Goals as goal
@@ -15,4 +20,24 @@ invariant_of-self g c =
       fits = fits_while N.plans N.words N.queues N.view c.self.inside.takers.items c.self.inside.view (Finish c.args.run.run.stream c.args.run.run.order) h c.finish.new.self.core.past (is_open (standing_of N.plans h c.args.run.run.stream)) refl refl
           c.finish.ensures.event c.finish.ensures.over c.self.invariant.fits;
       going = none_set c.self.inside.house.core.outs c.finish.new.self.core.outs c.args.run.run.stream at_home c.finish.ensures.outs refl c.self.invariant.going;
+    }
+
+pub finish-requires : goal.finish-requires
+finish-requires g c =
+    let S = g.P.ServiceSide in
+    let T = g.P.NamedSide in
+    let L = g.met.P.NamedSide in
+    let N = g.N.Naming in
+    let run = c.args.run in
+    let s = run.run.stream in
+    let w = c.args.words.now in
+    let fit = c.shows_fit.ensures in
+    let kept = slice_get c.self.inside.house.results (s - 1) in
+    let own = subst (λ (t : TableId). T.words_of w t (table_at N.result_words s)) (sym fit.shared) c.requires.words in
+    record {
+      end = c.requires.end;
+      going = c.requires.going;
+      belongs = L.beside run.side w _ own;
+      note = IfSome_then run.note fit.note_shared (λ n of. L.note_beside run.side w n _ own (subst (S.note_of n) (sym fit.shared) of));
+      results = IfSome_then kept (if_there (λ x. S.results_of x (table_at g.N.Naming.result_words s)) kept (c.shows_laws.ensures.results s fit.of_plans.known)) (λ x its. L.results_beside x w _ _ c.requires.words its);
     }
