@@ -13,7 +13,7 @@ pub const MOST_RING: u32 = 4096;
 pub const MOST_WORDS: u64 = 65_536;
 
 /// The places of a transfer memory or of a result memory.
-#[derive(Clone, Copy, Debug, PartialEq, Eq)]
+#[derive(Clone, Copy)]
 pub struct Span {
     /// The first place.
     pub base: u32,
@@ -22,7 +22,7 @@ pub struct Span {
 }
 
 /// What a stream shares with its client: a ring, transfer memories and result memories.
-#[derive(Clone, Copy, Debug, PartialEq, Eq)]
+#[derive(Clone, Copy)]
 pub struct Areas {
     /// How many entries the ring has, from place 0 on.
     pub ring: u32,

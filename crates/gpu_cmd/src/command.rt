@@ -7,7 +7,7 @@
 /// - a texel is `r * 2^24 + g * 2^16 + b * 2^8 + a`
 /// - `format` is the number of a `gpu_word::Format`
 /// - a release or an id in two halves is `low + high * 2^32`
-#[derive(Clone, Copy, Debug, PartialEq, Eq)]
+#[derive(Clone, Copy)]
 pub enum Command {
     /// Does nothing.
     Noop,

@@ -10,7 +10,7 @@ use crate::table;
 use gpu_word::split;
 
 /// A command that passed checks 1 to 10, and the transfer places that it still needs.
-#[derive(Clone, Copy, Debug, PartialEq, Eq)]
+#[derive(Clone, Copy)]
 pub struct Decoded {
     /// The command.
     pub command: Command,

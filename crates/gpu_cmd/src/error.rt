@@ -2,7 +2,7 @@ ghost use Rattle.std.specs.Prelude.{◌≡◌};
 ghost use Rattle.gpu_cmd.specs.Errors.{code_of};
 
 /// Why a command is refused. Its stream is lost then.
-#[derive(Clone, Copy, Debug, PartialEq, Eq)]
+#[derive(Clone, Copy)]
 pub enum CmdError {
     /// The command takes no entry.
     InvalidSize,

@@ -7,7 +7,7 @@ use crate::areas::Areas;
 pub const MOST_FETCHED: u64 = 1_048_576;
 
 /// What checks 1 to 10 read of a stream beside the words.
-#[derive(Clone, Copy, Debug, PartialEq, Eq)]
+#[derive(Clone, Copy)]
 pub struct StreamFacts {
     /// The stream's areas.
     pub areas: Areas,

@@ -1,5 +1,5 @@
 /// The name of a stream.
-#[derive(Clone, Copy, Debug, PartialEq, Eq, Hash)]
+#[derive(Clone, Copy, PartialEq, Eq, Hash)]
 pub struct Name {
     /// The namespace, which a script keeps at most 255.
     pub namespace: u32,

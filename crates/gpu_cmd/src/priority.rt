@@ -1,5 +1,5 @@
 /// How soon a stream is chosen among those that can run.
-#[derive(Clone, Copy, Debug, PartialEq, Eq)]
+#[derive(Clone, Copy)]
 pub enum Priority {
     High,
     Normal,

@@ -9,7 +9,7 @@ use crate::areas::{Areas, Span, span_at};
 pub(crate) const WORD_BYTES: u32 = 4;
 
 /// Bytes of a memory.
-#[derive(Clone, Copy, Debug, PartialEq, Eq)]
+#[derive(Clone, Copy)]
 pub struct Range {
     /// The memory's number.
     pub memory: u32,
@@ -20,7 +20,7 @@ pub struct Range {
 }
 
 /// Places that follow one another.
-#[derive(Clone, Copy, Debug, PartialEq, Eq)]
+#[derive(Clone, Copy)]
 pub struct Places {
     /// The first place, or 0 where there is none.
     pub from: u32,

@@ -9,7 +9,7 @@ use crate::table::{fits, ring_words};
 use gpu_word::split;
 
 /// What a header says that passed checks 1 to 5.
-#[derive(Clone, Copy, Debug, PartialEq, Eq)]
+#[derive(Clone, Copy)]
 pub struct Shape {
     /// Which command it is.
     pub id: u32,

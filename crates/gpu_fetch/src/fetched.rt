@@ -10,12 +10,10 @@ use std::snapshot::Snapshot;
 /// What was fetched of a command: its words, each once and in order, and the verdict of checks 1 to 10 on them. Contracts see
 /// the facts of the stream beside it, which the verdict rests on: they are lawful, and `get` is not `put`.
 #[derive(Drop)]
-#[derive_where(Debug)]
 pub struct Fetched<'a> {
     words: &'a [(u32, u32)],
     verdict: &'a Result<Command, CmdError>,
     // A snapshot has no copy, so this is one of the snapshot that `of` is given.
-    #[derive_where(skip)]
     facts: Snapshot<Snapshot<StreamFacts>>,
 }
 

@@ -5,13 +5,11 @@ use std::snapshot::Snapshot;
 /// What was fetched of a command whose words stand in a list after those of others: how many they are, the verdict on
 /// them, and the facts of the stream that it rests on.
 #[derive(Drop)]
-#[derive_where(Debug)]
 pub struct FetchedPart {
     /// How many words the command has.
     pub count: usize,
     /// The verdict of checks 1 to 10.
     pub verdict: Result<Command, CmdError>,
     /// The facts that the verdict rests on, for contracts alone.
-    #[derive_where(skip)]
     pub facts: Snapshot<StreamFacts>,
 }

@@ -12,9 +12,10 @@ ghost use Rattle.gpu_hall.specs.Collecting.{OrderedOrLost, HasCollectedFrom, Has
 use crate::hall::Hall;
 use crate::side::NamedSide;
 use flush_queue::FlushQueue;
-use gpu_house::{House, Naming};
+use gpu_house::{House, Naming, OrderRefused};
 use shm_words::Note;
 use std::sync::Wait;
+use sync_core::OrderFault;
 use wait_hooks::Hook;
 
 // Orders the next flush of an open stream, or loses the stream as out of memory.
@@ -35,7 +36,13 @@ fn order_or_lose<N: Naming, P: NamedSide, H: Hook>(
 {
     match house.order(stream, note) {
         Ok(_) => {}
-        Err(_) => house.lose_client(stream),
+        Err(
+            OrderRefused {
+                why: OrderFault::Memory(memory),
+                note: _,
+            },
+        ) => house.lose_client(stream, memory),
+        Err(_) => unreachable!(),
     }
 }
 
@@ -64,7 +71,7 @@ impl<N: Naming, P: NamedSide, H: Hook> Hall<N, P, H> {
         true
     }
 
-    /// Takes flushes from the queue of a stream until that is empty, and orders each, as `collect` does for all streams. It says
+    /// Takes flushes from the queue of a stream until that gives none, and orders each, as `collect` does for all streams. It says
     /// how many it took, and takes no more than can be said.
     #[tactic(auto, using(crate::proofs::Collected::none_from, crate::proofs::Collected::next_from))]
     pub fn collect_from<R: Wait>(&mut self, rt: &R, stream: u32, queue: &FlushQueue) -> u32
@@ -83,7 +90,7 @@ impl<N: Naming, P: NamedSide, H: Hook> Hall<N, P, H> {
         u32::MAX
     }
 
-    /// For each stream in rising number, takes flushes from its queue until that is empty, and orders each. Those of a lost stream are
+    /// For each stream in rising number, takes flushes from its queue until that gives none, and orders each. Those of a lost stream are
     /// dropped. Where memory is wanted for an order, its stream is lost.
     #[tactic(auto, using(crate::proofs::Collected::none_collected, crate::proofs::Collected::all_collected))]
     pub fn collect<R: Wait>(&mut self, rt: &R, queues: &[FlushQueue])

@@ -7,7 +7,7 @@
 //! left.
 //!
 //! What the contracts say:
-//! - `holds` says of it whenever the lock is got:
+//! - `shows_laws` says of it whenever the lock is got:
 //!   - its journal is legal;
 //!   - each pending wait names a live stream with a lower unprocessed number, and no waits form a cycle;
 //!   - where a number is unprocessed, the stream with the least one can run, and is at home or has its run out;
@@ -18,7 +18,8 @@
 //!   where none of these can run.
 //! - `commit` appends the steps of a batch of commands, up to its end or to the first that is invalid or lacks memory.
 //!   After them it appends the finish, the loss or nothing more. The run is out where it is returned, and else at home.
-//! - `finish`, `lose`, `lose_client` and `close` append exactly their event or none, and say when.
+//! - `finish`, `lose`, `lose_client` and `close` append exactly their event or none, and say when. A loss takes a refusal
+//!   of the library.
 //! - `settle` appends nothing. Of results that tell what was written it says that this is what the journal's steps wrote.
 //!   Each value that the reader got is the last one written to its place in a prefix of the journal with enough finishes.
 //! - The taker of each stream that is not lost has taken as many flushes as the journal orders.
@@ -40,8 +41,8 @@
 //!   guard.
 //! - `Shown::tell` answers `None` where there is no view. A `Shown` has the report in place of the house, so readers are
 //!   settled before `show`. What it tells is the same at each call.
-//! - Where memory runs out for the last version, the view is ended and the report given up. A journal of 2^32 events or
-//!   more is answered so too, since a version counts its events in 32 bits.
+//! - Where memory runs out for the last version, the view is ended and the report given up. A version counts its events in
+//!   32 bits, and a legal journal has fewer.
 #![tactic(auto)]
 
 mod collecting;

@@ -1,5 +1,5 @@
 // What is done with the view of a hall.
-ghost use Rattle.std.specs.Prelude.{◌≡◌, ◌++◌, ◌≤◌, length, IsTrue, OnOk, OnErr};
+ghost use Rattle.std.specs.Prelude.{◌≡◌, ◌++◌, ◌≤◌, length, OnOk, OnErr};
 ghost use Rattle.std.specs.List.{All};
 ghost use Rattle.gpu_store.specs.Images.{HasItsTexels};
 ghost use Rattle.gpu_hall.specs.Views.{ViewHasRoom, IsSameView, HasNoted, ViewFits, ShowAll};
@@ -9,17 +9,18 @@ use gpu_house::{House, Naming};
 use gpu_store::Op;
 use gpu_word::Memory;
 use live_view::ViewWriter;
+use serial_laws::{legal_histories_end, plans_are_lawful};
 use std::sync::Wait;
 use wait_hooks::Hook;
 
-/// Makes room for more operations, where there is a view, and says whether there is.
-pub(crate) fn make_room(view: &mut Option<ViewWriter>, more: usize) -> bool
-    ensures room { IsTrue result → ViewHasRoom more view.new }
+/// Makes room for more operations, where there is a view.
+pub(crate) fn make_room(view: &mut Option<ViewWriter>, more: usize) -> Result<(), Memory>
+    ensures room { OnOk result (ViewHasRoom more view.new) }
     ensures same { IsSameView view.old view.new }
 {
     match view {
-        Some(writer) => writer.reserve(more).is_ok(),
-        None => true,
+        Some(writer) => writer.reserve(more),
+        None => Ok(()),
     }
 }
 
@@ -53,7 +54,7 @@ pub(crate) fn note_all(view: &mut Option<ViewWriter>, ops: Vec<Op>)
 ///
 /// # Errors
 ///
-/// `Memory`: the last version published stays, and no operation that was noted is lost. So it is where the journal has 2^32 events.
+/// `Memory`: the last version published stays, and no operation that was noted is lost.
 pub(crate) fn publish_all<N: Naming, P: NamedSide, H: Hook, R: Wait>(
     rt: &R,
     house: &House<N, P, H>,
@@ -65,11 +66,10 @@ pub(crate) fn publish_all<N: Naming, P: NamedSide, H: Hook, R: Wait>(
     ensures view { writer.new.view ≡ writer.old.view }
     ensures stays { OnErr result (writer.new.versions ≡ writer.old.versions) }
 {
-    let count = house.journal().count();
-    if count > u32::MAX as usize {
-        return Err(Memory);
-    }
-    writer.publish(rt, count as u32)
+    house.shows_legal();
+    plans_are_lawful(house.plans());
+    legal_histories_end();
+    writer.publish(rt, house.journal().count() as u32)
 }
 
 /// Gives a view up, where there is one.

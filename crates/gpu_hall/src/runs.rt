@@ -2,7 +2,7 @@
 ghost use Rattle.std.specs.Prelude.{◌≡◌, [], ◌∷◌, drop, true, false, option_map, IfSome, IfNone};
 ghost use Rattle.sync_core.specs.Standing.{is_open};
 ghost use Rattle.gpu_journal.specs.declared.event.Event.TheVariants.{Finish, Lost};
-ghost use Rattle.gpu_journal.specs.declared.event.Why.TheVariants.{Memory};
+ghost use Rattle.gpu_journal.specs.declared.event.Why.TheVariants as why;
 ghost use Rattle.gpu_journal.specs.Waits.{standing_of};
 ghost use Rattle.serial_laws.specs.Choosing.{choice_at_home};
 ghost use Rattle.house_core.specs.Core.{IsRunOf, is_home, with_out};
@@ -18,6 +18,7 @@ use crate::hall::Hall;
 use crate::noting::{make_room, note_all};
 use crate::side::NamedSide;
 use gpu_house::{Batch, Naming, Next, Run};
+use gpu_word::Memory;
 use wait_hooks::Hook;
 
 impl<N: Naming, P: NamedSide, H: Hook> Hall<N, P, H> {
@@ -71,8 +72,8 @@ impl<N: Naming, P: NamedSide, H: Hook> Hall<N, P, H> {
         ensures view { self.new.view ≡ self.old.view }
     {
         let mut run = run;
-        if !make_room(&mut self.view, batch.count()) {
-            self.house.lose(run);
+        if let Err(memory) = make_room(&mut self.view, batch.count()) {
+            self.house.lose(run, memory);
             return None;
         }
         let mut drawn = Vec::new(*self.takers.allocator());
@@ -80,9 +81,12 @@ impl<N: Naming, P: NamedSide, H: Hook> Hall<N, P, H> {
         self.house.shows_laws();
         let answer = self.house.step_batch(&mut run, words, batch, &mut drawn);
         note_all(&mut self.view, drawn);
-        let Ok(next) = answer else {
-            self.house.lose(run);
-            return None;
+        let next = match answer {
+            Ok(next) => next,
+            Err(memory) => {
+                self.house.lose(run, memory);
+                return None;
+            }
         };
         match next {
             Next::More => {
@@ -118,15 +122,15 @@ impl<N: Naming, P: NamedSide, H: Hook> Hall<N, P, H> {
         self.house.finish(run, words);
     }
 
-    /// Loses the stream of a run as out of memory, where it is neither lost nor closed. It takes no memory.
-    pub fn lose(&mut self, run: Run<N, P>)
+    /// Loses the stream of a run as out of memory, where it is neither lost nor closed. It takes the refusal, and no memory.
+    pub fn lose(&mut self, run: Run<N, P>, refusal: Memory)
         ensures event { is_open (standing_of N.plans self.old.past run.run.stream) ≡ true
-            → self.new.past ≡ Lost run.run.stream Memory [] ∷ self.old.past }
+            → self.new.past ≡ Lost run.run.stream why.Memory [] ∷ self.old.past }
         ensures over { is_open (standing_of N.plans self.old.past run.run.stream) ≡ false
             → self.new.past ≡ self.old.past }
         ensures back { self.new.outs ≡ with_out self.old.outs run.run.stream at_home }
         ensures view { self.new.view ≡ self.old.view }
     {
-        self.house.lose(run);
+        self.house.lose(run, refusal);
     }
 }

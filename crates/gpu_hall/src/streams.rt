@@ -3,7 +3,7 @@ ghost use Rattle.std.specs.Prelude.{◌≡◌, ◌↔◌, [], ◌∷◌, length,
 ghost use Rattle.gpu_plan.specs.Plans.{plan_of, is_closed};
 ghost use Rattle.sync_core.specs.Standing.{IsKnown, is_open};
 ghost use Rattle.gpu_journal.specs.declared.event.Event.TheVariants.{Lost, Close};
-ghost use Rattle.gpu_journal.specs.declared.event.Why.TheVariants.{Memory};
+ghost use Rattle.gpu_journal.specs.declared.event.Why.TheVariants as why;
 ghost use Rattle.gpu_journal.specs.Waits.{standing_of};
 ghost use Rattle.gpu_journal.specs.Legal.{MayClose};
 ghost use Rattle.gpu_house.specs.Names.{table_at};
@@ -12,20 +12,21 @@ ghost use Rattle.gpu_hall.specs.Settling.{AreSettled};
 use crate::hall::Hall;
 use crate::side::NamedSide;
 use gpu_house::{Closing, Naming};
+use gpu_word::Memory;
 use wait_hooks::Hook;
 
 impl<N: Naming, P: NamedSide, H: Hook> Hall<N, P, H> {
-    /// Loses a stream as out of memory, where it is neither lost nor closed. It takes no memory.
-    pub fn lose_client(&mut self, stream: u32)
+    /// Loses a stream as out of memory, where it is neither lost nor closed. It takes the refusal, and no memory.
+    pub fn lose_client(&mut self, stream: u32, refusal: Memory)
         requires known { IsKnown (length N.plans.plans) stream }
         ensures event { is_open (standing_of N.plans self.old.past stream) ≡ true
-            → self.new.past ≡ Lost stream Memory [] ∷ self.old.past }
+            → self.new.past ≡ Lost stream why.Memory [] ∷ self.old.past }
         ensures over { is_open (standing_of N.plans self.old.past stream) ≡ false
             → self.new.past ≡ self.old.past }
         ensures outs { self.new.outs ≡ self.old.outs }
         ensures view { self.new.view ≡ self.old.view }
     {
-        self.house.lose_client(stream);
+        self.house.lose_client(stream, refusal);
     }
 
     /// Closes a stream whose plan has a Close, once its client has come to it with each flush ordered. It takes no memory.

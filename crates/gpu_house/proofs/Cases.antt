@@ -1,6 +1,5 @@
 -- Which of two things a call did to the core, and of which stream.
-use Rattle.std.proofs.Common.{◌≡◌, ℕ, Bool, true, false, ◌⊎◌, inl, inr, Result, Ok, Err, List, [], length, refl, sym, subst, ◌∙◌}
-use Rattle.std.specs.Result.{is_err, OnOk}
+use Rattle.std.proofs.Common.{◌≡◌, ℕ, Bool, true, false, ◌⊎◌, inl, inr, List, [], length, refl, sym, subst, ◌∙◌}
 use Rattle.sync_core.specs.Standing.{is_open, IsKnown}
 use Rattle.gpu_plan.specs.Plans.{PlansData}
 use Rattle.gpu_journal.specs.declared.event.Event.TheVariants as event
@@ -45,11 +44,6 @@ pub loses_run : (old new : CoreData) (s : ℕ) → (is_open (standing_of old.pla
     → Grows old new (event.Lost s Memory []) ⊎ ((is_open (standing_of old.plans old.past s) ≡ false) × KeepsJournal old new)
 loses_run old new s grows stays =
     either_way (Grows old new (event.Lost s Memory [])) ((is_open (standing_of old.plans old.past s) ≡ false) × KeepsJournal old new) (is_open (standing_of old.plans old.past s)) grows (λ over. (over, stays over))
-
--- what is said of a result that is no error
-pub not_err : {A E P : Type 0} (r : Result A E) → false ≡ is_err r → OnOk r P → P
-not_err (Ok a) e is = is
-not_err (Err x) e is = absurd (cc)
 
 -- ---- the stream of a run
 

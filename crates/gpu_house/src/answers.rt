@@ -5,7 +5,7 @@ use gpu_store::Op;
 use sync_core::OrderFault;
 
 /// What a stream is doing.
-#[derive(Clone, Copy, Debug, PartialEq, Eq)]
+#[derive(Clone, Copy)]
 pub enum Doing {
     /// Something is left to do.
     Open,
@@ -18,7 +18,7 @@ pub enum Doing {
 }
 
 /// The record of waits.
-#[derive(Clone, Copy, Debug, PartialEq, Eq)]
+#[derive(Clone, Copy)]
 pub struct WaitsKept {
     /// How many waits are pending.
     pub pending: usize,
@@ -29,7 +29,7 @@ pub struct WaitsKept {
 }
 
 /// What a step left its run to do.
-#[derive(Clone, Copy, Debug, PartialEq, Eq)]
+#[derive(Clone, Copy)]
 pub enum Next {
     /// The flush has more commands.
     More,

@@ -22,7 +22,7 @@ const MOST_MEMBERS: usize = 64;
 ///
 /// Seen as what was fetched of each, in order. It ends at the first that is wrong, that a client or another stream may hear of, that
 /// may wait, or that is the last of its flush.
-#[derive(Debug, Drop)]
+#[derive(Drop)]
 pub struct Batch {
     list: Vec<(u32, u32)>,
     parts: Vec<FetchedPart>,

@@ -4,7 +4,7 @@ ghost use Rattle.gpu_plan.specs.Plans.{plan_of, is_closed};
 ghost use Rattle.std.specs.Option.{IsSomeAnd};
 ghost use Rattle.sync_core.specs.Standing.{IsKnown, is_open};
 ghost use Rattle.gpu_journal.specs.declared.event.Event.TheVariants.{Lost, Close};
-ghost use Rattle.gpu_journal.specs.declared.event.Why.TheVariants.{Memory};
+ghost use Rattle.gpu_journal.specs.declared.event.Why.TheVariants as why;
 ghost use Rattle.gpu_journal.specs.Waits.{standing_of};
 ghost use Rattle.gpu_journal.specs.Legal.{MayClose};
 ghost use Rattle.gpu_journal.specs.Written.{written};
@@ -16,20 +16,21 @@ use crate::marking::follow;
 use crate::naming::Naming;
 use crate::report::Report;
 use gpu_fetch::ServiceSide;
+use gpu_word::Memory;
 use house_core::Closing;
 use wait_hooks::Hook;
 
 impl<N: Naming, P: ServiceSide, H: Hook> House<N, P, H> {
-    /// Loses a stream as out of memory, where it is neither lost nor closed. It takes no memory.
-    pub fn lose_client(&mut self, stream: u32)
+    /// Loses a stream as out of memory, where it is neither lost nor closed. It takes the refusal, and no memory.
+    pub fn lose_client(&mut self, stream: u32, refusal: Memory)
         requires known { IsKnown (length N.plans.plans) stream }
         ensures event { is_open (standing_of N.plans self.old.core.past stream) ≡ true
-            → Appends self.old self.new (Lost stream Memory []) }
+            → Appends self.old self.new (Lost stream why.Memory []) }
         ensures over { is_open (standing_of N.plans self.old.core.past stream) ≡ false
             → Same self.old self.new }
     {
         let House { core, hooks, .. } = self;
-        core.lose_client(stream);
+        core.lose_client(stream, refusal);
         core.shows_core();
         follow(core, hooks);
     }

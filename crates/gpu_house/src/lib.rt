@@ -21,8 +21,8 @@
 //! - Of waits `AreWaitsOf` says that what the service keeps is what the journal says: how many are pending, and of a stream
 //!   its first unprocessed number and whether a wait of that is pending.
 //! - Where a number is unprocessed, the stream with the least one can run, and is at home or has its run out: clause `stuck`
-//!   of `holds`.
-//! - A run is no `Drop`: whoever has one gives it back, finishes it or loses it.
+//!   of `shows_laws`.
+//! - A run is no `Drop`: whoever has one gives it back, finishes it or loses it. A loss takes a refusal of the library.
 //! - A report has the plans, the base and the journal that the house had.
 //!
 //! Notes:

@@ -16,6 +16,7 @@ use crate::marking::{follow, take_room};
 use crate::naming::Naming;
 use gpu_fetch::ServiceSide;
 use gpu_plan::MOST_FENCES;
+use gpu_word::Memory;
 use sync_core::OrderFault;
 use wait_hooks::Hook;
 
@@ -56,12 +57,12 @@ impl<N: Naming, P: ServiceSide, H: Hook> House<N, P, H> {
                 note,
             });
         }
-        if take_room(hooks, core.waiting(), MOST_FENCES).is_err() {
-            return Err(no_memory(note));
+        if let Err(memory) = take_room(hooks, core.waiting(), MOST_FENCES) {
+            return Err(no_memory(note, memory));
         }
         let slot = &mut slots[stream as usize - 1];
-        if let Err(note) = slot.push(note) {
-            return Err(no_memory(note));
+        if let Err((note, memory)) = slot.push(note) {
+            return Err(no_memory(note, memory));
         }
         let order = match core.order(stream) {
             Ok(order) => order,
@@ -79,12 +80,12 @@ impl<N: Naming, P: ServiceSide, H: Hook> House<N, P, H> {
 }
 
 // The refusal of an order for which memory ran out.
-fn no_memory<T>(note: T) -> OrderRefused<T>
-    ensures why { result.why ≡ OrderFault.Memory }
+fn no_memory<T>(note: T, memory: Memory) -> OrderRefused<T>
+    ensures why { result.why ≡ OrderFault.Memory memory }
     ensures note { result.note ≡ note }
 {
     OrderRefused {
-        why: OrderFault::Memory,
+        why: OrderFault::Memory(memory),
         note,
     }
 }

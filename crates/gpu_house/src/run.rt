@@ -22,7 +22,7 @@ use std::marker::{Model, PhantomData};
 
 /// A run of one stream, which has left the lock with the stream's side.
 ///
-/// It is not `Drop`: give it back, finish it or lose it.
+/// It is not `Drop`: give it back, finish it or lose it. Where the house is given up too, give it up.
 ///
 /// Seen as what it carries, its side, and the note of its flush where no fetch has met that.
 pub struct Run<N: Naming, P: ServiceSide> {
@@ -56,6 +56,18 @@ impl<N: Naming, P: ServiceSide> Run<N, P> {
             self.now.run self.now.side self.now.note }
     {
         let _ = &self.side;
+    }
+
+    /// Gives the run up together with its house. The refusal comes back, to be answered.
+    pub fn give_up(self, refusal: Memory) -> Memory {
+        let Run {
+            alloc: _,
+            carried: _carried,
+            side: _side,
+            note: _note,
+            of: _,
+        } = self;
+        refusal
     }
 
     /// The stream of the run.

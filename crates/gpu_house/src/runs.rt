@@ -2,7 +2,7 @@
 ghost use Rattle.std.specs.Prelude.{◌≡◌, ◌∷◌, [], length, true, false, option_map, Some, IfSome, IfNone};
 ghost use Rattle.sync_core.specs.Standing.{is_open};
 ghost use Rattle.gpu_journal.specs.declared.event.Event.TheVariants.{Finish, Lost};
-ghost use Rattle.gpu_journal.specs.declared.event.Why.TheVariants.{Memory};
+ghost use Rattle.gpu_journal.specs.declared.event.Why.TheVariants as why;
 ghost use Rattle.gpu_journal.specs.Waits.{standing_of};
 ghost use Rattle.serial_laws.specs.Choosing.{choice_at_home};
 ghost use Rattle.house_core.specs.Core.{IsRunOf, is_home, with_out};
@@ -17,6 +17,7 @@ use crate::meeting::meet;
 use crate::naming::Naming;
 use crate::run::Run;
 use gpu_fetch::ServiceSide;
+use gpu_word::Memory;
 use std::marker::PhantomData;
 use wait_hooks::Hook;
 
@@ -141,11 +142,11 @@ impl<N: Naming, P: ServiceSide, H: Hook> House<N, P, H> {
         self.slots[stream as usize - 1].come(side, note);
     }
 
-    /// Loses the stream of a run as out of memory, where it is neither lost nor closed, and takes the run back. It takes no
-    /// memory.
-    pub fn lose(&mut self, run: Run<N, P>)
+    /// Loses the stream of a run as out of memory, where it is neither lost nor closed, and takes the run back. It takes the
+    /// refusal, and no memory.
+    pub fn lose(&mut self, run: Run<N, P>, refusal: Memory)
         ensures event { is_open (standing_of N.plans self.old.core.past run.run.stream) ≡ true
-            → self.new.core.past ≡ Lost run.run.stream Memory [] ∷ self.old.core.past }
+            → self.new.core.past ≡ Lost run.run.stream why.Memory [] ∷ self.old.core.past }
         ensures over { is_open (standing_of N.plans self.old.core.past run.run.stream) ≡ false
             → self.new.core.past ≡ self.old.core.past }
         ensures outs { self.new.core.outs ≡ with_out self.old.core.outs run.run.stream at_home }
@@ -166,7 +167,7 @@ impl<N: Naming, P: ServiceSide, H: Hook> House<N, P, H> {
             hooks,
             ..
         } = self;
-        core.lose(carried);
+        core.lose(carried, refusal);
         core.shows_core();
         follow(core, hooks);
         slots[stream as usize - 1].come(side, note);

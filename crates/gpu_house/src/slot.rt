@@ -1,6 +1,7 @@
 ghost use Rattle.std.specs.Prelude.{◌≡◌, ◌++◌, List, [], ◌∷◌, true, false, Some, None, option_map, IfSome, IsSome, OnOk, OnErr, IfErr};
 ghost use Rattle.gpu_house.specs.Slots.{note_ahead, left_slot};
 
+use gpu_word::Memory;
 use std::alloc::Global;
 use std::collections::VecDeque;
 use std::marker::Model;
@@ -44,16 +45,19 @@ impl<S: Drop, T: Drop> Slot<S, T> {
     ///
     /// # Errors
     ///
-    /// Memory ran out; the note comes back.
-    pub fn push(&mut self, note: T) -> Result<(), T>
+    /// Out of memory: the note comes back, with the refusal.
+    pub fn push(&mut self, note: T) -> Result<(), (T, Memory)>
         ensures ok { OnOk result
             (self.new ≡ record self.old { notes = self.old.notes ++ note ∷ [] }) }
-        ensures err { IfErr result (λ back. back ≡ note) }
+        ensures err { IfErr result (λ back. back.0 ≡ note) }
         ensures same { OnErr result (self.new ≡ self.old) }
     {
-        match self.notes.push_back(note) {
-            Ok(()) => Ok(()),
-            Err(failed) => Err(failed.value),
+        match self.notes.reserve(1) {
+            Ok(()) => {
+                self.notes.push_back_reserved(note);
+                Ok(())
+            }
+            Err(error) => Err((note, Memory::from(error))),
         }
     }
 

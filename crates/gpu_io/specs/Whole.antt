@@ -23,7 +23,7 @@ ReadsMoreThan most old new = (bytes : List ℕ) × Consumes old new bytes × (le
 abbrev pub IsExcused : ReadError → ℕ → ℕ → Type 0
 IsExcused errors.Fault most count = ⊥
 IsExcused errors.TooLong most count = most < count
-IsExcused errors.Memory most count = Unit {0}
+IsExcused (errors.Memory refusal) most count = Unit {0}
 
 -- what reading a source to its end, within a limit, answers. The source has these bytes left and this count of faults before
 -- and after

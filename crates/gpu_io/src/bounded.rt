@@ -6,7 +6,7 @@ use std::alloc::Global;
 use std::marker::Model;
 
 /// Bytes in a room of a fixed size, whose memory was taken at once.
-#[derive(Debug, Drop)]
+#[derive(Drop)]
 pub(crate) struct Bounded {
     bytes: Vec<u8>,
     room: usize,

@@ -4,7 +4,7 @@ ghost use Rattle.gpu_io.specs.InMemory.{IsFailing, with_call};
 use std::marker::Model;
 
 /// How many calls were made, and the numbers, from 1, of those that fail.
-#[derive(Debug, Drop)]
+#[derive(Drop)]
 pub(crate) struct Calls {
     made: u64,
     fails: Vec<u32>,

@@ -1,3 +1,3 @@
 /// A read or a write failed, and its source or sink has counted the fault.
-#[derive(Clone, Copy, Debug, PartialEq, Eq)]
+#[derive(Clone, Copy)]
 pub struct Failed;

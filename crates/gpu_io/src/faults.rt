@@ -5,7 +5,7 @@ use crate::failed::Failed;
 use std::marker::Model;
 
 /// How often reads or writes have failed. At its last value the count stays.
-#[derive(Debug, Drop)]
+#[derive(Drop)]
 pub(crate) struct Faults {
     count: u64,
 }

@@ -1,7 +1,7 @@
 /// A place that a run with threads reaches, where a gate may hold it back.
 ///
 /// Streams, flushes, orders, viewers and looks are counted from 1.
-#[derive(Clone, Copy, Debug, PartialEq, Eq)]
+#[derive(Clone, Copy)]
 pub enum Place {
     /// A worker is about to fetch a batch of this stream.
     BeforeFetch { stream: u32 },
@@ -25,7 +25,7 @@ pub trait Gate {
 }
 
 /// A gate that lets every thread pass at once.
-#[derive(Clone, Copy, Debug, PartialEq, Eq)]
+#[derive(Clone, Copy)]
 pub struct OpenGate;
 
 impl Gate for OpenGate {

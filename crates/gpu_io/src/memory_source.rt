@@ -11,7 +11,7 @@ use crate::unread::Unread;
 use std::marker::Model;
 
 /// A source in memory that gives its bytes in pieces, and whose calls of given numbers fail.
-#[derive(Debug, Drop)]
+#[derive(Drop)]
 pub struct MemorySource {
     bytes: Unread,
     piece: usize,

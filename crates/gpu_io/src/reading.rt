@@ -1,23 +1,25 @@
 ghost use Rattle.std.specs.Prelude.{◌≡◌, ◌<◌, ◌^◌, length, vec_len, IfOk};
 ghost use Rattle.gpu_io.specs.declared.reading.ReadError.TheVariants.{Fault, Memory};
+ghost use Rattle.gpu_word.specs.Refused.{refused};
 ghost use Rattle.gpu_io.specs.Whole.{ReadsWithin};
 
 use crate::failed::Failed;
 use crate::source::Source;
+use gpu_word::Memory;
 use std::alloc::{AllocError, Global};
 
 /// How many bytes are asked for at once.
 const PIECE_BYTES: usize = 65_536;
 
 /// Why an input was not read to its end.
-#[derive(Clone, Copy, Debug, PartialEq, Eq)]
+#[derive(Drop)]
 pub enum ReadError {
     /// A read failed, before the input was too long.
     Fault,
     /// The input has more bytes than are allowed.
     TooLong,
     /// Out of memory.
-    Memory,
+    Memory(Memory),
 }
 
 impl From<Failed> for ReadError {
@@ -29,10 +31,10 @@ impl From<Failed> for ReadError {
 }
 
 impl From<AllocError> for ReadError {
-    ghost from_gives = { λ _ error. error ≡ Memory };
+    ghost from_gives = { λ _ error. error ≡ Memory refused };
 
-    fn from(_error: AllocError) -> ReadError {
-        ReadError::Memory
+    fn from(error: AllocError) -> ReadError {
+        ReadError::Memory(Memory::from(error))
     }
 }
 

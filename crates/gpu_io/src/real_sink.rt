@@ -12,7 +12,7 @@ use std::marker::Model;
 ///
 /// It keeps no bytes back, since a fault that came after its answer would be told to nobody. So the writer must be one
 /// without a buffer.
-#[derive(Debug, Drop)]
+#[derive(Drop)]
 pub struct RealSink<W: Write> {
     writer: W,
     faults: Faults,

@@ -9,7 +9,7 @@ use std::io::Read;
 use std::marker::Model;
 
 /// A source over a reader of the system. It counts the reader's errors, and tells of its bytes what the reader tells.
-#[derive(Debug, Drop)]
+#[derive(Drop)]
 pub struct RealSource<R: Read> {
     reader: R,
     faults: Faults,

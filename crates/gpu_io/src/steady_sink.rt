@@ -12,7 +12,7 @@ use std::alloc::Global;
 use std::marker::Model;
 
 /// A sink in memory that fails only where its room is full.
-#[derive(Debug, Drop)]
+#[derive(Drop)]
 pub struct SteadySink {
     bytes: Bounded,
     faults: Faults,

@@ -7,7 +7,7 @@ use crate::unread::Unread;
 use std::marker::Model;
 
 /// A source in memory that never fails.
-#[derive(Debug, Drop)]
+#[derive(Drop)]
 pub struct SteadySource {
     bytes: Unread,
 }

@@ -4,7 +4,7 @@ use crate::front::copy_front;
 use std::marker::Model;
 
 /// The bytes of a text that were not read as yet.
-#[derive(Debug, Drop)]
+#[derive(Drop)]
 pub(crate) struct Unread {
     bytes: Vec<u8>,
     taken: usize,

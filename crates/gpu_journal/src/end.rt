@@ -1,7 +1,7 @@
 use crate::event::Why;
 
 /// How a stream ended.
-#[derive(Clone, Copy, Debug, PartialEq, Eq)]
+#[derive(Clone, Copy)]
 pub enum End {
     /// All its flushes are finished.
     Done,

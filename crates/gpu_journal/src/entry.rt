@@ -6,7 +6,7 @@ use crate::event::{Event, Why};
 use gpu_word::Words;
 
 /// How a journal keeps an event. Its words stand in the list of words from one index up to another.
-#[derive(Clone, Copy, Debug)]
+#[derive(Clone, Copy)]
 pub(crate) enum Entry {
     /// An order, as it is.
     Order {

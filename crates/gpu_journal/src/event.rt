@@ -5,7 +5,7 @@ use gpu_cmd::CmdError;
 use gpu_word::Words;
 
 /// Why a stream was lost.
-#[derive(Clone, Copy, Debug, PartialEq, Eq)]
+#[derive(Clone, Copy)]
 pub enum Why {
     /// Its next command is invalid.
     Error(CmdError),
@@ -14,7 +14,7 @@ pub enum Why {
 }
 
 /// One event of a run. Streams and orders count from 1.
-#[derive(Debug, Drop)]
+#[derive(Drop)]
 pub enum Event<'a> {
     /// A flush drew the next order number; `place` is how many actions of the stream stand before it.
     Order {

@@ -49,6 +49,11 @@ impl Journal {
         }
     }
 
+    /// The allocator of the lists.
+    pub fn allocator(&self) -> Global {
+        *self.words.allocator()
+    }
+
     /// Makes room for a given number of further events.
     pub fn reserve(&mut self, more: usize) -> Result<(), Memory>
         ensures events { self.new.events ≡ self.old.events }
@@ -69,7 +74,7 @@ impl Journal {
         ensures full { OnErr result (self.old.room < more) }
     {
         if more > MOST_WORDS - self.words.len() {
-            return Err(Memory);
+            return Err(Memory::of_too_many(self.allocator()));
         }
         self.words.reserve(more)?;
         Ok(())

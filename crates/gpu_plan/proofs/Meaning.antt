@@ -160,5 +160,5 @@ means version n lines = by_version (version == 2) refl
     by_version false e = one_means version n lines e
 
 pub fails : (fault : ScriptFault) (version n : ℕ) (lines : List (List (List ℕ))) → FailsAt fault (from_body version (mentioned_in version [] lines) n no_stream lines) → FailsAt fault (from_body version (fence_names version lines) n no_stream lines)
-fails faults.Memory version n lines h = tt
+fails (faults.Memory refusal) version n lines h = tt
 fails (faults.Refused at kind) version n lines h = means version n lines ∙ ap (shown_by (renumbered_script version (mentioned_in version [] lines))) h

@@ -111,11 +111,11 @@ on_values false place vs said e is = let same = rw e at is in absurd (err_is_no_
 
 module _ (words : List (List ℕ)) (d : Draft) where
   pub puts_fail_said : (e : LineError) → Fails e (put_said words) → Fails e (with_puts words d)
-  puts_fail_said errors.Memory h = tt
+  puts_fail_said (errors.Memory refusal) h = tt
   puts_fail_said (errors.Refused kind) h = puts_is words d ∙ rw h refl
 
   pub puts_fail : (e : LineError) → Fails e (put_begun words) → Fails e (with_puts words d)
-  puts_fail errors.Memory h = tt
+  puts_fail (errors.Memory refusal) h = tt
   puts_fail (errors.Refused kind) h = puts_is words d ∙ rw (put_said_is words, h) refl
 
   module _ (place : ℕ) (vs : List (List ℕ)) (begun : put_begun words ≡ Ok (place, vs)) where
@@ -132,11 +132,11 @@ module _ (words : List (List ℕ)) (d : Draft) where
         puts_is words d ∙ rw is (subst (λ (draft : Draft). put_into None said.0 said.1 draft ≡ Err kind) stays (fault at))
 
   pub fill_fail_said : (e : LineError) → Fails e (fill_said words) → Fails e (with_fill words d)
-  fill_fail_said errors.Memory h = tt
+  fill_fail_said (errors.Memory refusal) h = tt
   fill_fail_said (errors.Refused kind) h = fill_is words d ∙ rw h refl
 
   pub fill_fail : (e : LineError) → Fails e (fill_begun words) → Fails e (with_fill words d)
-  fill_fail errors.Memory h = tt
+  fill_fail (errors.Memory refusal) h = tt
   fill_fail (errors.Refused kind) h = fill_is words d ∙ rw (fill_said_is words, h) refl
 
   module _ (memory place : ℕ) (vs : List (List ℕ)) (begun : fill_begun words ≡ Ok (memory, place, vs)) where

@@ -22,7 +22,7 @@ module _ (version : ℕ) (names : List Name) where
   pub body_ends : (fault : ScriptFault) (n : ℕ) (d : Draft) (all rest : List (List ℕ)) (line : List ℕ) (total : Result PlansData (ℕ × Kind)) → all ≡ line ∷ rest → FailsAt fault (numbered version names n (words_of line) d)
       → from_body version names n d (map words_of all) ≡ total → FailsAt fault total
   unfolding from_body
-  body_ends faults.Memory n d all rest line total e h so_far = tt
+  body_ends (faults.Memory refusal) n d all rest line total e h so_far = tt
   body_ends (faults.Refused at kind) n d all rest line total e h so_far =
       let one : from_body version names n d (map words_of all) ≡ Err (at, kind) = rw (e, h) refl in
       sym so_far ∙ one

@@ -12,10 +12,11 @@ use crate::adding::{add_line, no_stream};
 use crate::draft::Draft;
 use crate::plan::Plans;
 use crate::renumbering::whole;
+use gpu_word::Memory;
 use script_lines::{Kind, LineError, Lines, Names, ScriptFault, Words, all_lines};
 use std::alloc::Global;
 
-/// The most bytes of a script, and of any input.
+/// The most bytes of a script, and of each input but one with a whole output.
 pub const MOST_BYTES: usize = 16_777_216;
 
 fn is_remark(word: &[u8]) -> bool
@@ -85,7 +86,7 @@ fn add_numbered(
     match add_line(alloc, version, mentioned, name, words, draft) {
         Ok(()) => Ok(()),
         Err(LineError::Refused(kind)) => Err(ScriptFault::Refused { line: number, kind }),
-        Err(LineError::Memory) => Err(ScriptFault::Memory),
+        Err(LineError::Memory(memory)) => Err(ScriptFault::Memory(memory)),
     }
 }
 
@@ -112,7 +113,7 @@ fn from_body(
     }
     match whole(alloc, version, &mentioned, draft) {
         Ok(plans) => Ok(plans),
-        Err(_) => Err(ScriptFault::Memory),
+        Err(error) => Err(ScriptFault::Memory(Memory::from(error))),
     }
 }
 
@@ -165,10 +166,10 @@ fn from_head(alloc: Global, text: Lines<'_>) -> Result<Plans, ScriptFault>
     }
 }
 
-/// The plans that a script says, or its first bad line with its first kind.
+/// The plans that a script says, or its first bad line with its first kind. Its lines are counted in 32 bits.
 #[tactic(auto, unfolding(crate::specs::Script::script_of))]
 pub fn parse(alloc: Global, text: &[u8]) -> Result<Plans, ScriptFault>
-    requires { length text.now ≤ MOST_BYTES }
+    requires { length text.now < 2 ^ 31 }
     ensures { GivesScript (λ plans. plans) result (script_of text.now) }
 {
     from_head(alloc, all_lines(text))

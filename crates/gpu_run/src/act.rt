@@ -9,12 +9,13 @@ ghost use Rattle.gpu_run.specs.Stands.{Acting, Stands, HasActed};
 
 use crate::client::Client;
 use gpu_fetch::PlainPass;
-use gpu_house::{House, Naming};
+use gpu_house::{House, Naming, OrderRefused};
 use gpu_word::Memory;
+use sync_core::OrderFault;
 use wait_hooks::Hook;
 
 /// What a client did.
-#[derive(Clone, Copy, Debug, Drop)]
+#[derive(Clone, Copy, Drop)]
 pub(crate) enum Act {
     /// Nothing: it can do no action more.
     Stays,
@@ -54,7 +55,13 @@ fn act_once<N: Naming, H: Hook>(
         None => Ok(Act::Passed),
         Some(note) => match house.order(stream, note) {
             Ok(_) => Ok(Act::Ordered),
-            Err(_) => Err(Memory),
+            Err(
+                OrderRefused {
+                    why: OrderFault::Memory(memory),
+                    note: _,
+                },
+            ) => Err(memory),
+            Err(_) => unreachable!(),
         },
     }
 }

@@ -53,9 +53,9 @@ fn run_out<N: Naming, H: Hook>(
 {
     let mut out = run;
     while !out.at_end() {
-        let Ok(went) = turn(house, clients, &mut out, list) else {
-            house.lose(out);
-            return Err(Memory);
+        let went = match turn(house, clients, &mut out, list) {
+            Ok(went) => went,
+            Err(memory) => return Err(out.give_up(memory)),
         };
         if !went {
             house.back(out);

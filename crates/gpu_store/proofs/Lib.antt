@@ -1,7 +1,8 @@
-pub mod Drawing
-pub mod Painting
-pub mod Lookups
 pub mod Counting
+pub mod Drawing
+pub mod Lookups
+pub mod Painting
+pub mod Settled
 pub mod Steps
 pub mod Totals
 pub mod Words

@@ -9,7 +9,7 @@ use std::alloc::Global;
 use std::marker::Model;
 
 /// How many texels the longest side of an image may have.
-pub(crate) const MOST_SIDE: u32 = 4096;
+pub const MOST_SIDE: u32 = 4096;
 
 // Writes zeros after these texels, up to `count` of them. There is room for them.
 fn settle(texels: &mut Vec<u32>, count: usize)
@@ -30,7 +30,7 @@ fn settle(texels: &mut Vec<u32>, count: usize)
 ///
 /// The memory for all of them is taken at once. Until something is drawn only the zeros of one longest row are written, and
 /// each row shows these.
-#[derive(Debug, Drop)]
+#[derive(Drop)]
 pub(crate) struct Canvas {
     texels: Vec<u32>,
     count: usize,

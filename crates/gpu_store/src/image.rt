@@ -8,7 +8,7 @@ use std::alloc::Global;
 use std::marker::Model;
 
 /// One image: its size, and its texels row after row.
-#[derive(Debug, Drop)]
+#[derive(Drop)]
 pub struct Image {
     width: u32,
     height: u32,

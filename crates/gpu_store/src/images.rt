@@ -17,10 +17,10 @@ use std::marker::Model;
 use std::mem;
 
 /// How many texels all images may have together.
-const MOST_TEXELS: u32 = 4_194_304;
+pub const MOST_TEXELS: u32 = 4_194_304;
 
 /// The images by their numbers.
-#[derive(Debug, Drop)]
+#[derive(Drop)]
 pub struct Images {
     alloc: Global,
     images: BTreeMap<u32, Image>,

@@ -27,8 +27,9 @@ mod rows;
 mod sums;
 mod texels;
 
+pub use canvas::MOST_SIDE;
 pub use conversion::{unpack, unpack_words};
-pub use images::Images;
+pub use images::{Images, MOST_TEXELS};
 pub use numbers::Numbers;
 pub use op::{Answer, Op};
 pub use rect::Rect;

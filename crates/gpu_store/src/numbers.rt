@@ -6,7 +6,7 @@ use std::collections::btree_map::Keys;
 use std::marker::Model;
 
 /// The numbers of the images that are left to be walked, in rising order.
-#[derive(Debug, Drop)]
+#[derive(Drop)]
 pub struct Numbers<'a> {
     keys: Keys<'a, u32, Image>,
 }

@@ -2,7 +2,7 @@ use crate::rect::Rect;
 use crate::texels::Texels;
 
 /// An operation on the images. Images go by their numbers, and places and sizes are in texels.
-#[derive(Debug, Drop)]
+#[derive(Drop)]
 pub enum Op {
     /// Makes an image of this width and height, each from 1 to 4,096, whose texels are all 0.
     Create {
@@ -40,7 +40,7 @@ pub enum Op {
 }
 
 /// How an operation ended. Every answer other than `Done` leaves the images as they were.
-#[derive(Clone, Copy, Debug, PartialEq, Eq)]
+#[derive(Clone, Copy, PartialEq, Eq)]
 pub enum Answer {
     /// The operation was done.
     Done,

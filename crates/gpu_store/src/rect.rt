@@ -1,5 +1,5 @@
 /// A rectangle of texels.
-#[derive(Clone, Copy, Debug, PartialEq, Eq)]
+#[derive(Clone, Copy)]
 pub struct Rect {
     /// The leftmost column, counted from 0.
     pub x: u32,

@@ -3,7 +3,7 @@ ghost use Rattle.std.specs.Prelude.{◌≡◌, ℕ, List};
 use std::marker::Model;
 
 /// Texels in order: each is `r * 2^24 + g * 2^16 + b * 2^8 + a`, with channels of one byte.
-#[derive(Debug, Drop)]
+#[derive(Drop)]
 pub struct Texels {
     items: Vec<u32>,
 }

@@ -127,8 +127,8 @@ fn advance<N: Naming, P: NamedSide, H: Hook, R: Wait, G: Gate>(
     let before = (hall.finishes(stream), hall.greatest(stream));
     let on = match fetched {
         Ok(batch) => hall.commit(run, own, batch),
-        Err(_) => {
-            hall.lose(run);
+        Err(memory) => {
+            hall.lose(run, memory);
             None
         }
     };

@@ -19,13 +19,13 @@
 //!   - Waiting only where its await did not pass, it holds a flush that the queue did not take, too few finishes were
 //!     counted for the dump that is due, or it stands at its Close;
 //!   - Ended only where no action is left, or where it could not go on.
-//! - Of a queue that did not take a flush the clause says that there are 16 notes in it, the latest posted. It uses the
-//!   library's word `Held` and names no moment.
+//! - Where a queue did not take a flush, the clause says that 16 flushes were posted, and which. That 16 notes wait then is
+//!   only tested.
 //!
 //! Notes:
 //! - No clause says which locks a turn takes, that `run_threads` returns, or that it uses threads. The last two are only
 //!   tested. `serve_turn` answers Ran or NothingRunnable, which no clause ties to a cause.
-//! - `Run::holds` shows which tables a run is of, when it comes out of the lock. `NamedSide` says that whoever has words of
+//! - `Run::shows_fit` shows which tables a run is of, when it comes out of the lock. `NamedSide` says that whoever has words of
 //!   these tables at hand may fetch and publish there.
 //! - A dump is due once its await has passed, and no action comes before it. `read` gives its value once enough finishes
 //!   are counted, and the client keeps it in a list.

@@ -9,7 +9,7 @@ use thread_parts::{Leave, Shift};
 use wait_hooks::Hook;
 
 /// What a turn of a worker came to.
-#[derive(Clone, Copy, Debug, PartialEq, Eq)]
+#[derive(Clone, Copy)]
 pub enum Turn {
     /// A stream ran until its run was at home again.
     Ran,

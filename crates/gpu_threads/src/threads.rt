@@ -35,7 +35,7 @@ use thread_parts::{Client, Signals, Watch};
 use wait_hooks::Hook;
 
 /// How many threads serve in a run, and how many look.
-#[derive(Clone, Copy, Debug, PartialEq, Eq)]
+#[derive(Clone, Copy)]
 pub struct Team {
     /// The workers.
     pub workers: u32,
@@ -182,9 +182,12 @@ fn finish<N: Naming, H: Hook, R: Wait, G: Gate>(
     let mut clients = clients;
     let mut hall = play_left(rt, ground, &mut clients);
     hall.shows_laws();
-    let Ok(dumps) = all_read(alloc, &mut hall, words, clients) else {
-        hall.end(rt);
-        return Err(Memory);
+    let dumps = match all_read(alloc, &mut hall, words, clients) {
+        Ok(dumps) => dumps,
+        Err(memory) => {
+            hall.end(rt);
+            return Err(memory);
+        }
     };
     let (report, looks) = show_all(rt, alloc, hall, watches)?;
     Ok(ThreadedRun {
@@ -227,15 +230,18 @@ fn run_named<N: Naming + Send + Sync, H: Hook + Send, G: Gate + Sync, R: Threads
         takers,
     } = parts;
     let Views { writer, watches } = views;
-    let Ok(house) = House::<N, FullPass, H>::make(alloc, plans, hook, sides, results, books) else {
-        end_writer(rt, writer);
-        return Err(Memory);
+    let house = match House::<N, FullPass, H>::make(alloc, plans, hook, sides, results, books) {
+        Ok(house) => house,
+        Err(memory) => {
+            end_writer(rt, writer);
+            return Err(memory);
+        }
     };
     let ground = Ground::new(Hall::make(house, takers, writer), &words, &queues, gate);
     let mut crew = Crew { clients, watches };
-    if run_all(rt, alloc, &ground, signals, &mut crew).is_err() {
+    if let Err(memory) = run_all(rt, alloc, &ground, signals, &mut crew) {
         ground.into_hall().end(rt);
-        return Err(Memory);
+        return Err(memory);
     }
     finish(rt, alloc, ground, crew)
 }

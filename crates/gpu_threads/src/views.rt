@@ -173,11 +173,13 @@ pub(crate) fn show_all<N: Naming, P: NamedSide, H: Hook, R: Wait>(
     ensures looks { IfOk result
         (λ ended. AreAllLooks N.plans hall.past (length watches.items) ended.1.items) }
 {
-    let Ok(seen) = Vec::with_capacity(alloc, watches.len()) else {
-        hall.end(rt);
-        return Err(Memory);
+    let mut seen = match Vec::with_capacity(alloc, watches.len()) {
+        Ok(seen) => seen,
+        Err(error) => {
+            hall.end(rt);
+            return Err(Memory::from(error));
+        }
     };
-    let mut seen = seen;
     let mut shown = hall.show(rt)?;
     for watch in watches {
         seen.push_reserved(look_last(rt, &mut shown, watch));

@@ -3,3 +3,4 @@ pub mod Formats
 pub mod Bytes
 pub mod Outcome
 pub mod Results
+pub mod Refused

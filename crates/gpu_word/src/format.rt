@@ -2,7 +2,7 @@ ghost use Rattle.std.specs.Prelude.{◌≡◌};
 ghost use Rattle.gpu_word.specs.Formats.{format_of, format_bytes};
 
 /// How a texel lies in bytes.
-#[derive(Clone, Copy, Debug, PartialEq, Eq)]
+#[derive(Clone, Copy)]
 pub enum Format {
     /// Number 1: a byte each of red, green, blue and alpha.
     Rgba8,

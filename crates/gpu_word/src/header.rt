@@ -8,7 +8,7 @@ const SIZE_BITS: u32 = 21;
 const ID_BITS: u32 = 11;
 
 /// The two parts of a command's first entry.
-#[derive(Clone, Copy, Debug, PartialEq, Eq)]
+#[derive(Clone, Copy)]
 pub struct Header {
     /// How many ring entries the command takes, its header among them.
     pub size: u32,

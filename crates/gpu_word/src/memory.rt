@@ -1,19 +1,52 @@
-use std::alloc::{AllocError, AllocFailed};
+ghost use Rattle.std.specs.Prelude.{◌≡◌, IsErr};
+ghost use Rattle.gpu_word.specs.Refused.{refused};
 
-/// Out of memory: an allocation was refused.
+use std::alloc::{AllocError, AllocFailed, Global};
+
+/// Out of memory: the library refused an allocation.
 ///
-/// It is the one answer that no contract ties to a cause.
-#[derive(Clone, Copy, Debug, PartialEq, Eq)]
-pub struct Memory;
+/// Its field is private, and it is neither `Clone` nor `Copy` nor `Default`. So each one was made from a refusal of the
+/// library, by `From`. Whoever answers one was refused, or was handed one.
+#[derive(Debug, Drop)]
+pub struct Memory {
+    _refusal: (),
+}
+
+impl Memory {
+    /// The library's refusal of a list that no machine can hold, for a count that would run over.
+    ///
+    /// No run comes to such a count within the limits of a script.
+    pub fn of_too_many(alloc: Global) -> Memory {
+        match too_many(alloc) {
+            Ok(()) => unreachable!(),
+            Err(error) => Memory::from(error),
+        }
+    }
+}
+
+// Asks for a list that has one element and room for as many more as a number can say.
+fn too_many(alloc: Global) -> Result<(), AllocError>
+    ensures { IsErr result }
+{
+    let mut list = Vec::with_capacity(alloc, 1)?;
+    list.push_reserved(0u8);
+    list.reserve(usize::MAX)?;
+    let _ = list.capacity();
+    Ok(())
+}
 
 impl From<AllocError> for Memory {
+    ghost from_gives = { λ _ memory. memory ≡ refused };
+
     fn from(_error: AllocError) -> Memory {
-        Memory
+        Memory { _refusal: () }
     }
 }
 
 impl<T: Drop> From<AllocFailed<T>> for Memory {
+    ghost from_gives = { λ _ memory. memory ≡ refused };
+
     fn from(_error: AllocFailed<T>) -> Memory {
-        Memory
+        Memory { _refusal: () }
     }
 }

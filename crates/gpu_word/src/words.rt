@@ -3,7 +3,7 @@ ghost use Rattle.std.specs.Prelude.{◌≡◌};
 use std::marker::Model;
 
 /// Words that were fetched for one command, which others keep, seen as a list of pairs: a place and a value.
-#[derive(Debug, Drop)]
+#[derive(Drop)]
 pub struct Words<'a> {
     items: &'a [(u32, u32)],
 }

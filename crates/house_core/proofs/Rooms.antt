@@ -4,13 +4,14 @@ use Rattle.gpu_plan.specs.declared.plan.Action.{Action}
 use Rattle.gpu_plan.specs.Plans.{plan_of}
 use Rattle.gpu_plan.specs.Passes.{flushes}
 use Rattle.gpu_plan.proofs.Passing.{flushes_within}
-use Rattle.sync_core.specs.Standing.{is_open}
+use Rattle.sync_core.specs.Standing.{is_open, IsKnown}
 use Rattle.gpu_journal.specs.Waits.{IsOpen, standing_of}
 use Rattle.serial_laws.proofs.Flushes.{flushes_end}
 use Rattle.serial_laws.proofs.Passed.{lawful_of}
 use Rattle.serial_laws.specs.Needs.{need}
 use Rattle.serial_laws.proofs.Fronts.{left_count, counts_within}
 use Rattle.serial_laws.proofs.Needs.{need_open}
+use Rattle.serial_laws.proofs.Drawn.{drawn_few}
 use Rattle.house_core.specs.Desks.{DeskData, RunData, desk_at}
 use Rattle.house_core.specs.Core.{CoreData, IsOfPlans}
 use Rattle.house_core.specs.Invariant.{Parts, CoreInvariant, seen}
@@ -60,3 +61,14 @@ room_of_finish c v s run view_is was stream plan stays =
     let same = place.fits.finished in
     let part = place.need in
     (omega (arith, all, part), omega (arith, less, most, few, same))
+
+-- 32 bits hold the next order number, and one more order of a stream
+pub room_of_order : (c : Parts) (v : CoreData) (s : ℕ) → seen c ≡ v → CoreInvariant c → IsKnown (length v.plans.plans) s → (c.sync.drawn + 1 < 2 ^ 32) × ((desk_at c.desks s).ordered + 1 < 2 ^ 32)
+room_of_order c v s view_is was known =
+    let place = place_seen c v s view_is was known in
+    let numbers = drawn_few c.plans c.past was.lawful was.legal in
+    let drawn = was.sync.drawn in
+    let most = (counts_within c.plans c.past s was.legal).1 in
+    let few = few_flushes (plan_of c.plans s).actions (lawful_of c.plans s was.lawful place.plan).few in
+    let ordered = place.fits.ordered in
+    (omega (arith, numbers, drawn), omega (arith, most, few, ordered))

@@ -13,7 +13,7 @@ ghost use Rattle.house_core.specs.Invariant.{IsCore};
 
 use crate::closing::ends_with_close;
 use crate::desk::Desk;
-use crate::making::{desks, ranks, usual_events};
+use crate::making::{desks, journal, scheduler};
 use gpu_books::{Book, Half};
 use gpu_journal::Journal;
 use gpu_plan::Plans;
@@ -83,12 +83,8 @@ impl Core {
         let count = plans.count();
         let sync = SyncCore::make(alloc, count)?;
         sync.shows_room();
-        let ranks = ranks(alloc, &plans)?;
-        let scheduler = Scheduler::make(alloc, ranks.as_slice())?;
-        let mut journal = Journal::make(alloc);
-        let usual = usual_events(&plans);
-        journal.reserve(usual.max(count as usize))?;
-        journal.reserve_words(usual.saturating_mul(4))?;
+        let scheduler = scheduler(alloc, &plans)?;
+        let journal = journal(alloc, &plans)?;
         let desks = desks(alloc, &plans, books)?;
         let images = Images::make(alloc);
         Ok(Core {
@@ -247,6 +243,6 @@ pub(crate) fn take_room(journal: &mut Journal, owed: usize, more: usize) -> Resu
 {
     match owed.checked_add(more) {
         Some(room) => journal.reserve(room),
-        None => Err(Memory),
+        None => Err(Memory::of_too_many(journal.allocator())),
     }
 }

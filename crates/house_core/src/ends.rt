@@ -12,7 +12,7 @@ use gpu_journal::{Event, Why};
 use gpu_word::{Memory, Words};
 
 /// How a close was answered.
-#[derive(Clone, Copy, Debug, PartialEq, Eq)]
+#[derive(Clone, Copy)]
 pub enum Closing {
     /// The stream is closed.
     Closed,
@@ -81,8 +81,8 @@ impl Core {
         journal.push(Event::Close { stream });
     }
 
-    /// Loses a stream as out of memory, where it is neither lost nor closed. It takes no memory.
-    pub fn lose_client(&mut self, stream: u32)
+    /// Loses a stream as out of memory, where it is neither lost nor closed. It takes the refusal, and no memory.
+    pub fn lose_client(&mut self, stream: u32, _refusal: Memory)
         requires known { IsKnown (length self.old.plans.plans) stream }
         ensures event { is_open (standing_of self.old.plans self.old.past stream) ≡ true
             → Grows self.old self.new (Lost stream Why.Memory []) }

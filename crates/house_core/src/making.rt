@@ -1,16 +1,19 @@
 //! What a core is made of: where the flushes of each stream stand, and how streams are ranked.
-ghost use Rattle.std.specs.Prelude.{◌≡◌, length, map, IfOk};
+ghost use Rattle.std.specs.Prelude.{◌≡◌, ◌≤◌, [], length, map, IfOk};
 ghost use Rattle.std.specs.List.{All};
 ghost use Rattle.gpu_plan.specs.Plans.{PlanData};
 ghost use Rattle.gpu_journal.specs.Serial.{rank};
+ghost use Rattle.seq_sched.specs.Seats.{all_home};
 ghost use Rattle.house_core.specs.Core.{names_of, IsFresh};
 ghost use Rattle.house_core.specs.Making.{desks_of};
 
 use crate::desk::Desk;
 use gpu_books::{Book, Half};
 use gpu_cmd::Priority;
+use gpu_journal::Journal;
 use gpu_plan::{Plans, flush_places};
 use gpu_word::Memory;
+use seq_sched::Scheduler;
 use std::alloc::Global;
 
 // High before Normal before Low.
@@ -45,6 +48,27 @@ pub(crate) fn ranks(alloc: Global, plans: &Plans) -> Result<Vec<u32>, Memory>
         ranks.push(rank(plans.plan(done + 1).priority()))?;
     }
     Ok(ranks)
+}
+
+/// The scheduler of the streams, which are all at home.
+pub(crate) fn scheduler(alloc: Global, plans: &Plans) -> Result<Scheduler, Memory>
+    ensures { IfOk result (λ scheduler. scheduler
+        ≡ all_home (map (λ (plan : PlanData). rank plan.priority) plans.now.plans)) }
+{
+    let ranks = ranks(alloc, plans)?;
+    Scheduler::make(alloc, ranks.as_slice())
+}
+
+/// A journal of no event, with room for the usual ones and for the end of each stream.
+pub(crate) fn journal(alloc: Global, plans: &Plans) -> Result<Journal, Memory>
+    ensures events { IfOk result (λ journal. journal.events ≡ []) }
+    ensures spare { IfOk result (λ journal. length plans.now.plans ≤ journal.spare) }
+{
+    let mut journal = Journal::make(alloc);
+    let usual = usual_events(plans);
+    journal.reserve(usual.max(plans.count() as usize))?;
+    journal.reserve_words(usual.saturating_mul(4))?;
+    Ok(journal)
 }
 
 /// The desk of each stream, from stream 1 on, with these books.

@@ -46,12 +46,7 @@ impl Core {
         let Some(place) = desk.place(desk.ordered()) else {
             unreachable!()
         };
-        if scene.sync.drawn() == u32::MAX || desk.ordered() == u32::MAX {
-            return Err(OrderFault::Memory);
-        }
-        let Ok(()) = take_room(journal, *owed, 2) else {
-            return Err(OrderFault::Memory);
-        };
+        take_room(journal, *owed, 2)?;
         let fences = plans.plan(stream).fences_at(place);
         let order = scene.sync.order(stream, fences)?;
         scene.sync.shows_room();

@@ -2,7 +2,7 @@
 ghost use Rattle.std.specs.Prelude.{◌≡◌, ◌≤◌, [], true, false, option_map, IfSome, IfNone};
 ghost use Rattle.sync_core.specs.Standing.{is_open};
 ghost use Rattle.gpu_journal.specs.declared.event.Event.TheVariants.{Finish, Lost};
-ghost use Rattle.gpu_journal.specs.declared.event.Why.TheVariants.{Memory};
+ghost use Rattle.gpu_journal.specs.declared.event.Why.TheVariants as why;
 ghost use Rattle.gpu_journal.specs.Waits.{standing_of};
 ghost use Rattle.gpu_journal.specs.Legal.{IsLegal};
 ghost use Rattle.serial_laws.specs.Scripts.{AreLawfulPlans};
@@ -15,6 +15,7 @@ ghost use Rattle.house_core.specs.Answers.{Leaves, ComesHome};
 use crate::carried::Carried;
 use crate::core_of::Core;
 use gpu_journal::{Event, put_at};
+use gpu_word::Memory;
 
 impl Core {
     /// A run of the stream that the scheduler chooses among those at home, or `None` where none of them can run.
@@ -126,14 +127,14 @@ impl Core {
         }
     }
 
-    /// Loses the stream of a run as out of memory, where it is neither lost nor closed, and takes the run back. It takes no
-    /// memory.
-    pub fn lose(&mut self, mut run: Carried)
+    /// Loses the stream of a run as out of memory, where it is neither lost nor closed, and takes the run back. It takes the
+    /// refusal, and no memory.
+    pub fn lose(&mut self, mut run: Carried, refusal: Memory)
         requires { IsOfCore self.old run }
-        ensures { ComesHome self.old self.new run (Lost run.stream Memory []) }
+        ensures { ComesHome self.old self.new run (Lost run.stream why.Memory []) }
     {
         self.shows_run(&mut run);
-        self.lose_client(run.stream());
+        self.lose_client(run.stream(), refusal);
         self.back(run);
     }
 }

@@ -17,7 +17,7 @@ use gpu_word::{Memory, Words};
 use step_parts::{Acted, Taken};
 
 /// How a step was answered.
-#[derive(Debug, Drop)]
+#[derive(Drop)]
 pub enum Stepped {
     /// The stream is lost. Nothing has changed.
     Lost,

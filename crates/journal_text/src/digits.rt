@@ -1,4 +1,4 @@
-ghost use Rattle.std.specs.Prelude.{◌≡◌, ◌+◌, ◌*◌, ◌/◌, ◌%◌, ◌<◌, ◌≤◌, ◌∷◌, length, vec_len, vec_capacity};
+ghost use Rattle.std.specs.Prelude.{◌≡◌, ◌+◌, ◌*◌, ◌/◌, ◌%◌, ◌^◌, ◌<◌, ◌≤◌, ◌∷◌, length, vec_len, vec_capacity};
 ghost use Rattle.std.specs.Char.{digit_char};
 ghost use Rattle.journal_text.specs.Appended.{Appended};
 ghost use Rattle.journal_text.specs.Digits.{numeral, hex8, number_text};
@@ -74,7 +74,8 @@ static PAIRS: [u8; 512] =
 // The two digits of a byte, in lower case, the first of them the lower byte.
 fn pair(byte: u32) -> u64
     requires { byte < 256 }
-    ensures { result ≡ digit_char (byte / 16) + 256 * digit_char (byte % 16) }
+    ensures digits { result ≡ digit_char (byte / 16) + 256 * digit_char (byte % 16) }
+    ensures small { result < 2 ^ 16 }
 {
     let from = byte as usize * 2;
     u64::from(PAIRS[from]) + 0x100 * u64::from(PAIRS[from + 1])

@@ -54,7 +54,9 @@ impl Sheet {
     pub fn make(alloc: Global, limit: usize) -> Result<Sheet, Memory>
         ensures { IfOk result (λ sheet. sheet ≡ record { bytes = []; limit = limit }) }
     {
-        let room = limit.checked_add(MOST_LINE).ok_or(Memory)?;
+        let Some(room) = limit.checked_add(MOST_LINE) else {
+            return Err(Memory::of_too_many(alloc));
+        };
         let bytes = Vec::with_capacity(alloc, room)?;
         Ok(Sheet { bytes, limit })
     }

@@ -4,7 +4,7 @@ ghost use Rattle.journal_text.specs.Text.{tally_of};
 use stream_state::StreamState;
 
 /// What a stream counted in its run.
-#[derive(Clone, Copy, Debug, PartialEq, Eq)]
+#[derive(Clone, Copy)]
 pub struct Tally {
     /// The ring entries of its executed commands.
     pub entries: u64,

@@ -24,7 +24,10 @@ pub fn journal_text(alloc: Global, journal: &Journal) -> Result<Vec<u8>, Memory>
     let mut text = Vec::new(alloc);
     for index in 0..journal.count() {
         let event = journal.event(index);
-        text.reserve(room_of(&event).ok_or(Memory)?)?;
+        let Some(room) = room_of(&event) else {
+            return Err(Memory::of_too_many(alloc));
+        };
+        text.reserve(room)?;
         put_event(&mut text, &event);
     }
     Ok(text)

@@ -10,10 +10,11 @@ ghost use Rattle.journal_verify.specs.Entered.{FitsPlans, CountsAtMost, HasTurne
 use crate::judge::Judge;
 use gpu_plan::Plans;
 use gpu_word::Memory;
-use sync_core::SyncCore;
+use std::alloc::Global;
+use sync_core::{OrderFault, SyncCore};
 
 // Draws a number. A stream that is open is not lost, so nothing but memory can be wanting.
-fn draw(core: &mut SyncCore, s: u32, fences: &[(u32, u64)]) -> Result<(), Memory>
+fn draw(alloc: Global, core: &mut SyncCore, s: u32, fences: &[(u32, u64)]) -> Result<(), Memory>
     requires known { IsKnown (length core.old.streams) s }
     requires room { core.old.drawn + 1 < 2 ^ 32 }
     ensures drawn { OnOk result (core.new.drawn ≡ core.old.drawn + 1) }
@@ -23,7 +24,9 @@ fn draw(core: &mut SyncCore, s: u32, fences: &[(u32, u64)]) -> Result<(), Memory
 {
     match core.order(s, fences) {
         Ok(_) => Ok(()),
-        Err(_) => Err(Memory),
+        Err(OrderFault::Memory(memory)) => Err(memory),
+        // An open stream is not lost.
+        Err(OrderFault::Lost) => Err(Memory::of_too_many(alloc)),
     }
 }
 
@@ -41,7 +44,7 @@ impl Judge {
         ensures fits { OnOk result (FitsPlans plans.now self.new) }
     {
         let fences = plans.plan(s).fences_at(place);
-        draw(&mut self.scene.sync, s, fences)?;
+        draw(*self.watches.allocator(), &mut self.scene.sync, s, fences)?;
         self.drawn += 1;
         self.watches[s as usize - 1].order();
         Ok(())

@@ -1,7 +1,7 @@
 use gpu_cmd::{CmdError, Command};
 
 /// The verdict on words that were fetched.
-#[derive(Clone, Copy, Debug, PartialEq, Eq)]
+#[derive(Clone, Copy)]
 pub(crate) enum Outcome {
     /// They break this rule first.
     Broken(u32),

@@ -37,7 +37,7 @@ pub(crate) fn hand_over(copies: &mut Copies, waiting: &mut VecDeque<Drawn>) -> R
     while let Some(drawn) = waiting.pop_front() {
         if let Err(step) = copies.append(Step::Draw(drawn)) {
             put_back(waiting, step);
-            return Err(Memory);
+            return Err(Memory::from(AllocError));
         }
     }
     Ok(())
@@ -71,10 +71,10 @@ pub(crate) fn end_version<R: Wait>(copies: &mut Copies, rt: &R, mark: Mark) -> R
         (λ _. ops_of (steps_pending copies.new) ≡ ops_of (steps_pending copies.old)) }
 {
     if let Err(_end) = copies.append(Step::End(mark)) {
-        return Err(Memory);
+        return Err(Memory::from(AllocError));
     }
     match replace_with(copies, rt, show::<R>) {
         Ok(()) => Ok(()),
-        Err(_) => Err(Memory),
+        Err(error) => Err(Memory::from(error)),
     }
 }

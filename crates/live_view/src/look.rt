@@ -5,7 +5,7 @@ pub const LOOKS: u32 = 16;
 pub const ALL_LOOKS: usize = 17;
 
 /// What a viewer saw of one version.
-#[derive(Clone, Copy, Debug, PartialEq, Eq)]
+#[derive(Clone, Copy)]
 pub struct Look {
     /// How many events the version stands for.
     pub events: u32,

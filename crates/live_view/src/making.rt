@@ -94,11 +94,12 @@ fn copies_of<R: Wait>(
         (λ copies. view copies.desk.place ≡ met nothing (published copies)) }
 {
     let copies = Copies::new(alloc, first(alloc, front), first(alloc, front), viewers)?;
-    match copies.publish_as::<Publishes, R>(rt) {
-        (copies, Ok(())) => Ok(copies),
-        (copies, Err(_)) => {
+    let (copies, published) = copies.publish_as::<Publishes, R>(rt);
+    match published {
+        Ok(()) => Ok(copies),
+        Err(error) => {
             copies.take(rt);
-            Err(Memory)
+            Err(Memory::from(error))
         }
     }
 }

@@ -121,7 +121,7 @@ impl ViewWriter {
             events,
         };
         if !self.roll.add(&next) {
-            return Err(Memory);
+            return Err(Memory::of_too_many(*self.waiting.allocator()));
         }
         let front = self.roll.front().again();
         end_version(&mut self.copies, rt, Mark { events, front })

@@ -4,7 +4,7 @@ use gpu_word::Memory;
 use std::marker::Model;
 
 /// What the client of one stream has read of its results, seen as the list of (action place, result place, value).
-#[derive(Debug, Drop)]
+#[derive(Drop)]
 pub struct Dumps {
     items: Vec<(u32, u32, u32)>,
 }

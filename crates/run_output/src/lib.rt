@@ -6,9 +6,9 @@
 //! - `write` then adds exactly the output of the run to a sink, section by section: names, journal, images, streams, marks,
 //!   dumps and looks. Where the sink fails, it adds a prefix of them.
 //! - `PictureOutput` does so with a text and images.
-//! - Nothing is written before 65,536 bytes are gathered, or all is.
 //!
 //! Notes:
+//! - A piece is written once it has 65,536 bytes, or at the end. No public clause says so.
 //! - The dumps of a `RunOutput` are those that it is given, so a run on threads can use it too.
 #![tactic(auto)]
 

@@ -23,7 +23,7 @@ use live_view::{Look, MOST_VIEWERS};
 use result_words::Dumps;
 
 /// The sections of the output of a run.
-#[derive(Clone, Copy, Debug)]
+#[derive(Clone, Copy)]
 pub(crate) enum Section {
     /// The head and the names of a script of version 2.
     Names,

@@ -3,7 +3,7 @@ use Rattle.std.proofs.Common.{◌≡◌, ℕ, zero, suc, ◌+◌, ◌<◌, ◌�
 use Rattle.std.specs.Prelude.{IfOk, option_map, slice_get}
 use Rattle.std.specs.List.{All, concat, flat_map, range_with_len}
 use Rattle.std.specs.List.Sorted.{IsNonDecreasingBy}
-use Rattle.std.proofs.lemmas.List.{append-nil, length-map, reverse-reverse}
+use Rattle.std.proofs.lemmas.List.{append-nil, length-map, length-reverse, reverse-reverse}
 use Rattle.std.proofs.lemmas.List.Elements.{All-nil, All-head, All-tail, All-append}
 use Rattle.std.proofs.lemmas.List.Folds.{concat-append}
 use Rattle.gpu_store.specs.Images.{Pictures}
@@ -15,6 +15,7 @@ use Rattle.gpu_journal.specs.declared.event.Event.{Event}
 use Rattle.gpu_journal.specs.World.{state_of, replay}
 use Rattle.gpu_journal.specs.Waits.{endings_in}
 use Rattle.gpu_journal.specs.Ended.{streams_of, end_of}
+use Rattle.journal_text.specs.Picture.{picture_text}
 use Rattle.journal_text.specs.Text.{event_text, journal_text, tally_of, stream_text}
 use Rattle.journal_text.specs.Lines.{mark_text, view_text}
 use Rattle.journal_text.specs.Output.{output}
@@ -30,6 +31,7 @@ use Rattle.verify_input.specs.Due.{Look, LastLook, picture_lines, end_lines, end
 use Rattle.verify_input.specs.Whole.{IsRightWhole, FindsWhole}
 use Rattle.verify_input.specs.declared.finding.Finding.TheVariants.{Yes}
 use Rattle.verify_input.proofs.Wholly.{output_lines}
+use Rattle.verify_input.proofs.Yeses.{right_so}
 use Rattle.verify_input.proofs.Feeds.{view_line}
 use Rattle.verify_input.proofs.Labels.{Ends, IsView, view_ends, view_own, all_lines}
 use Rattle.verify_input.proofs.Offered.{Offered, stops_all, offered_none, offered_both, all_dumps_offered, whole_concat, events_text, event_lines, tells_of, heads_are, all_due, all_are, all_stop, all_viewers}
@@ -38,8 +40,8 @@ use Rattle.gpu_hall.specs.Looks.{IsLookOf, AreViewerLooks}
 use Rattle.run_output.specs.Parts.{look_text}
 use Rattle.run_output.proofs.Texts.{concat-map}
 use Rattle.script_answers.specs.Runs.{view_lines, IsViewedRun}
-use Rattle.script_answers.specs.Says.{output_in}
-use Rattle.script_answers.specs.Laws.{RunIsJudgedWhole}
+use Rattle.script_answers.specs.Says.{output_in, yes_line}
+use Rattle.script_answers.specs.Laws.{RunIsJudgedWhole, WholeYesIsYes}
 use Rattle.script_answers.proofs.Judged.{pictures_text, heads_text, concat_five}
 use Rattle.script_answers.proofs.Written.{all_written}
 
@@ -164,3 +166,20 @@ run_is_judged_whole p viewers base ending input written script there few (inr ou
       };
       told = out.told;
     })
+
+-- what is judged so was printed, and so its script and its journal are right
+pub whole_yes_is_yes : WholeYesIsYes
+whole_yes_is_yes base input short text script journal said =
+    let judged = said.1 in
+    let p = judged.plans in
+    let h = judged.ran.history in
+    let again = subst (λ (g : List Event). Printed p base judged.viewers g judged.written) (sym (reverse-reverse h)) (record { behind = judged.ran.behind; ran = judged.ran.ran; told = judged.ran.told }) in
+    let whole = accepted p base judged.viewers (reverse h) judged.written (plans_lawful p input judged.script) judged.few again input judged.script judged.there in (
+      refl,
+      (
+        replay p (reverse (reverse h)),
+        length (reverse h),
+        right_so base input short (replay p (reverse (reverse h))) (length (reverse h)) script journal whole,
+        judged.told ∙ (λ i. yes_line (sym (length-reverse h) i) ++ picture_text (replay p (sym (reverse-reverse h) i))),
+      ),
+    )

@@ -1,6 +1,6 @@
 -- What follows from laws of runs, and from the theorem, for runs and inputs that are given.
-use Rattle.std.proofs.Common.{◌≡◌, ℕ, ◌⊎◌, inl, inr, ⊎_elim, List, [], ◌++◌, Some, Ok, Err, refl, sym, ap, ◌∙◌, arith}
-use Rattle.std.specs.Prelude.{Result}
+use Rattle.std.proofs.Common.{◌≡◌, ℕ, ◌+◌, ◌<◌, ◌^◌, ◌⊎◌, inl, inr, ⊎_elim, List, [], ◌++◌, Some, Ok, Err, refl, sym, ap, ◌∙◌, arith}
+use Rattle.std.specs.Prelude.{Result, length, sum_by}
 use Rattle.gpu_io.specs.Faults.{HasRisen}
 use Rattle.script_lines.specs.Text.{lines_of}
 use Rattle.script_lines.specs.declared.fault.Kind.{Kind}
@@ -10,17 +10,23 @@ use Rattle.gpu_plan.specs.Plans.{PlansData}
 use Rattle.gpu_plan.specs.Script.{script_of, from_head}
 use Rattle.wait_hooks.specs.Marks.{mark}
 use Rattle.gpu_journal.specs.declared.event.Event.{Event}
+use Rattle.gpu_journal.specs.Legal.{IsLegal}
+use Rattle.gpu_journal.specs.Past.{event_words}
 use Rattle.journal_text.specs.Output.{output}
 use Rattle.serial_laws.specs.Scripts.{AreLawfulPlans}
+use Rattle.verify_input.specs.Parts.{script_part, journal_part}
 use Rattle.verify_input.specs.Found.{script_in}
 use Rattle.verify_input.specs.Whole.{IsRightWhole}
 use Rattle.script_answers.specs.declared.command.Command.TheVariants.{Check}
 use Rattle.script_answers.specs.declared.status.Status.{Status}
 use Rattle.script_answers.specs.declared.status.Status.TheVariants as status
 use Rattle.script_answers.specs.Runs.{IsSerialRun, IsViewedRun, IsOutput}
-use Rattle.script_answers.specs.Says.{Says, output_in}
+use Rattle.script_answers.specs.Says.{Says, output_in, IsJudgedWhole, IsYesText}
 use Rattle.script_answers.specs.Conducts.{Edges, Conducts}
-use Rattle.script_answers.specs.Laws.{SameViewedRunIsSameHistory, RunIsJudgedWhole}
+use Rattle.script_answers.specs.Laws.{SameViewedRunIsSameHistory, RunIsJudgedWhole, WholeYesIsYes, WordsAreFew}
+use Rattle.script_answers.specs.Limits.{LimitsHaveTheirValues}
+use Rattle.gpu_cmd.specs.declared.facts.TheConstants.{MOST_FETCHED}
+use Rattle.journal_text.specs.declared.sheet.TheConstants.{MOST_EVENT_WORDS}
 
 -- a run without viewers and one with four that print the same have the same history
 same_seen : SameViewedRunIsSameHistory → (p : PlansData) (base : ℕ) (g h : List Event) (x : List ℕ) → AreLawfulPlans p
@@ -31,6 +37,18 @@ same_seen law p base g h x lawful none four same = law p p 0 4 base base g h x x
 serial_right : RunIsJudgedWhole → (p : PlansData) (base : ℕ) (ending : Status) (input written : List ℕ) → script_in input ≡ Ok p → output_in input ≡ Some written → IsOutput IsSerialRun p base ending written
     → (images : Pictures) × (events : ℕ) × IsRightWhole input base images events
 serial_right law p base ending input written script there out = law p 0 base ending input written script there (omega arith) (inr out)
+
+-- where the whole output of an input is right, so is the journal of one that lacks the lines after it
+right_without : WholeYesIsYes → (base : ℕ) (input short text : List ℕ) → script_part short ≡ script_part input → journal_part short ≡ journal_part input → IsJudgedWhole base input text → IsYesText short text
+right_without law base input short text script journal whole = (law base input short text script journal (refl, whole)).1
+
+-- 32 bits count the words of all events
+words_fit : WordsAreFew → (p : PlansData) (h : List Event) → AreLawfulPlans p → IsLegal p h → sum_by (λ e. length (event_words e)) h < 2 ^ 32
+words_fit law p h lawful legal = let few = law p h lawful legal in omega (arith, few)
+
+-- as many words may be fetched for one stream, with those of its loss
+most_words : LimitsHaveTheirValues → MOST_FETCHED + MOST_EVENT_WORDS ≡ 1118208
+most_words law = let quota = law.words.fetched in let loss = law.words.event in omega (arith, quota, loss)
 
 -- an empty input has no head line
 no_head : script_of [] ≡ Err (1, Head)

@@ -6,3 +6,5 @@ pub mod Found
 pub mod Written
 pub mod Accepted
 pub mod Applied
+pub mod Words
+pub mod Limits

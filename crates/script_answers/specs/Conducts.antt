@@ -2,12 +2,11 @@
 use Rattle.std.specs.Prelude.{◌≡◌, ◌≢◌, ◌⊎◌, ◌↔◌, ℕ, true, false, List, Option, Some, None}
 use Rattle.gpu_io.specs.Faults.{HasRisen}
 use Rattle.gpu_io.specs.Whole.{ReadsAtMost, ReadsMoreThan}
-use Rattle.gpu_plan.specs.declared.script.TheConstants.{MOST_BYTES}
 use Rattle.script_answers.specs.declared.command.Command.{Command}
 use Rattle.script_answers.specs.declared.status.Status.{Status}
 use Rattle.script_answers.specs.declared.status.Status.TheVariants as status
 use Rattle.script_answers.specs.Statuses.{speaks, tells_all}
-use Rattle.script_answers.specs.Says.{reads}
+use Rattle.script_answers.specs.Says.{reads, most_bytes}
 use Rattle.script_answers.specs.Tells.{HasTold, HasBegun, held, IsAnswer}
 
 -- what is seen of a source and of a sink: the bytes left and the bytes written, where these are told, and how often a
@@ -29,7 +28,7 @@ pub record Edges (S K : Type 0) : Type 0 where
 -- - unread: a command that does not read leaves the source as it was
 -- - only: TooLong and ReadFault come only of a command that reads
 -- why it ended so:
--- - too_long: more bytes were read than are allowed
+-- - too_long: more bytes were read than the command may have
 -- - read_fault, early: a read failed, before a byte too many
 -- - write_fault: a write failed
 -- - complete: where the input is known and no call failed, the status is one of that input, or NoMemory
@@ -46,11 +45,11 @@ pub record Conducts {S K : Type 0} (edges : Edges S K) (words : Option Command) 
   pub unread : reads words ≡ false → source_then ≡ source
   pub only : (ending ≡ status.TooLong) ⊎ (ending ≡ status.ReadFault) → reads words ≡ true
   pub too_long : ending ≡ status.TooLong
-      → ReadsMoreThan MOST_BYTES (edges.left source) (edges.left source_then)
+      → ReadsMoreThan (most_bytes words) (edges.left source) (edges.left source_then)
   pub read_fault : ending ≡ status.ReadFault
       → HasRisen (edges.read_faults source) (edges.read_faults source_then)
   pub early : ending ≡ status.ReadFault
-      → ReadsAtMost MOST_BYTES (edges.left source) (edges.left source_then)
+      → ReadsAtMost (most_bytes words) (edges.left source) (edges.left source_then)
   pub write_fault : ending ≡ status.WriteFault
       → HasRisen (edges.write_faults sink) (edges.write_faults sink_then)
   pub complete : (command : Command) (input : List ℕ) → words ≡ Some command

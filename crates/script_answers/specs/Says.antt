@@ -6,10 +6,12 @@ use Rattle.script_generator.specs.Generator.{generated}
 use Rattle.gpu_store.specs.Images.{Pictures}
 use Rattle.gpu_plan.specs.Plans.{PlansData}
 use Rattle.gpu_plan.specs.Script.{script_of}
+use Rattle.gpu_plan.specs.declared.script.TheConstants.{MOST_BYTES}
 use Rattle.gpu_journal.specs.World.{replay}
 use Rattle.journal_text.specs.Picture.{picture_text}
 use Rattle.verify_input.specs.Found.{script_in, IsRight, Finds}
 use Rattle.verify_input.specs.Whole.{output_part, FindsWhole}
+use Rattle.verify_input.specs.declared.rest.TheConstants.{MOST_WHOLE_BYTES}
 use Rattle.verify_input.specs.declared.finding.Finding.{Finding}
 use Rattle.verify_input.specs.declared.finding.Finding.TheVariants as finding
 use Rattle.script_answers.specs.declared.command.Command.{Command}
@@ -28,6 +30,11 @@ reads (Some Check) = true
 reads (Some Verify) = true
 reads (Some VerifyWhole) = true
 reads _ = false
+
+-- the most bytes that its input may have
+abbrev pub most_bytes : Option Command → ℕ
+most_bytes (Some VerifyWhole) = MOST_WHOLE_BYTES
+most_bytes _ = MOST_BYTES
 
 -- what an input says as a script: with `verify` what stands before the line `journal`, and else all of it
 abbrev pub script_by : Command → List ℕ → Result PlansData (ℕ × Kind)

@@ -2,18 +2,17 @@
 use Rattle.std.specs.Prelude.{◌≡◌, ℕ, ◌<◌, ◌≤◌, ◌⊎◌, Bool, true, false, List, [], length, Option, Some}
 use Rattle.std.specs.Io.KnownBytes.{Appends}
 use Rattle.gpu_io.specs.Whole.{ReadsAll}
-use Rattle.gpu_plan.specs.declared.script.TheConstants.{MOST_BYTES}
 use Rattle.run_output.specs.Pieces.{AppendsFront}
 use Rattle.script_answers.specs.declared.command.Command.{Command}
 use Rattle.script_answers.specs.declared.status.Status.{Status}
 use Rattle.script_answers.specs.declared.status.Status.TheVariants as status
 use Rattle.script_answers.specs.Statuses.{tells_all}
-use Rattle.script_answers.specs.Says.{reads, Says}
+use Rattle.script_answers.specs.Says.{reads, most_bytes, Says}
 
--- the input of a command: all that its source has left, within the limit, and nothing where it does not read
-abbrev pub Takes : Bool → Option (List ℕ) → Option (List ℕ) → List ℕ → Type 0
-Takes true left left_then input = ReadsAll left left_then input × (length input ≤ MOST_BYTES)
-Takes false left left_then input = input ≡ []
+-- the input of a command: all that its source has left, within a limit, and nothing where it does not read
+abbrev pub Takes : ℕ → Bool → Option (List ℕ) → Option (List ℕ) → List ℕ → Type 0
+Takes most true left left_then input = ReadsAll left left_then input × (length input ≤ most)
+Takes most false left left_then input = input ≡ []
 
 -- the words are a command, its input was taken from the source, and it says this of it
 pub record Tells (words : Option Command) (base : ℕ) (left left_then : Option (List ℕ))
@@ -21,7 +20,7 @@ pub record Tells (words : Option Command) (base : ℕ) (left left_then : Option 
   pub command : Command
   pub asked : words ≡ Some command
   pub input : List ℕ
-  pub taken : Takes (reads words) left left_then input
+  pub taken : Takes (most_bytes words) (reads words) left left_then input
   pub said : Says command base input ending text
 
 -- the text that it says of its input was written
@@ -49,6 +48,6 @@ held false left = Some []
 -- memory
 abbrev pub IsAnswer : Command → ℕ → List ℕ → Status → Type 0
 IsAnswer command base input ending =
-    ((length input ≤ MOST_BYTES) × (text : List ℕ) × Says command base input ending text)
-    ⊎ ((ending ≡ status.TooLong) × (MOST_BYTES < length input))
+    ((length input ≤ most_bytes (Some command)) × (text : List ℕ) × Says command base input ending text)
+    ⊎ ((ending ≡ status.TooLong) × (most_bytes (Some command) < length input))
     ⊎ (ending ≡ status.NoMemory)

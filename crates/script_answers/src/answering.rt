@@ -3,7 +3,7 @@ ghost use Rattle.run_output.specs.Runs.{run_text};
 ghost use Rattle.script_answers.specs.declared.command.Command.TheVariants.{Run, Check, Verify, VerifyWhole};
 ghost use Rattle.script_answers.specs.Commands.{is_plain, IsSized};
 ghost use Rattle.script_answers.specs.Runs.{IsSerialRun, IsOutput, IsTrial, run_ending};
-ghost use Rattle.script_answers.specs.Says.{yes_line, Says};
+ghost use Rattle.script_answers.specs.Says.{most_bytes, yes_line, Says};
 ghost use Rattle.script_answers.specs.Answers.{answer_ending, answer_text, TellsFinding};
 
 use crate::answer::Answer;
@@ -20,7 +20,7 @@ use script_laws::{dumps_may_be_told, generated_plans, trial_text};
 use serial_laws::{plans_are_lawful, serial_history_is_legal_and_complete};
 use std::alloc::Global;
 use std::mem;
-use verify_input::{Finding, examine, examine_whole};
+use verify_input::{Finding, MOST_WHOLE_BYTES, examine, examine_whole};
 use wait_hooks::Hook;
 
 // Runs a script, and takes all memory that writing its output takes.
@@ -49,7 +49,7 @@ fn run_answer<H: Hook>(alloc: Global, input: &[u8], hook: H) -> Result<Answer, M
             line,
             kind,
         })),
-        Err(ScriptFault::Memory) => Err(Memory),
+        Err(ScriptFault::Memory(memory)) => Err(memory),
     }
 }
 
@@ -65,7 +65,7 @@ fn check_answer(alloc: Global, input: &[u8]) -> Result<Answer, Memory>
             line,
             kind,
         })),
-        Err(ScriptFault::Memory) => Err(Memory),
+        Err(ScriptFault::Memory(memory)) => Err(memory),
     }
 }
 
@@ -133,7 +133,7 @@ fn answer_of(alloc: Global, finding: Finding) -> Result<Answer, Memory>
 
 // What `verify --whole` says of an input.
 fn whole_answer<H: Hook>(alloc: Global, input: &[u8], hook: H) -> Result<Answer, Memory>
-    requires { length input.now ≤ MOST_BYTES }
+    requires { length input.now ≤ MOST_WHOLE_BYTES }
     ensures { IfOk result (λ answer.
         Says VerifyWhole (H.base hook) input.now (answer_ending answer) (answer_text answer)) }
 {
@@ -152,7 +152,7 @@ pub fn answer_to<H: Hook>(
     hook: H,
 ) -> Result<Answer, Memory>
     requires plain { is_plain (Some command) ≡ true }
-    requires short { length input.now ≤ MOST_BYTES }
+    requires short { length input.now ≤ most_bytes (Some command) }
     requires sized { IsSized command }
     ensures said { IfOk result (λ answer.
         Says command (H.base hook) input.now (answer_ending answer) (answer_text answer)) }

@@ -2,17 +2,19 @@ ghost use Rattle.std.specs.Prelude.{◌≡◌, ◌≤◌, ◌+◌, Some, map, st
 ghost use Rattle.script_lines.specs.Numbers.{decimal_of};
 ghost use Rattle.script_answers.specs.declared.command.Command.TheVariants.{Generate, Trial};
 ghost use Rattle.script_answers.specs.Commands.{size_said, with_both, digit_in, workers_in, behind_equals, run_with, views_in, viewed_with, of_one, of_verify, of_two, of_workers, of_three, of_views, of_five, command_of, is_plain, IsSized};
-ghost use Rattle.script_answers.specs.Says.{reads};
+ghost use Rattle.script_answers.specs.Says.{reads, most_bytes};
 
+use gpu_plan::MOST_BYTES;
 use live_view::MOST_VIEWERS;
 use script_generator::MOST_SIZE;
 use script_lines::decimal_u32;
+use verify_input::MOST_WHOLE_BYTES;
 
 /// The most workers that a run may have.
 pub const MOST_WORKERS: u32 = 8;
 
 /// What the words of the command line ask for.
-#[derive(Clone, Copy, Debug, PartialEq, Eq)]
+#[derive(Clone, Copy)]
 pub enum Command {
     /// Runs the script on standard input on one thread, and writes the output.
     Run,
@@ -43,6 +45,17 @@ impl Command {
                 | Command::Verify
                 | Command::VerifyWhole
         )
+    }
+
+    /// The most bytes that its input may have.
+    pub(crate) fn most_bytes(self) -> usize
+        ensures most { result ≡ most_bytes (Some self) }
+        ensures few { result ≤ MOST_WHOLE_BYTES }
+    {
+        match self {
+            Command::VerifyWhole => MOST_WHOLE_BYTES,
+            _ => MOST_BYTES,
+        }
     }
 }
 

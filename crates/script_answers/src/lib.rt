@@ -20,7 +20,8 @@
 //! - `is_plain` says exactly which words are for `plain_top`, which takes no handle, so it always returns.
 //! - A run that does not end with MemoryLost lost no stream as out of memory: field `kept` of `IsRun`.
 //! - Laws: runs on threads that print the same have the same history, whatever was read and seen during them. What `run` writes
-//!   is right for `verify --whole`.
+//!   is right for `verify --whole`, and what is right for that is right for `verify`. All events of a legal history have at most 17,891,328 words. Each limit that a
+//!   definition names has its value.
 //!
 //! Notes:
 //! - With `verify`, also of a whole output, the lines before the line `journal` are the script, and else all of them.
@@ -41,6 +42,9 @@ pub use answering::answer_to;
 pub use command::{Command, MOST_WORKERS, command_of, is_plain};
 pub use fault::{Fault, fault_of};
 pub use input::take_input;
-pub use laws::{runs_are_judged_whole, viewed_runs_tell_histories};
+pub use laws::{
+    legal_words_are_few, limits_have_their_values, runs_are_judged_whole,
+    viewed_runs_tell_histories, whole_yes_is_yes,
+};
 pub use plain::plain_top;
 pub use status::Status;

@@ -40,7 +40,7 @@ pub fn plain_top<S: Source, K: Sink, H: Hook>(
         Ok(input) => input,
         Err(ReadError::Fault) => return Status::ReadFault,
         Err(ReadError::TooLong) => return Status::TooLong,
-        Err(ReadError::Memory) => return Status::NoMemory,
+        Err(ReadError::Memory(_)) => return Status::NoMemory,
     };
     let Ok(answer) = answer_to(alloc, command, &input, hook) else {
         return Status::NoMemory;

@@ -5,7 +5,7 @@ use gpu_plan::Kind;
 use verify_input::What;
 
 /// How the program ended.
-#[derive(Clone, Copy, Debug, PartialEq, Eq)]
+#[derive(Clone, Copy)]
 pub enum Status {
     /// All is written that was asked for, and no stream of it was lost by an error.
     Ok,
@@ -21,7 +21,7 @@ pub enum Status {
     Refused { line: u32, kind: Kind },
     /// Memory ran out; nothing was written.
     NoMemory,
-    /// The input is longer than 16,777,216 bytes; nothing was written.
+    /// The input is longer than that of its command may be; nothing was written.
     TooLong,
     /// The script was run and all of its output written, in which a stream is lost as out of memory.
     MemoryLost,

@@ -76,7 +76,7 @@ count_parts {X} p q r (x ∷ xs) all = by (p x) (q x) (r x) (All-head (λ x. Par
     by false false true k e = absurd (cc (k.1))
     by false false false k e = e
 
-none_any : {X : Type 0} (p : X → Bool) (xs : List X) → list_any p xs ≡ false → All (λ x. p x ≡ false) xs
+pub none_any : {X : Type 0} (p : X → Bool) (xs : List X) → list_any p xs ≡ false → All (λ x. p x ≡ false) xs
 none_any p [] e = All-nil (λ x. p x ≡ false)
 none_any {X} p (x ∷ xs) e = by (none_any p xs) (p x) refl e
   where

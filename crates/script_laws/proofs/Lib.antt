@@ -6,6 +6,7 @@ pub mod Events
 pub mod Six
 pub mod Counting
 pub mod Waits
+pub mod Both
 mod worked
 pub mod Words
 pub mod Values

@@ -1,5 +1,5 @@
 -- The kept waits of a history, and what ended them.
-use Rattle.std.specs.Prelude.{◌≡◌, ℕ, ◌<◌, ◌≤◌, Bool, true, false, ◌&&◌, ◌==◌, List, ◌∷◌, ◌++◌, length, filter, Contains}
+use Rattle.std.specs.Prelude.{◌≡◌, ℕ, ◌+◌, ◌<◌, ◌≤◌, Bool, true, false, ◌&&◌, ◌==◌, List, ◌∷◌, ◌++◌, length, filter, All, Contains}
 use Rattle.gpu_plan.specs.Plans.{PlansData}
 use Rattle.sync_core.specs.declared.wait.Wait.{Wait}
 use Rattle.sync_core.specs.declared.ending.Ending.{Ending}
@@ -27,6 +27,15 @@ is_ending_of s n t r e = (e.stream == s) && ((e.order == n) && ((e.target == t) 
 -- each kept wait of number n of stream s has exactly one ending: of each stream and release there are as many of both
 abbrev pub HaveEnded : PlansData → List Event → ℕ → ℕ → Type 0
 HaveEnded p h s n = (t r : ℕ) → length (filter (is_ending_of s n t r) (endings_in p h)) ≡ length (filter (is_wait s n t r) (kept_in p h))
+
+-- each kept wait of number n of stream s is pending or has ended: of each stream and release there are as many of both together
+abbrev pub ArePendingOrEnded : PlansData → List Event → ℕ → ℕ → Type 0
+ArePendingOrEnded p h s n = (t r : ℕ) → length (filter (is_wait s n t r) (kept_in p h))
+    ≡ length (filter (is_wait s n t r) (pending_in p h)) + length (filter (is_ending_of s n t r) (endings_in p h))
+
+-- no ending is of this wait
+abbrev pub HasNotEnded : PlansData → List Event → Wait → Type 0
+HasNotEnded p h w = All (λ ending. is_ending_of w.stream w.order w.target w.release ending ≡ false) (endings_in p h)
 
 -- what an event does that ends a wait so, where f and g tell how its streams stand before and after it
 --

@@ -1,11 +1,11 @@
 -- Laws of scripts, of the history that a script has on one thread, and of the output of histories.
-use Rattle.std.specs.Prelude.{◌≡◌, ℕ, ◌≤◌, List, [], ◌∷◌, ◌++◌, length, take, IfOk, Some}
+use Rattle.std.specs.Prelude.{◌≡◌, ℕ, ◌≤◌, List, [], ◌∷◌, ◌++◌, length, true, take, IfOk, Some}
 use Rattle.std.specs.List.{All, flat_map}
 use Rattle.gpu_plan.specs.Plans.{PlansData, plan_of}
 use Rattle.gpu_plan.specs.Passes.{flushes}
 use Rattle.gpu_plan.specs.Script.{script_of}
 use Rattle.sync_core.specs.declared.ending.Ending.{Ending}
-use Rattle.sync_core.specs.Standing.{first_order}
+use Rattle.sync_core.specs.Standing.{first_order, contains_number}
 use Rattle.gpu_journal.specs.declared.event.Event.{Event}
 use Rattle.gpu_journal.specs.declared.event.Event.TheVariants.{Finish}
 use Rattle.gpu_journal.specs.World.{known}
@@ -18,7 +18,7 @@ use Rattle.gpu_journal.specs.Dumps.{MayDump}
 use Rattle.journal_text.specs.Lines.{view_text}
 use Rattle.journal_text.specs.Output.{output, AreDumpLines, dump_lines}
 use Rattle.serial_laws.specs.Scripts.{AreLawfulPlans}
-use Rattle.script_laws.specs.Kept.{HaveEnded, HasCause}
+use Rattle.script_laws.specs.Kept.{HaveEnded, ArePendingOrEnded, HasNotEnded, HasCause}
 
 -- ---- scripts
 
@@ -61,6 +61,14 @@ RunsAfterEndings = (p : PlansData) (g : List Event) (e : Event) → IsLegal p (e
 abbrev pub FinishedHaveEnded : Type 0
 FinishedHaveEnded = (p : PlansData) (later g : List Event) (s n : ℕ) → IsLegal p (later ++ Finish s n ∷ g) → HaveEnded p (later ++ Finish s n ∷ g) s n
 
+-- while a number is unprocessed none of its kept waits is forgotten: each is pending or has ended
+abbrev pub NoneIsForgotten : Type 0
+NoneIsForgotten = (p : PlansData) (h : List Event) (s n : ℕ) → contains_number n (left_of p h s) ≡ true → ArePendingOrEnded p h s n
+
+-- and none is both
+abbrev pub NoneIsBoth : Type 0
+NoneIsBoth = (p : PlansData) (h : List Event) → All (HasNotEnded p h) (pending_in p h)
+
 -- each ending has its event
 abbrev pub EndingsHaveCauses : Type 0
 EndingsHaveCauses = (p : PlansData) (h : List Event) → All (HasCause p h) (endings_in p h)
@@ -96,10 +104,6 @@ SameThreadedRunIsSameHistory = (p q : PlansData) (mark other : Ending → ℕ) (
 -- a serial history has no more events than this
 abbrev pub SerialIsShort : Type 0
 SerialIsShort = (p : PlansData) → length (serial p) ≤ most_events p
-
--- which is at most 100,000 flushes with 4,098 events each, and one end for each of 16 streams
-abbrev pub MostEventsAreFew : Type 0
-MostEventsAreFew = (p : PlansData) → AreLawfulPlans p → most_events p ≤ 409800016
 
 -- ---- rule 6
 

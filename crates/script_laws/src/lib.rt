@@ -7,6 +7,7 @@
 //!   too.
 //! - No step, finish or loss by an error of a stream comes while a kept wait of its first number is pending. When one
 //!   comes, and ever after the finish of that number, each kept wait of it has exactly one ending.
+//! - While a number is unprocessed each of its kept waits is pending or has ended, and none is both.
 //! - Each ending has the event that made it: the target came to the release, passed the number, or was closed. After a
 //!   legal and complete history no wait is pending.
 //! - Legal histories whose outputs are the same are the same, in either version. So they are by what any run prints, on one

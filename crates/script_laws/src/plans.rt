@@ -21,7 +21,7 @@ pub fn generated_plans(alloc: Global, size: u32, seed: u32) -> Result<Plans, Mem
     let text = generate(alloc, size, seed)?;
     match parse(alloc, &text) {
         Ok(plans) => Ok(plans),
-        Err(ScriptFault::Memory) => Err(Memory),
+        Err(ScriptFault::Memory(memory)) => Err(memory),
         Err(ScriptFault::Refused { .. }) => unreachable!(),
     }
 }

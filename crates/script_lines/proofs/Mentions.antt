@@ -31,7 +31,7 @@ named_is names n i r = by_parts (or_error Number (decimal_of n)) (or_error Numbe
     by_parts (Err k) b c = refl
 
 pub named_fails : (e : LineError) (names : List Name) (n i r : List ℕ) → Fails e (fence_said n i r) → Fails e (named_fence names n i r)
-named_fails errors.Memory names n i r h = tt
+named_fails (errors.Memory refusal) names n i r h = tt
 named_fails (errors.Refused k) names n i r h = named_is names n i r ∙ rw h refl
 
 keeps_fence : (names : List Name) (said : Result (Name × ℕ) Kind) → Keeps names (with_fence names said)

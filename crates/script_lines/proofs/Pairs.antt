@@ -27,7 +27,7 @@ goes_on front all mid rest t r target release total e f h k so_far =
 pub ends_first : (e : LineError) (front : List (ℕ × ℕ)) (all mid rest : List (List ℕ)) (t r : List ℕ) (total : Result (List (ℕ × ℕ)) Kind) → all ≡ t ∷ mid → mid ≡ r ∷ rest → Fails e (or_error Number (decimal_of t))
     → with_front front (pairs_of all) ≡ total → Fails e total
 unfolding pairs_of
-ends_first errors.Memory front all mid rest t r total e f h so_far = tt
+ends_first (errors.Memory refusal) front all mid rest t r total e f h so_far = tt
 ends_first (errors.Refused k) front all mid rest t r total e f h so_far =
     let one : with_front front (pairs_of all) ≡ Err k = rw (e, f, h) refl in
     sym so_far ∙ one
@@ -35,7 +35,7 @@ ends_first (errors.Refused k) front all mid rest t r total e f h so_far =
 pub ends_second : (e : LineError) (front : List (ℕ × ℕ)) (all mid rest : List (List ℕ)) (t r : List ℕ) (target : ℕ) (total : Result (List (ℕ × ℕ)) Kind) → all ≡ t ∷ mid → mid ≡ r ∷ rest → or_error Number (decimal_of t) ≡ Ok target → Fails e (or_error Number (long_decimal_of r))
     → with_front front (pairs_of all) ≡ total → Fails e total
 unfolding pairs_of
-ends_second errors.Memory front all mid rest t r target total e f g h so_far = tt
+ends_second (errors.Memory refusal) front all mid rest t r target total e f g h so_far = tt
 ends_second (errors.Refused k) front all mid rest t r target total e f g h so_far =
     let one : with_front front (pairs_of all) ≡ Err k = rw (e, f, g, h) refl in
     sym so_far ∙ one

@@ -88,7 +88,7 @@ pub fill_with_memory : (line rest : List ℕ) (memory : ℕ) → IsFirstRead dec
 fill_with_memory line rest memory r = rw r.begins (fill_behind r.word memory (words_of rest) (sym r.says))
 
 pub fill_fails : (e : LineError) (line rest : List ℕ) (memory : ℕ) → IsFirstRead decimal_of line (Some memory) rest → Fails e (put_begun (words_of rest)) → Fails e (fill_begun (words_of line))
-fill_fails errors.Memory line rest memory r h = tt
+fill_fails (errors.Memory refusal) line rest memory r h = tt
 fill_fails (errors.Refused kind) line rest memory r h = fill_with_memory line rest memory r ∙ rw h refl
 
 -- ---- whether values are values, told by what each word says

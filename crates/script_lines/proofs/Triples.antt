@@ -21,7 +21,7 @@ module _ (names : List Name) (front : List (ℕ × ℕ)) where
   pub ends_fence : (e : LineError) (all mid last rest : List (List ℕ)) (n i r : List ℕ) (total : Result (List (ℕ × ℕ)) Kind) → all ≡ n ∷ mid → mid ≡ i ∷ last → last ≡ r ∷ rest → Fails e (named_fence names n i r)
       → with_front front (triples_of names all) ≡ total → Fails e total
   unfolding triples_of
-  ends_fence errors.Memory all mid last rest n i r total e f g h so_far = tt
+  ends_fence (errors.Memory refusal) all mid last rest n i r total e f g h so_far = tt
   ends_fence (errors.Refused k) all mid last rest n i r total e f g h so_far =
       let one : with_front front (triples_of names all) ≡ Err k = rw (e, f, g, h) refl in
       sym so_far ∙ one

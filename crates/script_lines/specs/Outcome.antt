@@ -14,7 +14,7 @@ at_line number (Err kind) = Err (number, kind)
 
 -- the error is the kind that is said, unless memory ran out
 abbrev pub Fails : {Y : Type 0} → LineError → Result Y Kind → Type 0
-Fails errors.Memory said = Unit {0}
+Fails (errors.Memory refusal) said = Unit {0}
 Fails (errors.Refused kind) said = said ≡ Err kind
 
 -- what was returned, as view shows it, is what is said
@@ -24,7 +24,7 @@ Gives view (Err e) said = Fails e said
 
 -- the fault is the line and the kind that are said, unless memory ran out
 abbrev pub FailsAt : {Y : Type 0} → ScriptFault → Result Y (ℕ × Kind) → Type 0
-FailsAt faults.Memory said = Unit {0}
+FailsAt (faults.Memory refusal) said = Unit {0}
 FailsAt (faults.Refused line kind) said = said ≡ Err (line, kind)
 
 -- what was returned for a whole script, as view shows it, is what is said

@@ -147,7 +147,7 @@ fn count_values(values: Values<'_>) -> Option<usize>
 }
 
 /// What a put line says: a place, and a given number of words that are values.
-#[derive(Clone, Copy, Debug)]
+#[derive(Clone, Copy)]
 pub struct Putting<'a> {
     pub place: u32,
     pub values: Words<'a>,

@@ -2,15 +2,16 @@ ghost use Rattle.std.specs.Prelude.{◌≡◌, ◌<◌, ◌^◌, [], length, IfO
 ghost use Rattle.script_lines.specs.Names.{with_name, number_in};
 
 use gpu_cmd::Name;
+use gpu_word::Memory;
 use indexmap::IndexSet;
-use std::alloc::{AllocError, Global};
+use std::alloc::Global;
 use std::marker::Model;
 
 /// The most names, so that each has a number of 32 bits.
 const MOST_NAMES: usize = 4_294_967_295;
 
 /// Names of streams, each once, in the order in which they came. There are fewer than 2^32.
-#[derive(Debug, Drop)]
+#[derive(Drop)]
 pub struct Names {
     set: IndexSet<Name>,
 }
@@ -49,13 +50,13 @@ impl Names {
     /// # Errors
     ///
     /// There is no room for one more name. The names stay.
-    pub fn mention(&mut self, name: Name) -> Result<u32, AllocError>
+    pub fn mention(&mut self, name: Name) -> Result<u32, Memory>
         ensures names { OnOk result (self.new ≡ with_name self.old name) }
         ensures number { IfOk result (λ number. number ≡ number_in self.new name) }
         ensures same { OnErr result (self.new ≡ self.old) }
     {
         if self.set.len() >= MOST_NAMES {
-            return Err(AllocError);
+            return Err(Memory::of_too_many(*self.set.allocator()));
         }
         let (at, _) = self.set.insert_full(name)?;
         Ok(at as u32 + 1)

@@ -12,7 +12,7 @@ use crate::number::{decimal_u32, hex_u32};
 use crate::text::{cut_at, first_word, is_blank};
 
 /// What the words that are left of a line say as values.
-#[derive(Clone, Copy, Debug)]
+#[derive(Clone, Copy)]
 pub struct Values<'a> {
     pub rest: &'a [u8],
 }

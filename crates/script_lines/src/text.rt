@@ -6,13 +6,13 @@ ghost use Rattle.script_lines.specs.Reading.{CutsFirst};
 use memchr::memchr;
 
 /// The lines that are left of a text.
-#[derive(Clone, Copy, Debug)]
+#[derive(Clone, Copy)]
 pub struct Lines<'a> {
     pub rest: &'a [u8],
 }
 
 /// The words that are left of a line.
-#[derive(Clone, Copy, Debug)]
+#[derive(Clone, Copy)]
 pub struct Words<'a> {
     pub rest: &'a [u8],
 }

@@ -1,9 +1,9 @@
-ghost use Rattle.std.specs.Prelude.{◌≤◌, length, reverse, IfOk};
+ghost use Rattle.std.specs.Prelude.{◌≤◌, Some, length, reverse, IfOk};
 ghost use Rattle.run_output.specs.Runs.{run_text};
 ghost use Rattle.script_answers.specs.declared.command.Command.TheVariants.{RunOnThreads};
 ghost use Rattle.script_answers.specs.Commands.{IsSized};
 ghost use Rattle.script_answers.specs.Runs.{IsViewedRun, IsOutput, run_ending};
-ghost use Rattle.script_answers.specs.Says.{Says};
+ghost use Rattle.script_answers.specs.Says.{most_bytes, Says};
 ghost use Rattle.script_answers.specs.Answers.{answer_ending, answer_text};
 ghost use Rattle.live_view.specs.declared.making.TheConstants.{MOST_VIEWERS};
 
@@ -62,7 +62,7 @@ fn run_answer<H: Hook + Send, G: Gate + Sync, R: Threads + Wait + Sync>(
             line,
             kind,
         })),
-        Err(ScriptFault::Memory) => Err(Memory),
+        Err(ScriptFault::Memory(memory)) => Err(memory),
     }
 }
 
@@ -75,7 +75,7 @@ pub(crate) fn answer_on<H: Hook + Send, G: Gate + Sync, R: Threads + Wait + Sync
     gate: &G,
     hook: H,
 ) -> Result<Answer, Memory>
-    requires short { length input.now ≤ MOST_BYTES }
+    requires short { length input.now ≤ most_bytes (Some command) }
     requires sized { IsSized command }
     ensures said { IfOk result (λ answer.
         Says command (H.base hook) input.now (answer_ending answer) (answer_text answer)) }

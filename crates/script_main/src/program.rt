@@ -39,7 +39,7 @@ pub fn top<S: Source, K: Sink, G: Gate + Sync, H: Hook + Send, R: Threads + Wait
         Ok(input) => input,
         Err(ReadError::Fault) => return Status::ReadFault,
         Err(ReadError::TooLong) => return Status::TooLong,
-        Err(ReadError::Memory) => return Status::NoMemory,
+        Err(ReadError::Memory(_)) => return Status::NoMemory,
     };
     let Ok(answer) = answer_on(rt, alloc, command, &input, gate, hook) else {
         return Status::NoMemory;

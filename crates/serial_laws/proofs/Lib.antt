@@ -14,6 +14,8 @@ pub mod Rooms
 pub mod Sums
 pub mod Spent
 pub mod Bounded
+pub mod Few
+pub mod Finished
 pub mod Pending
 pub mod Going
 pub mod Needs

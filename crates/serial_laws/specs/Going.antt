@@ -1,5 +1,6 @@
--- How a history in which no number is left can go on.
-use Rattle.std.specs.Prelude.{◌≡◌, ℕ, ◌≤◌, ◌⊎◌, Bool, true, false, List, [], Some, slice_get}
+-- How a history can go on, also where no number is left, and to its end.
+use Rattle.std.specs.Prelude.{◌≡◌, ℕ, ◌≤◌, ◌⊎◌, Bool, true, false, List, [], ◌++◌, Some, slice_get}
+use Rattle.std.specs.List.{All}
 use Rattle.gpu_plan.specs.Plans.{PlansData, plan_of}
 use Rattle.gpu_plan.specs.Places.{flush_places}
 use Rattle.gpu_journal.specs.declared.event.Event.{Event}
@@ -8,7 +9,8 @@ use Rattle.gpu_journal.specs.declared.event.Why.TheVariants.{Memory}
 use Rattle.gpu_journal.specs.World.{known}
 use Rattle.gpu_journal.specs.Waits.{left_of, IsOpen}
 use Rattle.gpu_journal.specs.Facts.{reach}
-use Rattle.gpu_journal.specs.Legal.{MayClose}
+use Rattle.gpu_journal.specs.Legal.{MayClose, IsLegal}
+use Rattle.gpu_journal.specs.Complete.{IsComplete}
 
 -- the event is a loss as out of memory
 abbrev pub is_memory_loss : Event → Bool
@@ -30,3 +32,10 @@ pub record CanGoOn (p : PlansData) (h : List Event) : Type 0 where
   pub stream : ℕ
   pub still_open : IsOpen p h stream
   pub further : HasNextFlush p h stream ⊎ MayClose p h stream
+
+-- later events, none of them a loss as out of memory, with which the history is legal and complete
+pub record CanBeFinished (p : PlansData) (h : List Event) : Type 0 where
+  pub later : List Event
+  pub keeps : All (λ event. is_memory_loss event ≡ false) later
+  pub legal : IsLegal p (later ++ h)
+  pub complete : IsComplete p (later ++ h)

@@ -7,7 +7,7 @@ use Rattle.gpu_journal.specs.Legal.{IsLegal}
 use Rattle.gpu_journal.specs.Complete.{IsComplete}
 use Rattle.gpu_journal.specs.Serial.{next, IsPlayed, IsSerial, most_events, serial}
 use Rattle.serial_laws.specs.Scripts.{AreLawfulPlans}
-use Rattle.serial_laws.specs.Going.{is_memory_loss, IsIdle, CanGoOn}
+use Rattle.serial_laws.specs.Going.{is_memory_loss, IsIdle, CanGoOn, CanBeFinished}
 
 -- what is played is legal: each event that follows obeys its rules
 abbrev pub PlayedIsLegal : Type 0
@@ -24,6 +24,10 @@ EndsWhereComplete = (p : PlansData) (h : List Event) → IsLegal p h → (next p
 -- every legal history ends: it has no more events than this
 abbrev pub LegalIsBounded : Type 0
 LegalIsBounded = (p : PlansData) (h : List Event) → AreLawfulPlans p → IsLegal p h → length h ≤ most_events p
+
+-- which is at most 100,000 flushes with 4,098 events each, and one end for each of 16 streams
+abbrev pub MostEventsAreFew : Type 0
+MostEventsAreFew = (p : PlansData) → AreLawfulPlans p → most_events p ≤ 409800016
 
 -- the serial history is played to its end
 abbrev pub SerialIsPlayed : Type 0
@@ -52,3 +56,7 @@ UnfinishedGoesOn = (p : PlansData) (h : List Event) → AreLawfulPlans p → IsL
 -- after every legal history that is not complete some event is legal that is no loss as out of memory
 abbrev pub UnfinishedHasEvent : Type 0
 UnfinishedHasEvent = (p : PlansData) (h : List Event) → AreLawfulPlans p → IsLegal p h → (IsComplete p h → ⊥) → (e : Event) × (is_memory_loss e ≡ false) × IsLegal p (e ∷ h)
+
+-- so every legal history can be finished, and without any such loss
+abbrev pub LegalCanBeFinished : Type 0
+LegalCanBeFinished = (p : PlansData) (h : List Event) → AreLawfulPlans p → IsLegal p h → CanBeFinished p h

@@ -1,4 +1,4 @@
-ghost use Rattle.serial_laws.specs.Laws.{PlayedIsLegal, PlayedWantsNoMemory, EndsWhereComplete, UnfinishedGoesOn, UnfinishedHasEvent, LegalIsBounded, SerialIsPlayed, SerialIsAlone, SerialIsLegal, SerialIsComplete, SerialWantsNoMemory};
+ghost use Rattle.serial_laws.specs.Laws.{PlayedIsLegal, PlayedWantsNoMemory, EndsWhereComplete, UnfinishedGoesOn, UnfinishedHasEvent, LegalCanBeFinished, LegalIsBounded, MostEventsAreFew, SerialIsPlayed, SerialIsAlone, SerialIsLegal, SerialIsComplete, SerialWantsNoMemory};
 
 /// The law of the rule for one thread: each event that it gives after a history that it gave is legal there, and none is
 /// a loss as out of memory.
@@ -20,10 +20,13 @@ pub fn histories_go_on_until_complete()
 {}
 
 /// The law that every legal history ends: of each stream it has at most an order and a finish for each flush, a step for
-/// each entry of the ring and each flush, and one end.
-#[tactic(auto, using(crate::proofs::Bounded::legal_is_bounded))]
+/// each entry of the ring and each flush, and one end. That is 409,800,016 at most. And each can be finished: later events
+/// make it complete, none of them a loss as out of memory.
+#[tactic(auto, using(crate::proofs::Bounded::legal_is_bounded, crate::proofs::Few::most_events_are_few, crate::proofs::Finished::legal_can_be_finished))]
 pub fn legal_histories_end()
-    ensures { LegalIsBounded }
+    ensures bounded { LegalIsBounded }
+    ensures few { MostEventsAreFew }
+    ensures finished { LegalCanBeFinished }
 {}
 
 /// The law that the rule for one thread has one history, the serial one.

@@ -6,7 +6,7 @@
 //! - No legal history has more events than a number that the script tells.
 //! - So the rule has one history, which is legal and complete.
 //! - After every legal history that is not complete some event is legal that is no loss as out of memory. Where no number
-//!   is left, a stream has a flush to order or may close.
+//!   is left, a stream has a flush to order or may close. So every legal history can be finished without such a loss.
 //!
 //! Laws of a run that is out:
 //! - While its stream is open its number stays the first, and only a step of its own whose wait is kept makes it wait.

@@ -14,7 +14,7 @@ use gpu_plan::{Action, Plan};
 use std::marker::Model;
 
 /// How the next action of a client went.
-#[derive(Clone, Copy, Debug, PartialEq, Eq)]
+#[derive(Clone, Copy)]
 pub enum Acted {
     /// It was a put, and its value is stored.
     Stored,

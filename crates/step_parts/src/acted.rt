@@ -2,7 +2,7 @@ use gpu_store::Answer;
 use stream_state::Effect;
 
 /// What an executed command did beside its stream's state.
-#[derive(Debug, Drop)]
+#[derive(Drop)]
 pub struct Acted {
     /// What it asked of the rest of the service.
     pub effect: Effect,

@@ -8,7 +8,7 @@ use gpu_store::Op;
 use stream_state::joined;
 
 /// What a command asks of the images and of the waits that may need memory there.
-#[derive(Debug, Drop)]
+#[derive(Drop)]
 pub enum Claim {
     /// Nothing.
     Nothing,

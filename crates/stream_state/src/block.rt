@@ -7,7 +7,7 @@ use std::alloc::Global;
 use std::marker::Model;
 
 /// The bytes of a bucket or of a buffer.
-#[derive(Debug, Drop)]
+#[derive(Drop)]
 pub struct Block {
     bytes: Vec<u8>,
 }

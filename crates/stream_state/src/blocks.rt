@@ -8,7 +8,7 @@ use std::alloc::Global;
 use std::marker::Model;
 
 /// The buckets or the buffers of a stream by their numbers, from 0 to 15.
-#[derive(Debug, Drop)]
+#[derive(Drop)]
 pub struct Blocks {
     alloc: Global,
     blocks: [Option<Block>; SLOTS],

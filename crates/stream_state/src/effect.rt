@@ -3,7 +3,7 @@ use gpu_cmd::Name;
 use gpu_store::Op;
 
 /// What a step asks of the rest of the service.
-#[derive(Debug, Drop)]
+#[derive(Drop)]
 pub enum Effect {
     /// Nothing.
     Nothing,

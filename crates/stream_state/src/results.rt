@@ -6,7 +6,7 @@ use std::alloc::Global;
 use std::marker::Model;
 
 /// The values of a stream's result places, up to the greatest that was written. Places that no step wrote are 0.
-#[derive(Debug, Drop)]
+#[derive(Drop)]
 pub struct Results {
     values: Vec<u32>,
 }

@@ -10,7 +10,7 @@ use std::alloc::Global;
 use std::marker::Model;
 
 /// The state of a stream: what its executed commands have left.
-#[derive(Debug, Drop)]
+#[derive(Drop)]
 pub struct StreamState {
     pub(crate) alloc: Global,
     pub(crate) entries: u64,

@@ -10,7 +10,7 @@ use std::marker::Model;
 const WORD_BYTES: usize = 4;
 
 /// What a step writes to result places: pairs of a place and a value, in rising order of place.
-#[derive(Debug, Drop)]
+#[derive(Drop)]
 pub struct Writes {
     items: Vec<(u32, u32)>,
 }

@@ -66,7 +66,7 @@ impl Model for Client {
 }
 
 /// How one action of a client went.
-#[derive(Clone, Copy, Debug, PartialEq, Eq)]
+#[derive(Clone, Copy)]
 pub enum Act {
     /// It did an action, posted the flush that it held, or read the dump that was due.
     Went,
@@ -120,13 +120,6 @@ fn due_at(planned: &[(u32, u32)], place: usize, action: u32) -> Option<(u32, u32
     if dump.0 == action { Some(dump) } else { None }
 }
 
-// The dumps of a plan, in a list of their own.
-fn copied(alloc: Global, dumps: &[(u32, u32)]) -> Result<Vec<(u32, u32)>, Memory>
-    ensures { IfOk result (λ list. list.items ≡ dumps.now) }
-{
-    Ok(dumps.iter().copied().collect(alloc)?)
-}
-
 impl Client {
     /// The client of a stream, which has done nothing.
     ///
@@ -157,7 +150,7 @@ impl Client {
             }) }
     {
         plan.shows_lawful();
-        let planned = copied(alloc, plan.dumps())?;
+        let planned = Vec::from_slice(alloc, plan.dumps())?;
         let dumps = Vec::with_capacity(alloc, planned.len())?;
         Ok(Client {
             stream,

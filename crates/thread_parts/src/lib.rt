@@ -5,7 +5,7 @@
 //! What the contracts say:
 //! - `Client::act` does one action of a client, posts the flush that it holds, or reads the dump that is due. Its answers:
 //!   - Went only where it did one of the three;
-//!   - Full only where it holds a flush that the queue did not take, which was full of the latest notes that were posted;
+//!   - Full only where it holds a flush that the queue did not take; 16 flushes were posted then;
 //!   - NotYet only where its await did not pass, and Unread only where too few finishes were counted for the dump that is due;
 //!   - AtClose and End only where it stands at its Close, or no action is left.
 //! - A client keeps that it has posted each flush that it has made, but for one that it holds. What it read are the dumps of

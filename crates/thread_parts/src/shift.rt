@@ -2,7 +2,7 @@
 use crate::signals::Signals;
 
 /// How a thread came to serve no longer.
-#[derive(Clone, Copy, Debug, PartialEq, Eq)]
+#[derive(Clone, Copy)]
 pub enum Leave {
     /// It has taken the one run that it was to take.
     Enough,

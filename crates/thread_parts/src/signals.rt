@@ -126,6 +126,14 @@ impl Signals {
         }
     }
 
+    // Rings a bell where a thread sleeps on it, and says whether one did.
+    fn wakes(&self, bell: usize) -> bool {
+        match self.bell(bell) {
+            Some(bell) => bell.wake(),
+            None => false,
+        }
+    }
+
     /// The client of a stream has posted a flush.
     pub(crate) fn post(&self, stream: u32) {
         if let Some(own) = self.of(stream) {
@@ -222,9 +230,8 @@ impl Signals {
         if self.servers.load(Ordering::SeqCst) != 0 || self.called.swap(1, Ordering::SeqCst) != 0 {
             return;
         }
-        for bell in self.bells.iter().skip(self.streams.len()) {
-            let padded: &Bell = bell;
-            if padded.wake() {
+        for worker in 0..self.workers() {
+            if self.wakes(self.bell_of_worker(worker)) {
                 return;
             }
         }
@@ -245,9 +252,8 @@ impl Signals {
 
     /// Calls all workers.
     pub(crate) fn call_all(&self) {
-        for bell in self.bells.iter().skip(self.streams.len()) {
-            let padded: &Bell = bell;
-            padded.ring();
+        for worker in 0..self.workers() {
+            self.ring(self.bell_of_worker(worker));
         }
     }
 }

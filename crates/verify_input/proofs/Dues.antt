@@ -113,7 +113,7 @@ module _ (p : PlansData) (h : List Event) where
 -- ---- a part of all that is due
 
 -- out of memory, no line is told
-pub no_memory : {p : PlansData} {h : List Event} {dues : List Due} {least : ℕ} {old : Rest} → IsBad p h dues least old Memory
+pub no_memory : {p : PlansData} {h : List Event} {dues : List Due} {least : ℕ} {old : Rest} {refusal : _} → IsBad p h dues least old (Memory refusal)
 no_memory = record { off = λ line what e. absurd (cc) }
 
 module _ {p : PlansData} {h : List Event} {all : List Due} {old : Rest} where

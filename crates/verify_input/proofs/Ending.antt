@@ -22,7 +22,7 @@ module _ (p : PlansData) (h : List Event) where
 
   pub bad_of : (dues : List Due) (old : Rest) (bad : Bad) → IsBad p h dues 0 old bad → IsFirstBadOf p h dues old bad
   bad_of dues old (Off line part) bad = let off = bad.off line part refl in (off.0, off.1, first_off dues (whole_lines old.text.now) off.0 part off.3 off.2)
-  bad_of dues old Memory bad = tt
+  bad_of dues old (Memory refusal) bad = tt
 
   -- ---- the end
 

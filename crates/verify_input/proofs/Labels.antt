@@ -1,5 +1,6 @@
 -- With which word the lines of an output begin.
-use Rattle.verify_input.proofs.Names.{◌≡◌, ℕ, Bool, true, false, cond, not, List, [], ◌∷◌, ◌++◌, map, length, refl, ap, ◌∙◌, arith, codes, bytes_eq, filter, All, list_all, flat_map, join_with_byte, and_parts, not-true, false_from_ne_true, nat_tests, bytes_eq-Decides, All-nil, All-cons, All-head, All-tail, All-append, All-weaker, slice_split_none, slice_split_at, texel_row, Pictures, is_blank, is_empty, words_of, Ending, Event, Order, Step, Lost, Close, End, Tally, hex8, event_text, stream_text, head_text, row_text, mark_text, dump_text, view_text, length-hex8, HasNoFeed, words_on, begins_part, lines_of_image, begins_view}
+use Rattle.verify_input.proofs.Names.{◌≡◌, ℕ, Bool, true, false, cond, not, List, [], ◌∷◌, ◌++◌, map, length, refl, ap, ◌∙◌, arith, codes, bytes_eq, filter, All, list_all, flat_map, join_with_byte, and_parts, not-true, false_from_ne_true, nat_tests, bytes_eq-Decides, All-nil, All-cons, All-head, All-tail, All-append, All-weaker, slice_split_none, slice_split_at, texel_row, Pictures, is_blank, is_empty, words_of, Ending, Event, Order, Step, Lost, Close, End, Tally, hex8, event_text, stream_text, head_text, row_text, journal_head, name_text, mark_text, dump_text, view_text, length-hex8, HasNoFeed, words_on, begins_part, lines_of_image, begins_view}
+use Rattle.gpu_cmd.specs.declared.name.Name.{Name}
 use Rattle.gpu_journal.specs.declared.event.Event.TheVariants.{Finish}
 use Rattle.verify_input.proofs.Lines.{IsInk, ink_value}
 use Rattle.verify_input.proofs.Wholes.{kept_front}
@@ -69,6 +70,13 @@ view_ends viewer events sum = says begins_part (codes "view") _ refl refl refl
 pub view_own : (viewer events sum : ℕ) → IsView true (view_text viewer events sum)
 unfolding view_text
 view_own viewer events sum = says begins_view (codes "view") _ refl refl refl
+
+pub head_goes : Goes journal_head
+head_goes = says begins_part (codes "gpu-journal") _ refl refl refl
+
+pub name_goes : (stream : ℕ) (name : Name) → Goes (name_text stream name)
+unfolding name_text
+name_goes stream name = says begins_part (codes "name") _ refl refl refl
 
 pub event_goes : (event : Event) → Goes (event_text event)
 unfolding event_text

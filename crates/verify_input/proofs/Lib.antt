@@ -31,4 +31,5 @@ pub mod Offered
 pub mod Wholly
 pub mod Alone
 pub mod OnlyWholes
+pub mod Yeses
 mod Applied

@@ -51,7 +51,7 @@ pub use Rattle.wait_hooks.specs.Marks.{mark}
 pub use Rattle.verify_input.specs.Cuts.{IsCutAt, IsFirstLine, IsLine}
 pub use Rattle.verify_input.specs.Due.{AreDue, AreTakenOff, Due, Dump, IsFirstOff, IsMore, IsOff, LastLook, Look, MayStand, Same, all_dumps_due, begins_view, dumps_due, end_lines, ending_lines, heads_due, images_due, lines_of_image, looks_due, marks_due, picture_lines, same_lines, streams_due, viewers_due, viewers_in, what_of}
 unfoldable pub use Rattle.verify_input.specs.Due.{dues}
-pub use Rattle.verify_input.specs.Found.{Finds, HasNoJournal, IsFirstOther, LacksText, Records, TellsBehind, head_of, script_in}
+pub use Rattle.verify_input.specs.Found.{Finds, HasNoJournal, IsFirstOther, IsRight, LacksText, Records, TellsBehind, head_of, script_in}
 pub use Rattle.verify_input.specs.Laws.{FindingIsOne, WholeFindingIsOne}
 pub use Rattle.verify_input.specs.Looks.{BeginsWithLook, EndsWith}
 unfoldable pub use Rattle.verify_input.specs.Looks.{look_said}
@@ -59,7 +59,7 @@ pub use Rattle.verify_input.specs.Parts.{before, begins_part, behind, is_end, is
 pub use Rattle.verify_input.specs.Reading.{HasNoFeed, HasNumbersOfWords, IsFault, IsFirstBad, IsJournal, byte_before, whole_lines}
 pub use Rattle.verify_input.specs.Steps.{FindsIn, FindsOf}
 pub use Rattle.verify_input.specs.Taking.{HasTaken, IsBad, IsFirstBadOf, IsHistory, IsLook, Judges, JudgesAll, is_lost, off_of, past_of}
-pub use Rattle.verify_input.specs.Whole.{AreHeaded, FindsAll, FindsWhole, HasOutput, IsAfterScript, LacksEvent, TellsAll, output_part}
+pub use Rattle.verify_input.specs.Whole.{AreHeaded, FindsAll, FindsWhole, HasOutput, IsAfterScript, IsRightWhole, LacksEvent, TellsAll, output_part}
 pub use Rattle.verify_input.specs.declared.border.Border.{Border}
 pub use Rattle.verify_input.specs.declared.border.Border.TheVariants.{Journal, Script}
 pub use Rattle.verify_input.specs.declared.finding.Finding.{Finding}

@@ -50,7 +50,7 @@ IsFirstOther (head ∷ heads) (line ∷ lines) (suc k) = (line ≡ head) × IsFi
 -- the line that is refused, counted from 1, is that one
 abbrev pub IsOtherAt : List (List ℕ) → List (List ℕ) → JournalFault → Type 0
 IsOtherAt heads lines (faults.Refused line) = (k : ℕ) × (line ≡ k + 1) × IsFirstOther heads lines k
-IsOtherAt heads lines faults.Memory = Unit {0}
+IsOtherAt heads lines (faults.Memory refusal) = Unit {0}
 
 -- after a given number of lines of a script there is no line `journal`, and this one would be the next; or the journal
 -- text after that line has this one as the first that is not as it has to be

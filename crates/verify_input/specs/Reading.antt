@@ -54,7 +54,7 @@ IsFirstBad (line ∷ lines) (suc k) = ((event : Event) × IsLineOf line event) �
 -- the line that is refused, counted from 1, is the first of the text that is no event's
 abbrev pub IsFault : List ℕ → JournalFault → Type 0
 IsFault text (faults.Refused line) = (k : ℕ) × (line ≡ k + 1) × IsFirstBad (whole_lines text) k
-IsFault text faults.Memory = Unit {0}
+IsFault text (faults.Memory refusal) = Unit {0}
 
 -- a text with such a line is the journal text of no events
 abbrev pub RefusedIsNoJournal : Type 0

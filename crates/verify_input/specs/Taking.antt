@@ -60,7 +60,7 @@ is_lost end.Closed = false
 -- this line is the first that is off or more
 abbrev pub IsFirstBadOf : PlansData → List Event → List Due → Rest → Bad → Type 0
 IsFirstBadOf p h dues old (Off line what) = (k : ℕ) × (line ≡ old.line + k) × IsFirstOff p h dues (whole_lines old.text.now) k what
-IsFirstBadOf p h dues old Memory = Unit {0}
+IsFirstBadOf p h dues old (Memory refusal) = Unit {0}
 
 -- all lines that are left are those that are due, or the first that is off or more was told
 pub record JudgesAll {T : Type 0} (p : PlansData) (h : List Event) (dues : List Due) (old : Rest) (result : Result T Bad) : Type 0 where

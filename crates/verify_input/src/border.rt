@@ -6,7 +6,7 @@ ghost use Rattle.verify_input.specs.Parts.{is_journal, part_words, begins_part, 
 use script_lines::Words;
 
 /// Where a part of the input ends.
-#[derive(Clone, Copy, Debug, PartialEq, Eq)]
+#[derive(Clone, Copy)]
 pub(crate) enum Border {
     /// The script ends before the line `journal`.
     Script,

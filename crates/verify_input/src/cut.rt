@@ -7,7 +7,7 @@ use crate::border::Border;
 use script_lines::{Words, cut_at, line_end};
 
 /// A text, cut at the first line that ends a part of the input.
-#[derive(Clone, Copy, Debug)]
+#[derive(Clone, Copy)]
 pub(crate) struct Cut<'a> {
     /// What stands before the line, or the whole text where there is none.
     pub(crate) part: &'a [u8],

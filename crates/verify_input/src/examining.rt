@@ -43,7 +43,7 @@ fn examine_journal(alloc: Global, plans: &Plans, lines: u32, text: &[u8]) -> Res
         Err(JournalFault::Refused { line }) => Ok(Finding::NoJournal {
             line: lines + 1 + line,
         }),
-        Err(JournalFault::Memory) => Err(Memory),
+        Err(JournalFault::Memory(memory)) => Err(memory),
     }
 }
 
@@ -59,7 +59,7 @@ pub fn examine(alloc: Global, input: &[u8]) -> Result<Finding, Memory>
     let plans = match parse(alloc, cut.part) {
         Ok(plans) => plans,
         Err(ScriptFault::Refused { line, kind }) => return Ok(Finding::Refused { line, kind }),
-        Err(ScriptFault::Memory) => return Err(Memory),
+        Err(ScriptFault::Memory(memory)) => return Err(memory),
     };
     match cut.rest {
         Some(text) => examine_journal(alloc, &plans, cut.lines, text),

@@ -32,13 +32,13 @@ pub(crate) fn read_behind_head(
     match take_names(&mut rest, &mut line, plans) {
         Ok(()) => {}
         Err(Bad::Off { line, .. }) => return Err(JournalFault::Refused { line }),
-        Err(Bad::Memory) => return Err(JournalFault::Memory),
+        Err(Bad::Memory(memory)) => return Err(JournalFault::Memory(memory)),
     }
     match read_journal(alloc, rest.text) {
         Ok(journal) => Ok(journal),
         Err(JournalFault::Refused { line }) => Err(JournalFault::Refused {
             line: rest.line - 1 + line,
         }),
-        Err(JournalFault::Memory) => Err(JournalFault::Memory),
+        Err(JournalFault::Memory(memory)) => Err(JournalFault::Memory(memory)),
     }
 }

@@ -46,5 +46,6 @@ pub use laws::{
     findings_exclude_one_another, journal_texts_are_told_apart, whole_findings_exclude_one_another,
 };
 pub use reading::read_journal;
+pub use rest::MOST_WHOLE_BYTES;
 pub use what::What;
 pub use whole::examine_whole;

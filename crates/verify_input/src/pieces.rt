@@ -5,7 +5,7 @@ ghost use Rattle.verify_input.specs.Said.{is_space, pieces_of};
 ghost use Rattle.verify_input.specs.Fronts.{IsCut};
 
 /// The rest of a line after a piece of it: nothing, or a space and the further pieces.
-#[derive(Clone, Copy, Debug)]
+#[derive(Clone, Copy)]
 pub(crate) struct Pieces<'a> {
     pub(crate) rest: &'a [u8],
 }

@@ -3,8 +3,8 @@ ghost use Rattle.verify_input.specs.Reading.{HasNoFeed, IsJournal, IsFault};
 
 use crate::event::read_event;
 use crate::fault::JournalFault;
+use crate::rest::MOST_WHOLE_BYTES;
 use gpu_journal::Journal;
-use gpu_plan::MOST_BYTES;
 use script_lines::{cut_at, line_end};
 use std::alloc::Global;
 
@@ -19,11 +19,11 @@ fn first_line(text: &[u8]) -> Option<(&[u8], &[u8])>
     }
 }
 
-/// The events of a journal text, which has at most 16,777,216 bytes.
+/// The events of a journal text, which has at most 67,108,864 bytes.
 ///
 /// Refused: the first line that is no event line in its exact spelling with a line feed, of numbers of 32 bits.
 pub fn read_journal(alloc: Global, text: &[u8]) -> Result<Journal, JournalFault>
-    requires { length text.now ≤ MOST_BYTES }
+    requires { length text.now ≤ MOST_WHOLE_BYTES }
     ensures ok { IfOk result (λ journal. IsJournal text.now (reverse journal.events)) }
     ensures err { IfErr result (λ fault. IsFault text.now fault) }
 {

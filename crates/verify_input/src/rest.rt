@@ -4,31 +4,34 @@ use crate::cut::behind_line;
 use crate::what::What;
 use gpu_word::Memory;
 
+/// The most bytes of an input with a whole output.
+pub const MOST_WHOLE_BYTES: usize = 67_108_864;
+
 /// Why an output is not judged to be right.
-#[derive(Clone, Copy, Debug, PartialEq, Eq)]
+#[derive(Drop)]
 pub(crate) enum Bad {
     /// This line is the first that is off.
     Off { line: u32, what: What },
-    /// Memory is wanting.
-    Memory,
+    /// Out of memory.
+    Memory(Memory),
 }
 
 impl From<Memory> for Bad {
     ghost use Rattle.verify_input.specs.declared.rest.Bad.TheVariants as bads;
 
-    ghost from_gives = { λ _ e. e ≡ bads.Memory };
+    ghost from_gives = { λ memory e. e ≡ bads.Memory memory };
 
-    fn from(_error: Memory) -> Bad {
-        Bad::Memory
+    fn from(memory: Memory) -> Bad {
+        Bad::Memory(memory)
     }
 }
 
 /// What is left of an output, and the number of the line with which it begins.
-#[derive(Clone, Copy, Debug)]
+#[derive(Clone, Copy)]
 pub(crate) struct Rest<'a> {
     pub(crate) text: &'a [u8],
     pub(crate) line: u32,
-    ghost short: { line + length text.now ≤ 16777217 },
+    ghost short: { line + length text.now ≤ 67108865 },
 }
 
 impl Rest<'_> {

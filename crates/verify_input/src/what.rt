@@ -1,7 +1,7 @@
 use std::fmt::{self, Display, Formatter};
 
 /// What is off at a line of an output.
-#[derive(Clone, Copy, Debug, PartialEq, Eq)]
+#[derive(Clone, Copy, Debug)]
 pub enum What {
     /// A line of the head or of a name was due there.
     Name,

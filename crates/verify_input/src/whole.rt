@@ -11,12 +11,12 @@ use crate::fault::JournalFault;
 use crate::finding::Finding;
 use crate::looks::view_lines;
 use crate::reading::read_journal;
-use crate::rest::{Bad, Rest};
+use crate::rest::{Bad, MOST_WHOLE_BYTES, Rest};
 use crate::sections::{
     History, take_dumps, take_images, take_marks, take_names, take_streams, take_viewers,
 };
 use gpu_journal::Journal;
-use gpu_plan::{MOST_BYTES, Plans, ScriptFault, parse};
+use gpu_plan::{Plans, ScriptFault, parse};
 use gpu_word::Memory;
 use journal_text::Line;
 use journal_verify::{Ruling, ends_of, follow};
@@ -60,12 +60,12 @@ fn judge_all(
 {
     let mut rest = rest;
     let views = view_lines(alloc, rest.text)?;
+    let ends = ends_of(alloc, plans.count(), journal)?;
     let followed = match follow(alloc, plans, journal, &views.events)? {
         Ruling::Whole(followed) => followed,
         Ruling::No { event, rule } => return Ok(Finding::No { event, rule }),
         Ruling::NotComplete => return Ok(Finding::NotComplete),
     };
-    let ends = ends_of(alloc, plans.count(), journal)?;
     let history = History {
         plans,
         journal,
@@ -78,7 +78,7 @@ fn judge_all(
             events: journal.count() as u32,
         }),
         Err(Bad::Off { line, what }) => Ok(Finding::Differs { line, what }),
-        Err(Bad::Memory) => Err(Memory),
+        Err(Bad::Memory(memory)) => Err(memory),
     }
 }
 
@@ -104,7 +104,7 @@ fn examine_output(
     text: &[u8],
     base: u32,
 ) -> Result<Finding, Memory>
-    requires { lines + 1 + length text.now ≤ MOST_BYTES }
+    requires { lines + 1 + length text.now ≤ MOST_WHOLE_BYTES }
     ensures { (input : List ℕ) → IsAfterScript input plans.now lines (whole_lines text.now)
         → IfOk result (λ finding. FindsWhole base input finding) }
 {
@@ -116,7 +116,7 @@ fn examine_output(
     match take_names(&mut rest, &mut line, plans) {
         Ok(()) => {}
         Err(Bad::Off { line, what }) => return Ok(Finding::Differs { line, what }),
-        Err(Bad::Memory) => return Err(Memory),
+        Err(Bad::Memory(memory)) => return Err(memory),
     }
     let cut = cut_at_border(rest.text, Border::Journal);
     let journal = match read_journal(alloc, cut.part) {
@@ -126,25 +126,25 @@ fn examine_output(
                 line: rest.line - 1 + line,
             });
         }
-        Err(JournalFault::Memory) => return Err(Memory),
+        Err(JournalFault::Memory(memory)) => return Err(memory),
     };
     let after = after_part(rest, cut.part, cut.lines);
     judge_all(alloc, plans, &journal, after, &mut line, base)
 }
 
-/// The verdict on an input of at most 16,777,216 bytes: a script, a line whose only word is `journal`, and a whole output with
+/// The verdict on an input of at most 67,108,864 bytes: a script, a line whose only word is `journal`, and a whole output with
 /// marks over a base.
 ///
 /// The script is looked at first, then the names, then the whole journal text, its events, and the lines after them.
 pub fn examine_whole(alloc: Global, input: &[u8], base: u32) -> Result<Finding, Memory>
-    requires { length input.now ≤ MOST_BYTES }
+    requires { length input.now ≤ MOST_WHOLE_BYTES }
     ensures { IfOk result (λ finding. FindsWhole base input.now finding) }
 {
     let cut = cut_at_border(input, Border::Script);
     let plans = match parse(alloc, cut.part) {
         Ok(plans) => plans,
         Err(ScriptFault::Refused { line, kind }) => return Ok(Finding::Refused { line, kind }),
-        Err(ScriptFault::Memory) => return Err(Memory),
+        Err(ScriptFault::Memory(memory)) => return Err(memory),
     };
     match cut.rest {
         Some(text) => examine_output(alloc, &plans, cut.lines, text, base),

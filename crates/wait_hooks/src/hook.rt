@@ -29,7 +29,7 @@ pub trait Hook: Drop {
 }
 
 /// A callback that answers the mark, and does nothing else. Seen as its base.
-#[derive(Debug, Drop)]
+#[derive(Drop)]
 pub struct Marker {
     base: u32,
 }

@@ -35,6 +35,14 @@ impl Pace {
         }
     }
 
+    // A refusal of the library, for a run that the test gives up.
+    fn refusal(&self) -> Memory {
+        Memory::of_too_many(match self {
+            Pace::Single { list } => *list.allocator(),
+            Pace::Batched { sizes, .. } => *sizes.allocator(),
+        })
+    }
+
     // In batches.
     pub fn batched(alloc: Global) -> Pace {
         Pace::Batched {
@@ -84,14 +92,14 @@ fn turn<N: Naming, P: ServiceSide, H: Hook>(
         return Ok(None);
     }
     let facts = Snapshot::of(run.facts());
-    let Ok(verdict) = run.fetch(words, list) else {
-        house.lose(run);
-        return Err(Memory);
+    let verdict = match run.fetch(words, list) {
+        Ok(verdict) => verdict,
+        Err(memory) => return Err(run.give_up(memory)),
     };
     let fetched = Fetched::of(list, &verdict, &facts);
-    let Ok(progress) = house.step(&mut run, words, &fetched) else {
-        house.lose(run);
-        return Err(Memory);
+    let progress = match house.step(&mut run, words, &fetched) {
+        Ok(progress) => progress,
+        Err(memory) => return Err(run.give_up(memory)),
     };
     match progress.into_next() {
         Next::More => Ok(Some(run)),
@@ -119,23 +127,22 @@ fn turn_batch<N: Naming, P: ServiceSide, H: Hook>(
         house.finish(run, words);
         return Ok(None);
     }
-    let Ok(batch) = run.fetch_batch(words) else {
-        house.lose(run);
-        return Err(Memory);
+    let batch = match run.fetch_batch(words) {
+        Ok(batch) => batch,
+        Err(memory) => return Err(run.give_up(memory)),
     };
-    if sizes.push(batch.count()).is_err() {
-        house.lose(run);
-        return Err(Memory);
+    if let Err(failed) = sizes.push(batch.count()) {
+        return Err(run.give_up(Memory::from(failed)));
     }
-    let Ok(next) = house.step_batch(&mut run, words, batch, drawn) else {
-        house.lose(run);
-        return Err(Memory);
+    let next = match house.step_batch(&mut run, words, batch, drawn) {
+        Ok(next) => next,
+        Err(memory) => return Err(run.give_up(memory)),
     };
     match next {
         Next::More => Ok(Some(run)),
         Next::FlushEnd => Ok(Some(run)),
         _ => {
-            house.lose(run);
+            house.lose(run, Memory::of_too_many(*sizes.allocator()));
             Ok(None)
         }
     }
@@ -174,7 +181,7 @@ fn run_out<N: Naming, P: ServiceSide, H: Hook>(
             None => return Ok(()),
         }
     }
-    house.lose(out);
+    house.lose(out, pace.refusal());
     Err("a short flush".into())
 }
 
@@ -192,7 +199,7 @@ pub fn run<N: Naming, P: ServiceSide, H: Hook>(
         None => return Ok(false),
     };
     if run.stream() != 1 {
-        house.lose(run);
+        house.lose(run, pace.refusal());
         return Err("one stream".into());
     }
     run_out(house, words, run, pace)?;

@@ -16,7 +16,7 @@ fn the_choice_follows_priority_number_waits_and_homes(rt: HostRuntime) -> Result
         assert!(rt; core.order(2, &[]).is_ok());
         assert_eq!(rt; scheduler.pick(&core), Some(2));
         assert!(rt; core.front(2).is_some());
-        assert!(rt; core.wait(2, 1, 5) == Ok(Judged::Kept));
+        assert!(rt; matches!(core.wait(2, 1, 5), Ok(Judged::Kept)));
         assert_eq!(rt; scheduler.pick(&core), Some(1));
         scheduler.take(1);
         assert_eq!(rt; scheduler.pick(&core), Some(3));

@@ -108,9 +108,9 @@ fn real_source_passes_on_what_the_system_gives(rt: HostRuntime) -> Result<(), Fa
 fn real_source_passes_on_special_bytes(rt: HostRuntime) -> Result<(), Fail> {
     let mut source = RealSource::make(SPECIAL.as_slice());
     let mut buffer = [1; 8];
-    assert_eq!(rt; source.read(&mut buffer), Ok(8));
+    assert!(rt; matches!(source.read(&mut buffer), Ok(8)));
     assert_eq!(rt; buffer, SPECIAL);
-    assert_eq!(rt; source.read(&mut buffer), Ok(0));
+    assert!(rt; matches!(source.read(&mut buffer), Ok(0)));
     Ok(())
 }
 
@@ -133,7 +133,7 @@ fn real_sink_passes_on_what_it_takes(rt: HostRuntime) -> Result<(), Fail> {
 #[test]
 fn real_sink_passes_on_special_bytes(rt: HostRuntime) -> Result<(), Fail> {
     let mut written = Vec::new(rt.alloc());
-    assert_eq!(rt; RealSink::make(&mut written).write(&SPECIAL), Ok(8));
+    assert!(rt; matches!(RealSink::make(&mut written).write(&SPECIAL), Ok(8)));
     assert_eq!(rt; written.as_slice(), SPECIAL.as_slice());
     Ok(())
 }

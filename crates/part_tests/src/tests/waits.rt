@@ -32,7 +32,13 @@ fn play(rt: &impl Abort, core: &mut SyncCore, step: Step)
         Step::Wait(s, t, r, wanted) => {
             assert!(rt; core.front(s).is_some());
             let judged = core.wait(s, t, r);
-            assert!(rt; judged == Ok(wanted));
+            assert!(rt;
+                match judged {
+                    Ok(Judged::Kept) => matches!(wanted, Judged::Kept),
+                    Ok(Judged::Dropped) => matches!(wanted, Judged::Dropped),
+                    Err(_) => false,
+                }
+            );
         }
         Step::Release(s, r) => {
             assert!(rt; 1 <= s && s <= 3);
@@ -53,6 +59,25 @@ fn play(rt: &impl Abort, core: &mut SyncCore, step: Step)
     }
 }
 
+fn is_ending(ending: &Ending, wanted: &Ending) -> bool {
+    let is_how = match ending.how {
+        How::Release => matches!(wanted.how, How::Release),
+        How::Guard => matches!(wanted.how, How::Guard),
+        How::Closed => matches!(wanted.how, How::Closed),
+    };
+    is_how
+        && (ending.stream, ending.order) == (wanted.stream, wanted.order)
+        && (ending.target, ending.release) == (wanted.target, wanted.release)
+}
+
+fn are_endings(endings: &[Ending], wanted: &[Ending]) -> bool {
+    let mut same = endings.len() == wanted.len();
+    for (ending, wanted) in endings.iter().zip(wanted) {
+        same = same && is_ending(ending, wanted);
+    }
+    same
+}
+
 /// Plays the steps on a new core of three streams, and compares its endings.
 fn check(rt: &impl Abort, alloc: Global, steps: &[Step], wanted: &[Ending]) -> Result<(), Memory>
     requires { length steps.now < 100 }
@@ -61,7 +86,7 @@ fn check(rt: &impl Abort, alloc: Global, steps: &[Step], wanted: &[Ending]) -> R
     for step in steps {
         play(rt, &mut core, *step);
     }
-    assert_eq!(rt; core.endings(), wanted);
+    assert!(rt; are_endings(core.endings(), wanted));
     Ok(())
 }
 
@@ -174,11 +199,11 @@ fn a_lost_stream_draws_no_number(rt: HostRuntime) -> Result<(), Fail> {
     if let Ok(mut core) = core {
         assert_eq!(rt; core.front(1), None);
         assert!(rt; !core.blocked(1));
-        assert_eq!(rt; core.order(1, &[]), Ok(1));
+        assert!(rt; matches!(core.order(1, &[]), Ok(1)));
         assert_eq!(rt; core.front(1), Some(1));
         core.lose(1);
         assert_eq!(rt; core.front(1), None);
-        assert_eq!(rt; core.order(1, &[]), Err(OrderFault::Lost));
+        assert!(rt; matches!(core.order(1, &[]), Err(OrderFault::Lost)));
     }
     Ok(())
 }

@@ -26,7 +26,7 @@ use Rattle.stream_state.specs.Laws.{IsTaken, AreTaken, StepsMoveOn, StatesAreBou
 use Rattle.sync_core.specs.declared.wait.Wait.{Wait}
 use Rattle.sync_core.specs.declared.ending.Ending.{Ending}
 use Rattle.sync_core.specs.declared.ending.How.TheVariants as how
-use Rattle.sync_core.specs.Standing.{first_order, has_below}
+use Rattle.sync_core.specs.Standing.{first_order, contains_number, has_below}
 use Rattle.sync_core.specs.Events.{SyncEvent, standing, left}
 use Rattle.sync_core.specs.Pending.{is_kept, is_blocked, still, kept_waits, pending}
 use Rattle.sync_core.specs.Laws.{KeptIsDecided, EndedStaysEnded, WaitsRise, OrdersArePositive, OrdersRise, Precedes, IsPendingOfNamed, NoCycle}
@@ -49,9 +49,9 @@ use Rattle.journal_text.specs.Laws.{DifferentNumbers, EventsAreApart, OthersBegi
 use Rattle.journal_text.specs.Output.{output, AreDumpLines, dump_lines}
 use Rattle.serial_laws.specs.Scripts.{AreLawfulPlans}
 use Rattle.serial_laws.specs.Going.{is_memory_loss}
-use Rattle.serial_laws.specs.Laws.{UnfinishedHasEvent, SerialWantsNoMemory}
-use Rattle.script_laws.specs.Kept.{kept_in, is_wait, is_ending_of, EndsSo, HasCause}
-use Rattle.script_laws.specs.Laws.{ScriptsAreLawful, ScriptsRunLegally, ScriptsRunToTheEnd, DumpsMayBeTold, LaterMayBeTold, SameOutputIsSameHistory, SameRunIsSameHistory, SameThreadedRunIsSameHistory, NoneRunsWaiting, RunsAfterEndings, FinishedHaveEnded, EndingsHaveCauses, CompleteWaitsForNone, SerialIsShort, MostEventsAreFew, SixAlwaysHolds}
+use Rattle.serial_laws.specs.Laws.{UnfinishedHasEvent, SerialWantsNoMemory, MostEventsAreFew}
+use Rattle.script_laws.specs.Kept.{kept_in, is_wait, is_ending_of, HasNotEnded, EndsSo, HasCause}
+use Rattle.script_laws.specs.Laws.{ScriptsAreLawful, ScriptsRunLegally, ScriptsRunToTheEnd, DumpsMayBeTold, LaterMayBeTold, SameOutputIsSameHistory, SameRunIsSameHistory, SameThreadedRunIsSameHistory, NoneRunsWaiting, RunsAfterEndings, FinishedHaveEnded, NoneIsForgotten, NoneIsBoth, EndingsHaveCauses, CompleteWaitsForNone, SerialIsShort, SixAlwaysHolds}
 
 -- ---- headers
 
@@ -246,6 +246,21 @@ not_before law p g w words kept none first legal =
 told_once : FinishedHaveEnded → (p : PlansData) (later g : List Event) (w : Wait) → IsLegal p (later ++ events.Finish w.stream w.order ∷ g) → kept_in p (later ++ events.Finish w.stream w.order ∷ g) ≡ w ∷ []
     → length (filter (is_ending_of w.stream w.order w.target w.release) (endings_in p (later ++ events.Finish w.stream w.order ∷ g))) ≡ 1
 told_once law p later g w legal kept = law p later g w.stream w.order legal w.target w.release ∙ ap (λ (ws : List Wait). length (filter (is_wait w.stream w.order w.target w.release) ws)) kept ∙ own_wait w
+
+-- a number that is there, whose one kept wait is not pending, has one ending
+not_forgotten : NoneIsForgotten → (p : PlansData) (h : List Event) (w : Wait) → contains_number w.order (left_of p h w.stream) ≡ true → kept_in p h ≡ w ∷ [] → pending_in p h ≡ []
+    → length (filter (is_ending_of w.stream w.order w.target w.release) (endings_in p h)) ≡ 1
+not_forgotten law p h w there kept none =
+    let same = law p h w.stream w.order there w.target w.release in
+    let one : length (filter (is_wait w.stream w.order w.target w.release) (kept_in p h)) ≡ 1 = ap (λ (ws : List Wait). length (filter (is_wait w.stream w.order w.target w.release) ws)) kept ∙ own_wait w in
+    let left : length (filter (is_wait w.stream w.order w.target w.release) (pending_in p h)) ≡ 0 = ap (λ (ws : List Wait). length (filter (is_wait w.stream w.order w.target w.release) ws)) none in
+    omega (arith, same, one, left)
+
+-- while it is pending, an ending is not its own
+not_both : NoneIsBoth → (p : PlansData) (h : List Event) (w : Wait) (ending : Ending) → Contains (pending_in p h) w → Contains (endings_in p h) ending
+    → is_ending_of w.stream w.order w.target w.release ending ≡ false
+not_both law p h w ending among ended =
+    All-contains (λ (x : Ending). is_ending_of w.stream w.order w.target w.release x ≡ false) (endings_in p h) ending (All-contains (HasNotEnded p h) (pending_in p h) w (law p h) among) ended
 
 -- where a wait is said to have ended by close, its target was closed
 has_close : EndingsHaveCauses → (p : PlansData) (h : List Event) (ending : Ending) → endings_in p h ≡ ending ∷ [] → ending.how ≡ how.Closed → (later before : List Event) × (later ++ events.Close ending.target ∷ before ≡ h)

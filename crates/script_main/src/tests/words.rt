@@ -11,6 +11,14 @@ fn asked(alloc: Global, words: &[&str]) -> Result<(Option<Command>, bool), Fail>
     Ok((command_of(&words), is_plain(&words)))
 }
 
+// How many workers the words ask for, where they are not plain and ask for no viewer.
+fn workers_of(alloc: Global, words: &[&str]) -> Result<Option<u32>, Fail> {
+    match asked(alloc, words)? {
+        (Some(Command::RunOnThreads { workers, views: 0 }), false) => Ok(Some(workers)),
+        _ => Ok(None),
+    }
+}
+
 #[test]
 fn one_to_eight_workers_are_on_threads(rt: HostRuntime) -> Result<(), Fail> {
     for (word, other, workers) in [
@@ -18,12 +26,9 @@ fn one_to_eight_workers_are_on_threads(rt: HostRuntime) -> Result<(), Fail> {
         ("5", "--workers=5", 5),
         ("8", "--workers=8", 8),
     ] {
-        let command = Some(Command::RunOnThreads { workers, views: 0 });
-        assert_eq!(rt;
-            asked(rt.alloc(), &["run", "--workers", word])?,
-            (command, false)
-        );
-        assert_eq!(rt; asked(rt.alloc(), &["run", other])?, (command, false));
+        for words in [["run", "--workers", word].as_slice(), &["run", other]] {
+            assert_eq!(rt; workers_of(rt.alloc(), words)?, Some(workers));
+        }
     }
     Ok(())
 }
@@ -45,7 +50,7 @@ fn one_to_four_viewers_are_for_runs_with_workers(rt: HostRuntime) -> Result<(), 
         &["run", "--views", "1", "--workers", "1"],
     ];
     for words in lists {
-        assert_eq!(rt; asked(rt.alloc(), words)?, (None, true));
+        assert!(rt; matches!(asked(rt.alloc(), words)?, (None, true)));
     }
     Ok(())
 }
@@ -58,7 +63,7 @@ fn a_run_without_workers_is_plain(rt: HostRuntime) -> Result<(), Fail> {
         &["run", "--workers=0"],
     ];
     for words in lists {
-        assert_eq!(rt; asked(rt.alloc(), words)?, (Some(Command::Run), true));
+        assert!(rt; matches!(asked(rt.alloc(), words)?, (Some(Command::Run), true)));
     }
     Ok(())
 }

@@ -190,12 +190,20 @@ fn served_two<R: Wait>(rt: &R, alloc: Global, count: u32) -> Result<(Option<Turn
     served::<Brand, R>(rt, alloc, plans, posted, count)
 }
 
+fn is_turn(turn: Option<Turn>, wanted: Turn) -> bool {
+    match turn {
+        Some(Turn::Ran) => matches!(wanted, Turn::Ran),
+        Some(Turn::NothingRunnable) => matches!(wanted, Turn::NothingRunnable),
+        None => false,
+    }
+}
+
 // All flushes are ordered in the first turn, and each turn finishes one.
 #[test]
 fn a_turn_ends_after_one_run(rt: HostRuntime) -> Result<(), Fail> {
     for (count, wanted, lines) in TURNS {
         let (turn, report) = served_two(&rt, rt.alloc(), count)?;
-        assert_eq!(rt; turn, Some(wanted));
+        assert!(rt; is_turn(turn, wanted));
         assert_eq!(rt; lines_of(rt.alloc(), &report)?.as_slice(), lines.as_bytes());
     }
     Ok(())

@@ -50,19 +50,23 @@ fn a_finished_order_is_seen_during_the_run(rt: HostRuntime) -> Result<(), Fail> 
     assert_eq!(rt; value_of(&gate.looks), 16);
     assert_eq!(rt; report.journal().count(), 7);
     let looks = all.first().ok_or("one viewer")?;
-    assert_eq!(rt;
-        looks.get(1),
-        Some(&Look {
-            events: 4,
-            sum: 0x1122_3344
-        })
+    assert!(rt;
+        matches!(
+            looks.get(1),
+            Some(Look {
+                events: 4,
+                sum: 0x1122_3344
+            })
+        )
     );
-    assert_eq!(rt;
-        looks.last(),
-        Some(&Look {
-            events: 7,
-            sum: 0x5566_7788
-        })
+    assert!(rt;
+        matches!(
+            looks.last(),
+            Some(Look {
+                events: 7,
+                sum: 0x5566_7788
+            })
+        )
     );
     Ok(())
 }

@@ -6,16 +6,16 @@ pub returns-clause-fits : goal.returns-clause-fits
 returns-clause-fits g c =
     let N = g.N.Naming in
     let h = c.args.house.now.core.past in
-    let count = c.count-count.ensures ∙ ap length c.journal.ensures.past in
-    view_published N.plans N.view h c.count-count.result c.args.writer.now c.publish.new.self count c.requires.fits c.publish.ensures.view c.publish.result
+    let count = c.count.ensures ∙ ap length c.journal.ensures.past in
+    view_published N.plans N.view h c.count.result c.args.writer.now c.publish.new.self count c.requires.fits c.publish.ensures.view c.publish.result
     c.publish.ensures.versions c.publish.ensures.images c.publish.ensures.handed c.publish.ensures.kept c.publish.ensures.tried
 
 pub returns-clause-all : goal.returns-clause-all
 returns-clause-all g c =
     let N = g.N.Naming in
     let h = c.args.house.now.core.past in
-    let count = c.count-count.ensures ∙ ap length c.journal.ensures.past in
-    all_shown N.plans N.view h c.count-count.result c.args.writer.now c.publish.new.self count c.requires.fits c.publish.ensures.view c.publish.result c.publish.ensures.versions
+    let count = c.count.ensures ∙ ap length c.journal.ensures.past in
+    all_shown N.plans N.view h c.count.result c.args.writer.now c.publish.new.self count c.requires.fits c.publish.ensures.view c.publish.result c.publish.ensures.versions
 
 pub returns-clause-stays : goal.returns-clause-stays
 returns-clause-stays g c =

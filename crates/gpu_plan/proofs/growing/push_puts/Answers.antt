@@ -35,3 +35,15 @@ loop-value-preserved c =
       longer = rw pushed (omega (arith, length_push items (Put at value)));
       behind = rw pushed (behind_stays old items (Put at value) so_far.longer so_far.behind);
     }
+
+pub returns-in_default-clause-behind : goal.returns-in_default-clause-behind
+returns-in_default-clause-behind c = c.loop-value.invariant.behind
+
+pub returns-then-at-end-clause-behind : goal.returns-then-at-end-clause-behind
+returns-then-at-end-clause-behind c = c.loop-value.invariant.behind
+
+pub returns-clause-behind : goal.returns-clause-behind
+returns-clause-behind c = c.loop-value.invariant.behind
+
+pub returns-clause-within : goal.returns-clause-within
+returns-clause-within c = c.loop-value.invariant.below

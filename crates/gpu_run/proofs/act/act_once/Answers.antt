@@ -1,4 +1,6 @@
 use Rattle.std.proofs.Common.{◌≡◌, ◌-◌, true, [], ◌∷◌, get_or, set, refl, sym, ap, ◌∙◌}
+use Rattle.std.proofs.lemmas.List.{set-get_or}
+use Rattle.std.proofs.lemmas.Result.{IfOk-from_err}
 use Rattle.std.specs.Prelude.{slice_get}
 use Rattle.gpu_plan.specs.Plans.{PlansData}
 use Rattle.gpu_plan.specs.Passes.{passes}
@@ -93,3 +95,21 @@ returns-in-Ok-clause-acts g c =
     let at = goal.at.returns-in-Ok-clause-acts g c in
     let r = ready g at.After-passes c.read.new.self c.in_ok-read.ensures.words in
     (c.in-Ok.ensures.event, further g at.After-act r, ready_reached _ _ _ _ _ _ _ _ r c.act.new.self (passing g at.After-act r) c.act.ensures.words c.in-Some.ensures.flush)
+
+pub returns-then-not-passes-clause-served : goal.returns-then-not-passes-clause-served
+returns-then-not-passes-clause-served g c = rw (set-get_or c.args.clients.now (c.args.stream - 1) c.index-clients-stream.result) c.requires.stands.served
+
+pub returns-then-not-passes-clause-read : goal.returns-then-not-passes-clause-read
+returns-then-not-passes-clause-read g c = rw (set-get_or c.args.clients.now (c.args.stream - 1) c.index-clients-stream.result) c.requires.stands.read
+
+pub returns-in_err-read-clause-served : goal.returns-in_err-read-clause-served
+returns-in_err-read-clause-served g c = IfOk-from_err c.from_residual.result _ c.from_residual.ensures.0
+
+pub returns-in_err-read-clause-read : goal.returns-in_err-read-clause-read
+returns-in_err-read-clause-read g c = IfOk-from_err c.from_residual.result _ c.from_residual.ensures.0
+
+pub returns-in_err-read-clause-acts : goal.returns-in_err-read-clause-acts
+returns-in_err-read-clause-acts g c = IfOk-from_err c.from_residual.result _ c.from_residual.ensures.0
+
+pub order-requires-clause-known : goal.order-requires-clause-known
+order-requires-clause-known g c = c.requires.known

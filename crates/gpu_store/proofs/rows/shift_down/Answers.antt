@@ -19,3 +19,15 @@ loop-row-preserved c = (
 
 pub returns : goal.returns
 returns c = same_rows c.args.width c.args.rect _ c.loop-row.row _ _ _ c.args.texels.now c.loop-row.texels (omega arith) refl c.loop-row.invariant.1
+
+pub overflow_mul-from : goal.overflow_mul-from
+overflow_mul-from c = omega (arith, source_end c.args.width c.args.sx c.args.sy c.args.rect.w c.args.rect.h c.args.rect.y (c.loop-row.row - 1) _ c.requires.source_columns c.requires.source_rows (omega arith) (omega arith))
+
+pub overflow_add-from-in-loop-row : goal.overflow_add-from-in-loop-row
+overflow_add-from-in-loop-row c = omega (arith, source_end c.args.width c.args.sx c.args.sy c.args.rect.w c.args.rect.h c.args.rect.y (c.loop-row.row - 1) _ c.requires.source_columns c.requires.source_rows (omega arith) (omega arith))
+
+pub overflow_mul-row : goal.overflow_mul-row
+overflow_mul-row c = omega (arith, row_end (c.loop-row.row - 1) c.args.width c.args.rect.x c.args.rect.w (c.args.rect.y + c.args.rect.h) _ (omega arith) c.requires.columns c.requires.rows)
+
+pub overflow_add-row : goal.overflow_add-row
+overflow_add-row c = omega (arith, row_end (c.loop-row.row - 1) c.args.width c.args.rect.x c.args.rect.w (c.args.rect.y + c.args.rect.h) _ (omega arith) c.requires.columns c.requires.rows)

@@ -8,8 +8,8 @@ use Rattle.live_view.proofs.Keeping.{turns_publish}
 use Rattle.live_view.proofs.Stepping.{begins, begun_self}
 use Rattle.live_view.proofs.making.copies_of.Goals as goal
 
-pub publish_as-requires : goal.publish_as-requires
-publish_as-requires g c next is =
+pub publish_as-copies-requires : goal.publish_as-copies-requires
+publish_as-copies-requires g c next is =
     let e = c.in_ok-copies.ensures in
     let shown = published c.in_ok-copies.copies in
     let same : next ≡ shown = is ∙ ap (λ (steps : List Step). fold shown_after shown steps) e.1 in

@@ -35,9 +35,9 @@ fn looks_follow_what_is_published(rt: HostRuntime) -> Result<(), Fail> {
         None => None,
     };
     writer.end(&rt);
-    let ((looks, answers), count) = followed.ok_or("one viewer")?;
-    let blank = Look { events: 0, sum: 0 };
-    assert_eq!(rt; looks, [blank, blank, Look { events: 0, sum: 2 }]);
+    let (([first, still, last], answers), count) = followed.ok_or("one viewer")?;
+    assert_eq!(rt; [first.events, still.events, last.events], [0, 0, 0]);
+    assert_eq!(rt; [first.sum, still.sum, last.sum], [0, 0, 2]);
     assert_eq!(rt; answers, [true, true, true, false, true]);
     assert_eq!(rt; count, 3);
     Ok(())

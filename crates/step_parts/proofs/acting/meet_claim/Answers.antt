@@ -1,5 +1,4 @@
-use Rattle.std.proofs.Common.{◌≡◌, refl, rules}
-use Rattle.step_parts.specs.Keeping.{keeps_wait}
+use Rattle.std.proofs.Common.{refl, rules}
 use Rattle.step_parts.proofs.Executed.{plain_asked, image_claimed, wait_claimed}
 use Rattle.step_parts.proofs.acting.meet_claim.Goals as goal
 
@@ -10,8 +9,7 @@ returns-in_ok-apply-in-Image-clause-meets c state passed =
 pub returns-in_ok-judged-in-Wait-clause-meets : goal.returns-in_ok-judged-in-Wait-clause-meets
 returns-in_ok-judged-in-Wait-clause-meets c state passed =
     let taken = c.args.taken.now in
-    let kept : c.eq.result ≡ keeps_wait c.args.scene.now.sync taken.stream c.in-Wait.target c.in-Wait.release = search rules in
-    wait_claimed taken c.args.scene.now _ state c.eq.result c.in-Wait.target c.in-Wait.release passed c.in-Wait.ensures kept refl c.in_ok-judged-in-Wait.ensures.stands c.wait.ensures.drawn c.wait.ensures.count
+    wait_claimed taken c.args.scene.now _ state _ c.in-Wait.target c.in-Wait.release passed c.in-Wait.ensures (search rules) refl c.in_ok-judged-in-Wait.ensures.stands c.wait.ensures.drawn c.wait.ensures.count
 
 pub returns-in-Nothing-clause-meets : goal.returns-in-Nothing-clause-meets
 returns-in-Nothing-clause-meets c state passed = (plain_asked c.args.taken.now state passed c.in-Nothing.ensures, refl)

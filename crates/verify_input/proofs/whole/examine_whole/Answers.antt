@@ -1,9 +1,12 @@
-use Rattle.verify_input.proofs.Names.{sym, ◌∙◌, subst, Err, script_of}
+use Rattle.verify_input.proofs.Names.{sym, ◌∙◌, subst, arith, Err, script_of}
 use Rattle.script_lines.specs.Outcome.{FailsAt}
 use Rattle.script_lines.specs.declared.fault.ScriptFault.{ScriptFault}
 use Rattle.verify_input.proofs.Joining.{script_is, text_there, text_missing}
 use Rattle.verify_input.proofs.Wholly.{whole_missing}
 use Rattle.verify_input.proofs.whole.examine_whole.Goals as goal
+
+pub parse-requires : goal.parse-requires
+parse-requires c = let shorter = c.cut_at_border-cut.ensures.shorter in let short = c.requires in omega (arith, shorter, short)
 
 pub returns-in-Err-Refused : goal.returns-in-Err-Refused
 returns-in-Err-Refused c =

@@ -46,8 +46,8 @@ invariant_of-self g c =
       going = none_set c.self.inside.house.core.outs c.lose.new.self.core.outs s at_home c.lose.ensures.outs refl c.self.invariant.going;
     }
 
-pub returns-then-not-make_room-clause-home : goal.returns-then-not-make_room-clause-home
-returns-then-not-make_room-clause-home g c =
+pub returns-in-Err-clause-home : goal.returns-in-Err-clause-home
+returns-in-Err-clause-home g c =
     let N = g.N.Naming in
     let run = c.args.run.run in
     let h = c.self.inside.house.core.past in
@@ -55,12 +55,12 @@ returns-then-not-make_room-clause-home g c =
     subst (λ (d : HallData). (how : Return) × CameHome N.plans d.past now run.stream run.order (member_words c.args.batch) how) c.self.view_is
     (lost_first N.plans h now run.stream run.order (member_words c.args.batch) (is_open (standing_of N.plans h run.stream)) refl c.lose.ensures.event c.lose.ensures.over)
 
-pub returns-then-not-make_room-clause-back : goal.returns-then-not-make_room-clause-back
-returns-then-not-make_room-clause-back g c =
+pub returns-in-Err-clause-back : goal.returns-in-Err-clause-back
+returns-in-Err-clause-back g c =
     c.lose.ensures.outs ∙ ap (λ (d : HallData). with_out d.outs c.args.run.run.stream at_home) c.self.view_is
 
-pub returns-then-not-make_room-clause-view : goal.returns-then-not-make_room-clause-view
-returns-then-not-make_room-clause-view g c =
+pub returns-in-Err-clause-view : goal.returns-in-Err-clause-view
+returns-in-Err-clause-view g c =
     seen_same c.self.inside.view c.make_room.new.view c.make_room.ensures.same ∙ ap (λ (d : HallData). d.view) c.self.view_is
 
 -- ---- the batch may be committed
@@ -135,7 +135,7 @@ note_all-requires-clause-room g c =
     let S = g.P.ServiceSide in
     let b = (goal.at.note_all-requires-clause-room g c).After-step_batch-answer in
     let few = few_ops S.side S.mark g.N.Naming.plans (old g b) (new g b) (members g b) (none g b) c.step_batch-answer.result (did g b) in
-    let room : ViewHasRoom c.count.result c.make_room.new.view = c.if-not-make_room.ensures.room refl in
+    let room : ViewHasRoom c.count.result c.make_room.new.view = c.in_default.ensures.room in
     let same = c.count.ensures.count in
     let many = length-map c.args.batch (λ (member : FetchedData). member.words) in
     fewer (length (new g b).drawn) c.count.result c.make_room.new.view (omega (arith, few, same, many)) room
@@ -148,34 +148,34 @@ note_all-requires-clause-texels g c =
 
 -- ---- memory was wanted for a step
 
-pub invariant_of-self-in_default : goal.invariant_of-self-in_default
-invariant_of-self-in_default g c =
+pub invariant_of-self-in-Err-answer : goal.invariant_of-self-in-Err-answer
+invariant_of-self-in-Err-answer g c =
     let N = g.N.Naming in
-    let b = (goal.at.invariant_of-self-in_default g c).After-step_batch-answer in
+    let b = (goal.at.invariant_of-self-in-Err-answer g c).After-step_batch-answer in
     let s = (new g b).out.run.stream in
     let h = (new g b).house.core.past in
     record {
-      fits = fits_while N.plans N.words N.queues N.view c.self.inside.takers.items c.note_all.new.view (Lost s Memory []) h c.lose-in_default.new.self.core.past (is_open (standing_of N.plans h s)) refl refl c.lose-in_default.ensures.event c.lose-in_default.ensures.over (fit g b c.note_all.new.view c.note_all.ensures);
-      going = back g b c.lose-in_default.new.self.core.outs (part_back g b c.in_default.ensures.err c.lose-in_default.new.self.core.outs c.lose-in_default.ensures.outs);
+      fits = fits_while N.plans N.words N.queues N.view c.self.inside.takers.items c.note_all.new.view (Lost s Memory []) h c.lose-in-Err-answer.new.self.core.past (is_open (standing_of N.plans h s)) refl refl c.lose-in-Err-answer.ensures.event c.lose-in-Err-answer.ensures.over (fit g b c.note_all.new.view c.note_all.ensures);
+      going = back g b c.lose-in-Err-answer.new.self.core.outs (part_back g b c.in-Err-answer.ensures.err c.lose-in-Err-answer.new.self.core.outs c.lose-in-Err-answer.ensures.outs);
     }
 
-pub returns-in_default-clause-home : goal.returns-in_default-clause-home
-returns-in_default-clause-home g c =
+pub returns-in-Err-answer-clause-home : goal.returns-in-Err-answer-clause-home
+returns-in-Err-answer-clause-home g c =
     let N = g.N.Naming in
     let S = g.P.ServiceSide in
     let run = c.args.run.run in
-    let b = (goal.at.returns-in_default-clause-home g c).After-step_batch-answer in
-    subst (λ (d : HallData). (how : Return) × CameHome N.plans d.past c.lose-in_default.new.self.core.past run.stream run.order (members g b) how) c.self.view_is
-    (was_wanted S.side S.mark N.plans (old g b) (new g b) (members g b) c.lose-in_default.new.self.core.past c.in_default.ensures.err c.lose-in_default.ensures.event c.lose-in_default.ensures.over)
+    let b = (goal.at.returns-in-Err-answer-clause-home g c).After-step_batch-answer in
+    subst (λ (d : HallData). (how : Return) × CameHome N.plans d.past c.lose-in-Err-answer.new.self.core.past run.stream run.order (members g b) how) c.self.view_is
+    (was_wanted S.side S.mark N.plans (old g b) (new g b) (members g b) c.lose-in-Err-answer.new.self.core.past c.in-Err-answer.ensures.err c.lose-in-Err-answer.ensures.event c.lose-in-Err-answer.ensures.over)
 
-pub returns-in_default-clause-back : goal.returns-in_default-clause-back
-returns-in_default-clause-back g c =
-    let b = (goal.at.returns-in_default-clause-back g c).After-step_batch-answer in
-    part_back g b c.in_default.ensures.err c.lose-in_default.new.self.core.outs c.lose-in_default.ensures.outs ∙ ap (λ (d : HallData). with_out d.outs c.args.run.run.stream at_home) c.self.view_is
+pub returns-in-Err-answer-clause-back : goal.returns-in-Err-answer-clause-back
+returns-in-Err-answer-clause-back g c =
+    let b = (goal.at.returns-in-Err-answer-clause-back g c).After-step_batch-answer in
+    part_back g b c.in-Err-answer.ensures.err c.lose-in-Err-answer.new.self.core.outs c.lose-in-Err-answer.ensures.outs ∙ ap (λ (d : HallData). with_out d.outs c.args.run.run.stream at_home) c.self.view_is
 
-pub returns-in_default-clause-view : goal.returns-in_default-clause-view
-returns-in_default-clause-view g c =
-    let b = (goal.at.returns-in_default-clause-view g c).After-step_batch-answer in
+pub returns-in-Err-answer-clause-view : goal.returns-in-Err-answer-clause-view
+returns-in-Err-answer-clause-view g c =
+    let b = (goal.at.returns-in-Err-answer-clause-view g c).After-step_batch-answer in
     view_back g b c.note_all.new.view c.note_all.ensures ∙ ap (λ (d : HallData). d.view) c.self.view_is
 
 -- ---- the flush has more, or is at its end

@@ -41,3 +41,25 @@ invariant_of-self g c =
     refl
     (⊎_elim (λ grows. subst (λ (h : List Event). AllFit takes told results_of answers p h results) (sym grows.past) (all_still takes told results_of answers p (Close c.args.stream) core.past results (λ s. refl) was.results))
     (λ stays. subst (λ (h : List Event). AllFit takes told results_of answers p h results) (sym stays.past) was.results) came)
+
+pub returns-clause-lost : goal.returns-clause-lost
+returns-clause-lost g c = rw (← c.self.view_is, ← c.self.invariant.plans) c.close-closing.ensures.lost
+
+pub returns-clause-early : goal.returns-clause-early
+returns-clause-early g c = rw (← c.self.view_is, ← c.self.invariant.plans) c.close-closing.ensures.early
+
+pub returns-clause-event : goal.returns-clause-event
+returns-clause-event g c = rw (← c.self.view_is, ← c.self.invariant.plans) (λ said is. record {
+  past = (c.close-closing.ensures.event said is).past;
+  outs = c.close-closing.ensures.outs;
+  slots = refl;
+  results = refl;
+})
+
+pub returns-clause-same : goal.returns-clause-same
+returns-clause-same g c = rw (← c.self.view_is, ← c.self.invariant.plans) (λ no. record {
+  past = (c.close-closing.ensures.same no).past;
+  outs = c.close-closing.ensures.outs;
+  slots = refl;
+  results = refl;
+})

@@ -60,3 +60,12 @@ returns-clause-slots g c =
     let t = c.stream-stream.result in
     side_seen run c.run.inside.side c.run.inside.note c.args.run slots c.args.self.now.slots t c.index_mut.result.now c.come.new.self c.run.view_is (ap (λ h. h.slots) c.self.view_is)
     c.stream-stream.ensures (known_here g.N.Naming.plans slots t run.stream c.self.invariant.slots c.stream-stream.ensures c.run.invariant.of_plans.known) c.index_mut.ensures.value c.come.ensures
+
+pub returns-clause-event : goal.returns-clause-event
+returns-clause-event g c = rw (← c.self.view_is, ← c.run.view_is, ← c.self.invariant.plans) (λ is. (c.lose.ensures.event is).past)
+
+pub returns-clause-over : goal.returns-clause-over
+returns-clause-over g c = rw (← c.self.view_is, ← c.run.view_is, ← c.self.invariant.plans) (λ is. (c.lose.ensures.over is).past)
+
+pub returns-clause-outs : goal.returns-clause-outs
+returns-clause-outs g c = rw (← c.self.view_is, ← c.run.view_is) c.lose.ensures.outs

@@ -15,7 +15,6 @@ use Rattle.gpu_house.specs.Names.{table_at}
 use Rattle.gpu_house.specs.Marks.{AreMarked}
 use Rattle.gpu_house.proofs.Places.{set_back}
 use Rattle.gpu_house.proofs.Rows.{slot_changed}
-use Rattle.gpu_house.proofs.Cases.{not_err}
 use Rattle.gpu_house.proofs.Endings.{order_makes, grown_follow}
 use Rattle.gpu_house.proofs.Writings.{AllFit, all_still}
 use Rattle.gpu_house.proofs.Keeping.{kept, kept_still}
@@ -23,14 +22,14 @@ use Rattle.gpu_house.proofs.Ordering.{next_there, pushed_back, ordered_homes}
 use Rattle.gpu_house.proofs.house.House.order.Goals as goal
 
 -- memory ran out for the note
-pub invariant_of-self-in-Err : goal.invariant_of-self-in-Err
-invariant_of-self-in-Err g c =
+pub invariant_of-self-in-Err-push : goal.invariant_of-self-in-Err-push
+invariant_of-self-in-Err-push g c =
     let core = c.self.inside.core in
     let slots = c.self.inside.slots.items in
     let results = c.self.inside.results.items in
     let i = c.args.stream - 1 in
     let room = c.take_room.ensures in
-    let back : slice_set slots i c.push.new.self ≡ slots = ap (slice_set slots i) c.in-Err.ensures.same ∙ set_back slots i c.index_mut-slot.result.now c.index_mut-slot.ensures.value in
+    let back : slice_set slots i c.push.new.self ≡ slots = ap (slice_set slots i) c.in-Err-push.ensures.same ∙ set_back slots i c.index_mut-slot.result.now c.index_mut-slot.ensures.value in
     kept_still g.P.ServiceSide.side g.P.ServiceSide.table g.P.ServiceSide.mark g.P.ServiceSide.note_of g.P.ServiceSide.takes g.P.ServiceSide.written g.P.ServiceSide.results_of g.N.Naming.plans g.N.Naming.base g.N.Naming.words g.N.Naming.books g.N.Naming.result_words c.self.inside.hooks c.take_room.new.hooks
     record { core = core; slots = slots; results = results } record { core = core; slots = slice_set slots i c.push.new.self; results = results } c.self.invariant
     record { plans = refl; past = refl; books = refl; outs = refl; spare = omega arith } back refl room.base room.marks room.grows
@@ -50,7 +49,7 @@ invariant_of-self-in-Err-order g c =
     let i = c.args.stream - 1 in
     let room = c.take_room.ensures in
     let slot = c.index_mut-slot.result.now in
-    let popped = pushed_back slot c.push.new.self c.pop_last.new.self c.args.note _ c.in_default.ensures.ok c.in-Some.ensures in
+    let popped = pushed_back slot c.push.new.self c.pop_last.new.self c.args.note _ c.in_default-push.ensures.ok c.in-Some.ensures in
     let back : slice_set slots i c.pop_last.new.self ≡ slots = ap (slice_set slots i) popped ∙ set_back slots i slot c.index_mut-slot.ensures.value in
     kept_still g.P.ServiceSide.side g.P.ServiceSide.table g.P.ServiceSide.mark g.P.ServiceSide.note_of g.P.ServiceSide.takes g.P.ServiceSide.written g.P.ServiceSide.results_of g.N.Naming.plans g.N.Naming.base g.N.Naming.words g.N.Naming.books g.N.Naming.result_words c.self.inside.hooks c.take_room.new.hooks
     record { core = c.self.inside.core; slots = slots; results = results } record { core = c.order.new.self; slots = slice_set slots i c.pop_last.new.self; results = results } c.self.invariant
@@ -62,7 +61,7 @@ returns-in-Err-order-clause-err g c =
     let i = c.args.stream - 1 in
     let slot = c.index_mut-slot.result.now in
     let stays = c.in-Err-order.ensures.err in
-    let popped = pushed_back slot c.push.new.self c.pop_last.new.self c.args.note _ c.in_default.ensures.ok c.in-Some.ensures in
+    let popped = pushed_back slot c.push.new.self c.pop_last.new.self c.args.note _ c.in_default-push.ensures.ok c.in-Some.ensures in
     let back : slice_set slots i c.pop_last.new.self ≡ slots = ap (slice_set slots i) popped ∙ set_back slots i slot c.index_mut-slot.ensures.value in
     record {
       past = stays.past ∙ ap (λ house. house.core.past) c.self.view_is;
@@ -80,7 +79,7 @@ follow-requires g c =
     let lawful : AreLawfulPlans p = subst AreLawfulPlans was.plans (core_lawful core was.core) in
     let few = order_makes p core.past s (drawn core.plans core.past + 1) (unwrap_or (slice_get (flush_places (plan_of core.plans s).actions) (known core.plans core.past s).ordered) 0) lawful c.requires.known in
     let waiting : c.waiting.result ≡ length (pending_in p core.past) = c.waiting.ensures ∙ ap (λ (p : PlansData). length (pending_in p core.past)) was.plans in
-    let room = not_err c.take_room.result c.if-is_err.ensures.value c.take_room.ensures.room in
+    let room = c.in_default.ensures.room in
     grown_follow p g.N.Naming.base (order_event core.plans core.past s) core c.order.new.self c.self.inside.hooks c.take_room.new.hooks was.plans c.in-Ok.ensures.event was.marked
     c.take_room.ensures.base c.take_room.ensures.marks (omega (arith, few, waiting, room))
 
@@ -113,7 +112,7 @@ invariant_of-self-2 g c =
     (subst (λ (q : PlansData). (standing_of q core.past s).lost ≡ false) was.plans (sym c.is_lost.ensures ∙ c.if-is_lost.false))
     (subst (λ (h : List Event). (known p h s).ordered < flushes (plan_of p s).actions) view c.requires.next)
     (subst (λ (h : List Event). mark c.args.note ≡ mark_of (plan_of p s) (known p h s).ordered) view c.requires.note) c.requires.table
-    past c.order.ensures.outs c.index_mut-slot.ensures.value c.in_default.ensures.ok was.homes)
+    past c.order.ensures.outs c.index_mut-slot.ensures.value c.in_default-push.ensures.ok was.homes)
     refl
     (subst (λ (h : List Event). AllFit takes told results_of answers p h results) (sym past) (all_still takes told results_of answers p (order_event p core.past s) core.past results (λ s. refl) was.results))
 
@@ -122,4 +121,4 @@ returns-clause-slots g c =
     let s = c.args.stream in
     let known = subst (λ (n : ℕ). IsKnown n s) (sym c.self.invariant.slots) c.requires.known in
     slot_changed (λ slot. record slot { notes = slot.notes ++ c.args.note ∷ [] }) c.self.inside.slots.items c.args.self.now.slots s s c.index_mut-slot.result.now c.push.new.self (ap (λ h. h.slots) c.self.view_is) refl known
-    c.index_mut-slot.ensures.value c.in_default.ensures.ok
+    c.index_mut-slot.ensures.value c.in_default-push.ensures.ok

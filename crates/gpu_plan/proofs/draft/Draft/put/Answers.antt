@@ -39,3 +39,15 @@ invariant_of-self-2 c =
       counted = rw put (omega (arith, more_actions c.in-Some.plan.actions (c.in-Some-area_of.span.base + c.args.place) words));
       counted_flushes = rw put (omega (arith, no_more_flushes c.in-Some.plan.actions (c.in-Some-area_of.span.base + c.args.place) words));
     }
+
+pub invariant_of-self : goal.invariant_of-self
+invariant_of-self c = record { few = c.args.self.now.few; within = c.args.self.now.within; flushed = c.args.self.now.flushed; counted = c.args.self.now.counted; counted_flushes = c.args.self.now.counted_flushes }
+
+pub invariant_of-self-then-is_closed : goal.invariant_of-self-then-is_closed
+invariant_of-self-then-is_closed c = record { few = c.args.self.now.few; within = c.args.self.now.within; flushed = c.args.self.now.flushed; counted = rw c.in-Some.is at c.args.self.now.counted; counted_flushes = rw c.in-Some.is at c.args.self.now.counted_flushes }
+
+pub invariant_of-self-in_default-area_of : goal.invariant_of-self-in_default-area_of
+invariant_of-self-in_default-area_of c = record { few = c.args.self.now.few; within = c.args.self.now.within; flushed = c.args.self.now.flushed; counted = rw c.in-Some.is at c.args.self.now.counted; counted_flushes = rw c.in-Some.is at c.args.self.now.counted_flushes }
+
+pub invariant_of-self-then-place-span : goal.invariant_of-self-then-place-span
+invariant_of-self-then-place-span c = record { few = c.args.self.now.few; within = c.args.self.now.within; flushed = c.args.self.now.flushed; counted = rw c.in-Some.is at c.args.self.now.counted; counted_flushes = rw c.in-Some.is at c.args.self.now.counted_flushes }

@@ -72,3 +72,33 @@ returns-in_default c =
       mark = tt;
       noted = tt;
     }
+
+pub returns-in-Put-clause-words : goal.returns-in-Put-clause-words
+returns-in-Put-clause-words c = c.put.ensures.done ∙ ap (λ (x : RunClientData). one_further x.words) c.self.view_is
+
+pub returns-in-Put-clause-read : goal.returns-in-Put-clause-read
+returns-in-Put-clause-read c = ap (λ (x : RunClientData). x.read) c.self.view_is
+
+pub returns-in-Put-clause-beside : goal.returns-in-Put-clause-beside
+returns-in-Put-clause-beside c side f t h = c.put.ensures.beside side (subst (λ (x : RunClientData). IsBeside side x.words) (sym c.self.view_is) h)
+
+pub returns-in-Put-clause-notes : goal.returns-in-Put-clause-notes
+returns-in-Put-clause-notes c side mark f t h = c.put.ensures.notes side mark (subst (λ (x : RunClientData). IsNoteBeside side x.words mark) (sym c.self.view_is) h)
+
+pub returns-in-Flush-clause-words : goal.returns-in-Flush-clause-words
+returns-in-Flush-clause-words c = c.flush.ensures.done ∙ ap (λ (x : RunClientData). one_further x.words) c.self.view_is
+
+pub returns-in-Flush-clause-read : goal.returns-in-Flush-clause-read
+returns-in-Flush-clause-read c = ap (λ (x : RunClientData). x.read) c.self.view_is
+
+pub returns-in-Flush-clause-beside : goal.returns-in-Flush-clause-beside
+returns-in-Flush-clause-beside c side f t h = (c.flush.ensures.beside side (subst (λ (x : RunClientData). IsBeside side x.words) (sym c.self.view_is) h)).0
+
+pub returns-in-Flush-clause-notes : goal.returns-in-Flush-clause-notes
+returns-in-Flush-clause-notes c side mark f t h = c.flush.ensures.notes side mark (subst (λ (x : RunClientData). IsNoteBeside side x.words mark) (sym c.self.view_is) h)
+
+pub returns-in-Flush-clause-mark : goal.returns-in-Flush-clause-mark
+returns-in-Flush-clause-mark c = c.flush.ensures.note ∙ ap (λ (x : RunClientData). x.words.done + 1) c.self.view_is
+
+pub returns-in-Flush-clause-noted : goal.returns-in-Flush-clause-noted
+returns-in-Flush-clause-noted c side h = c.flush.ensures.beside side (subst (λ (x : RunClientData). IsBeside side x.words) (sym c.self.view_is) h)

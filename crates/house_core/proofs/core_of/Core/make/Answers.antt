@@ -1,6 +1,5 @@
-use Rattle.std.proofs.Common.{◌≤◌, length, ap, sym, subst, ◌∙◌, arith}
+use Rattle.std.proofs.Common.{ap, sym, subst, ◌∙◌}
 use Rattle.std.proofs.lemmas.List.{length-map}
-use Rattle.seq_sched.specs.Seats.{all_home}
 use Rattle.house_core.specs.Core.{Booked, names_of, books_of, outs_of}
 use Rattle.house_core.specs.Invariant.{CoreInvariant}
 use Rattle.house_core.proofs.First.{core_first, books_first, outs_first}
@@ -10,13 +9,13 @@ pub invariant_of-result : goal.invariant_of-result
 invariant_of-result c =
     let p = c.args.plans in
     let books = length-map c.args.books.items (λ (book : Booked). book.0) ∙ c.requires.books in
-    let past = sym (c.reserve_words.ensures.events ∙ c.reserve.ensures.events ∙ c.make-journal.ensures) in
+    let past = sym c.in_ok-journal.ensures.events in
     let owed = sym c.count-count.ensures.count in
-    let seats = sym (c.in_ok-scheduler.ensures ∙ ap all_home (c.as_slice.ensures.value ∙ c.in_ok-ranks.ensures)) in
+    let seats = sym c.in_ok-scheduler.ensures in
     let images = sym c.make-images.ensures in
     let desks = sym c.in_ok-desks.ensures in
-    let spare = c.reserve_words.new.self.spare in
-    let room : length p.plans ≤ spare = let most = c.in_ok-reserve.ensures.spare in let kept = c.reserve_words.ensures.spare in let same = c.count-count.ensures.count in omega (arith, most, kept, same) in
+    let spare = c.in_ok-journal.journal.spare in
+    let room = c.in_ok-journal.ensures.spare in
     subst CoreInvariant (λ j. record { plans = p; past = past j; spare = spare; owed = owed j; sync = c.in_ok-sync.sync; seats = seats j; images = images j; desks = desks j })
     (core_first p (names_of c.args.books.items) c.in_ok-sync.sync spare c.plans_are_lawful.ensures books (c.in_ok-sync.ensures.count ∙ c.count-count.ensures.count) c.in_ok-sync.ensures.stands room c.shows_room.ensures)
 

@@ -1,4 +1,4 @@
-use Rattle.std.proofs.Common.{◌≡◌, ◌+◌, ℕ, true, Some, List, ◌∷◌, refl, ap, sym, subst, ◌∙◌, arith}
+use Rattle.std.proofs.Common.{◌≡◌, ◌+◌, ◌^◌, ◌<◌, ℕ, true, Some, List, ◌∷◌, refl, ap, sym, subst, ◌∙◌, arith}
 use Rattle.std.specs.Prelude.{slice_get, unwrap_or, Option}
 use Rattle.gpu_plan.specs.declared.plan.Action.{Action}
 use Rattle.gpu_plan.specs.Plans.{PlanData, plan_of}
@@ -24,6 +24,7 @@ use Rattle.house_core.proofs.Fits.{fits_order}
 use Rattle.house_core.proofs.Again.{Place, seats_stay, goes_on}
 use Rattle.house_core.proofs.Seen.{parts_of, place_seen}
 use Rattle.house_core.proofs.Ordering.{next_placed}
+use Rattle.house_core.proofs.Rooms.{room_of_order}
 use Rattle.house_core.proofs.core_of.Core.order.Goals as goal
 
 module _ (c : goal.After-push) where
@@ -60,13 +61,22 @@ module _ (c : goal.After-push) where
   stays = next_open now.plans now.past s c.in-Some.place c.self.invariant.legal next
       (sym place.fits.lost ∙ ap (λ (desk : DeskData). desk.lost) (sym (place.there _)) ∙ ap (λ (desk : DeskData). desk.lost) (sym c.index-desk.ensures) ∙ sym c.is_lost.ensures ∙ c.if-is_lost.false)
 
+pub order-requires-clause-room : goal.order-requires-clause-room
+order-requires-clause-room c = (room_of_order (parts_of c.self.inside) _ c.args.stream c.self.view_is c.self.invariant c.requires.known).0
+
+pub order-requires-2 : goal.order-requires-2
+order-requires-2 c =
+    let place = place_seen (parts_of c.self.inside) _ c.args.stream c.self.view_is c.self.invariant c.requires.known in
+    let room = (room_of_order (parts_of c.self.inside) _ c.args.stream c.self.view_is c.self.invariant c.requires.known).1 in
+    subst (λ (desk : DeskData). desk.ordered + 1 < 2 ^ 32) (sym (c.index_mut-desk.ensures.value ∙ place.there _)) room
+
 pub invariant_of-self-2 : goal.invariant_of-self-2
 invariant_of-self-2 c =
     let p = (now c).plans in
     let h = (now c).past in
     let was = c.self.invariant in
     let more = need_order p h (s c) (drawn p h + 1) c.in-Some.place in
-    let room = c.in-Ok.ensures.room in
+    let room = c.in_ok-take_room.ensures.room in
     goes_on (now c) _ (event c) c.order-2.new.self was (place c) record {
       plans = refl;
       past = past c;

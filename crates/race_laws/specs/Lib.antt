@@ -1,0 +1,5 @@
+pub mod Works
+pub mod Settled
+pub mod Touches
+pub mod Alike
+pub mod Laws
