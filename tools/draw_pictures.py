@@ -13,6 +13,7 @@ INTO = TOP / "docs/pictures"
 EXAMPLES = ("compositor", "lost_stream")
 WIDTH = 760
 CHOSEN = 5  # the event whose line the timeline shows
+BESIDE = "#images, [aria-labelledby=state-head], .left:not(#timeline)"  # left out of a picture
 
 
 def draw(browser: Browser, folder: Path, example: str) -> None:
@@ -29,6 +30,7 @@ def draw(browser: Browser, folder: Path, example: str) -> None:
     browser.value("scrollTo(0, 0)")
     browser.call("Input.dispatchMouseEvent", type="mouseMoved", x=1, y=1)
     browser.value("document.querySelector('#detail').style.marginBottom = 0")
+    browser.value(f"for (const one of document.querySelectorAll('{BESIDE}')) one.hidden = true")
     browser.picture(INTO / f"{example}_timeline.png", "#shown", 4)
 
 

@@ -40,7 +40,7 @@ from pathlib import Path
 from typing import NamedTuple
 
 from tools.building import crates, machine
-from tools.building.plan import expected, lanes
+from tools.building.plan import A_CHECK, expected, lanes
 from tools.building.telling import minutes
 from tools.places import TOP
 
@@ -317,7 +317,7 @@ def expectation() -> str:
     chain = sum(proofs[it] for it in crates.longest_chain(below, proofs))
     processors = machine.processors()
     work = sum(it.in_the_gate() for it in seconds.values())
-    took = expected(work, chain, lanes(processors, machine.free_memory()))
+    took = expected(work, chain, lanes(processors, machine.free_memory(), each=A_CHECK))
     return f"the gate takes about {minutes(took)} on {processors} processors"
 
 
@@ -340,7 +340,7 @@ def main() -> int:
         parser.error("give a log or one thing to print, and --keep only with a log that stands")
     try:
         if asked.lanes:
-            print(lanes(machine.processors(), machine.free_memory()).crates)
+            print(lanes(machine.processors(), machine.free_memory(), each=A_CHECK).crates)
             return 0
         if not asked.log:
             print(expectation() if asked.expect else "\n".join(above_lines()))

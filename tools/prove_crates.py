@@ -12,6 +12,7 @@ import contextlib
 import errno
 import fcntl
 import os
+import shutil
 import subprocess
 import sys
 import time
@@ -23,7 +24,7 @@ from tools.building.plan import Lanes, Plan, lanes
 from tools.building.proving import NO_SPACE, Build, Interrupted, Refusal, Signals, Sources
 from tools.building.rooms import leave_all
 from tools.building.sums import stands, sums
-from tools.building.telling import Teller, minutes
+from tools.building.telling import Teller, counted, minutes
 from tools.places import TOP
 
 NOT_BUILT, USAGE = 126, 2
@@ -80,15 +81,21 @@ def toolchain() -> str:
 
 
 def planned(sources: Sources, of: Lanes) -> Plan:
-    """The plan for the program's crates, of which those that stand are done."""
+    """The plan for the program's crates, of which those that stand are done.
+
+    A library that stands on one that is lost goes: statements fit only what they were proved over.
+    """
     times = crates.read_times(TOP / crates.TIMES)
     seconds = {it: times[it].proof if it in times else crates.UNKNOWN for it in sources.below}
-    return Plan(
-        sources.below,
-        seconds,
-        of,
-        {it for it, sum_of in sources.sums.items() if stands(TOP, it, sum_of)},
-    )
+    done: set[str] = set()
+    for crate, lower in sources.below.items():
+        if not stands(TOP, crate, sources.sums[crate]):
+            continue
+        if done.issuperset(lower):
+            done.add(crate)
+        else:
+            shutil.rmtree(TOP / "crates" / crate / "out/rlib")
+    return Plan(sources.below, seconds, of, done)
 
 
 def build(asked_jobs: int | None, teller: Teller, signals: Signals) -> None:
@@ -108,9 +115,10 @@ def build(asked_jobs: int | None, teller: Teller, signals: Signals) -> None:
         processors = machine.processors()
         of = lanes(processors, machine.free_memory(), asked_jobs)
         work = Build(sources, planned(sources, of), teller)
-        teller.say(
+        teller.begin(
             f"proving {len(work.plan.left())} of {len(names)} crates and building the program: "
-            f"about {minutes(work.whole)} on {processors} processors, {of.crates} crates at once"
+            f"about {minutes(work.whole)} on {counted(processors, 'processor')}, "
+            f"{counted(of.crates, 'crate')} at once"
         )
         work.run(signals)
         teller.say(f"proved and built, after {minutes(time.monotonic() - work.began)}")

@@ -5,8 +5,8 @@
 LOG is the output of `bash .ci/run` on this commit; its last line says so. FOLDER is the place of
 the file (left out: here), and TEXT names the toolchain (left out: the line of `rt version`). The
 packed folder holds the program, the shell script with its table of commands, the tools that show an
-output, the documents and the examples. RELEASE names its origin, and SHA256SUMS has the sum of each
-file. The same commit and program give the same bytes.
+output, the documents and the examples. Its README is tools/release_readme.md. RELEASE names its
+origin, and SHA256SUMS has the sum of each file. The same commit and program give the same bytes.
 
 Refused, with status 1: a tree with changes, a log whose gate did not pass on this commit, and a
 program that is missing or older than its sources.
@@ -30,6 +30,7 @@ from tools.places import PROGRAM, TOP
 PACKED = ("zorvleid", "README.md", "CHANGELOG.md", "SECURITY.md", "command_line", "view", "python",
           "include", "docs",
           "examples")
+READMES = {"README.md": Path("tools/release_readme.md")}  # what is packed under another name
 TARGET = "x86_64-linux"
 Packed = tuple[bytes, bool]  # the bytes of a file, and whether it can be run
 LINK = re.compile(rb"!?\[([^\]\n]*)\]\(([^)\s]+)\)")
@@ -88,7 +89,7 @@ def files(facts: str) -> dict[str, Packed]:
                                  "RELEASE": (facts.encode(), False)}
     names = run("git", "ls-files", "-z", *PACKED).split("\0")[:-1]
     for name in names:
-        path = TOP / name
+        path = TOP / READMES.get(name, Path(name))
         data = path.read_bytes()
         packed[name] = (without_links(name, data, names) if path.suffix == ".md" else data,
                         os.access(path, os.X_OK))

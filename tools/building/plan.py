@@ -9,10 +9,9 @@ from dataclasses import dataclass, field
 
 from .crates import Libraries
 
-A_CRATE, A_JOB = (
-    3_000_000_000,
-    1_500_000_000,
-)  # bytes: the prover at one job, and each further job of it
+# Bytes: the prover at one job over libraries of statements, each further job of it, and a check of
+# the gate, among which are those of tests.
+A_CRATE, A_JOB, A_CHECK = 2_000_000_000, 1_500_000_000, 3_000_000_000
 JOBS_AT_MOST = 4
 # The part of a proof that one process does, and no further job shares.
 ALONE = 0.2
@@ -28,13 +27,11 @@ class Lanes:
     further: int
 
 
-def lanes(processors: int, memory: int, asked: int | None = None) -> Lanes:
+def lanes(processors: int, memory: int, asked: int | None = None, each: int = A_CRATE) -> Lanes:
     """A lane for each processor, as far as memory holds them, or as many as were asked for."""
-    crates = asked or max(1, min(processors, memory // A_CRATE))
+    crates = asked or max(1, min(processors, memory // each))
     used = min(asked or processors, processors)
-    return Lanes(
-        used, crates, min(used, JOBS_AT_MOST), max(0, (memory - crates * A_CRATE) // A_JOB)
-    )
+    return Lanes(used, crates, min(used, JOBS_AT_MOST), max(0, (memory - crates * each) // A_JOB))
 
 
 @dataclass

@@ -1,4 +1,9 @@
-"""Has the toolchain prove crate after crate, side by side, and build the program."""
+"""Has the toolchain prove crate after crate, side by side, and build the program.
+
+A library holds its statements alone, unless `rt check` kept work of its crate: then it is built
+over that, and is whole. The toolchain keeps no work of a proof with statements alone, so a crate
+that is cut off begins anew.
+"""
 
 import contextlib
 import ctypes
@@ -16,6 +21,7 @@ from .crates import PROGRAM, Libraries, made_of
 from .machine import free_disk
 from .plan import Plan
 from .rooms import Room
+from .rt_once import STATEMENTS
 from .telling import Teller, clock, minutes
 
 TICK = 0.05
@@ -118,12 +124,16 @@ class Build:
         room.home.mkdir(exist_ok=True)
         verb = "run" if crate == PROGRAM else "lib"
         words = [sys.executable, str(RT_ONCE), verb, "--jobs", str(jobs)]
+        around = {it: told for it, told in os.environ.items() if it != STATEMENTS}
+        if crate != PROGRAM and not room.has_kept():
+            around[STATEMENTS] = "1"
         try:
             room.furnish(self.sources.room_of(crate))
             with log.open("wb") as file:
                 process = subprocess.Popen(
                     words,
                     cwd=room.place,
+                    env=around,
                     stdin=subprocess.DEVNULL,
                     stdout=file,
                     stderr=subprocess.STDOUT,

@@ -40,6 +40,10 @@ class Room:
         """Where the toolchain is called."""
         return self.folder / "crates" / self.crate
 
+    def has_kept(self) -> bool:
+        """Whether the toolchain kept work of an earlier proof."""
+        return (self.home / KEPT).is_dir() or (self.place / "out" / KEPT).is_dir()
+
     def furnish(self, rows: Mapping[str, str]) -> None:
         """Makes the room for the crates of these rows, with what earlier proofs kept."""
         shutil.rmtree(self.folder, ignore_errors=True)

@@ -6,6 +6,10 @@ rt knows a library by its stamp, a sum of the crate's sources and of the stamps 
 it lists. It computes a stamp anew along each path from crate to crate, and the program has
 thousands of them: that took minutes of the longest chain. In a room no source changes while rt
 runs, so one stamp a crate is enough. A toolchain that is made in another way runs as it is.
+
+With ZORVLEID_STATEMENTS in the environment, `rt lib` writes a library that has what others can
+cite, and not its proofs. Those above it load it in less time and memory. The toolchain keeps no
+work of such a proof. A toolchain that knows no such libraries writes a whole one.
 """
 
 import importlib.machinery
@@ -16,6 +20,10 @@ import sys
 from pathlib import Path
 from types import ModuleType
 from typing import Any
+
+
+STATEMENTS = "ZORVLEID_STATEMENTS"
+KEEPS = "--incremental"
 
 
 def module_of(path: Path) -> ModuleType | None:
@@ -44,12 +52,27 @@ def stamp_once(crate_type: Any) -> None:
     crate_type.stamp = stamp
 
 
+def without_proofs(crate_type: Any) -> None:
+    """Has the library of a crate of this type hold its statements alone, in place of kept work."""
+    made = crate_type.call
+
+    def call(crate: Any, *words: str) -> int:
+        if words[1:2] == ("build",) and KEEPS in words and words[-1] == crate.rlib:
+            at = words.index(KEEPS)
+            words = (*words[:at], "--statements", *words[at + 2 :])
+        return int(made(crate, *words))
+
+    crate_type.call = call
+
+
 def main() -> int:
     path = Path(os.path.realpath(shutil.which("rt") or "rt"))
     rt = module_of(path)
     if rt is None:
         os.execvp("rt", ["rt", *sys.argv[1:]])
     stamp_once(rt.rtlib.Crate)
+    if STATEMENTS in os.environ and "--statements" in rt.rtlib.help_of("build"):
+        without_proofs(rt.rtlib.Crate)
     return int(rt.main(sys.argv[1:]) or 0)
 
 

@@ -1,4 +1,7 @@
-"""How far a build is, on standard error: in one line on a terminal, or a line for each event."""
+"""How far a build is, on standard error: in one line on a terminal, or a line for each event.
+
+Without a terminal the first line alone comes, unless ZORVLEID_PROGRESS is 1.
+"""
 
 import math
 import os
@@ -10,17 +13,31 @@ def minutes(seconds: float) -> str:
     return f"{max(1, math.ceil(seconds / 60))} min"
 
 
+def counted(number: int, one: str) -> str:
+    """A number of things."""
+    return f"{number} {one}{'' if number == 1 else 's'}"
+
+
 def clock(seconds: float) -> str:
     return f"{int(seconds) // 60}:{int(seconds) % 60:02}"
 
 
+LOOK = "for a look before, './zorvleid preview run FILE' takes two minutes"
+HEAR = "ZORVLEID_PROGRESS=1 shows how far it is"
+
+
 class Teller:
-    """Says nothing where standard error is no terminal, unless ZORVLEID_PROGRESS is 1."""
+    """Says the first line of a build, and more where somebody listens."""
 
     def __init__(self) -> None:
         self.is_terminal = sys.stderr.isatty()
         self.is_heard = self.is_terminal or os.environ.get("ZORVLEID_PROGRESS") == "1"
         self.shown = ""
+
+    def begin(self, text: str) -> None:
+        """The first line, which comes always. It says what else can be seen meanwhile."""
+        parts = [text, LOOK] if self.is_heard else [text, HEAR, LOOK]
+        print("; ".join(parts), file=sys.stderr, flush=True)
 
     def say(self, text: str) -> None:
         """A line that stays."""

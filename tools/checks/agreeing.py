@@ -1,8 +1,8 @@
 """Checks that tables and names of the documents agree with the sources.
 
 In docs/FORMATS.md they are the commands, the statuses, the checks and the rules; in docs/TESTS.md
-the names of tests; in README.md the toolchain; and the version everywhere. The part also counts
-what docs/DEFINITIONS.md calls half an hour.
+the names of tests; in README.md the toolchain; and the version everywhere. A worked case has the
+script of an example. The part also counts what docs/DEFINITIONS.md calls half an hour.
 """
 
 import re
@@ -22,7 +22,10 @@ FORMATS, TESTS, DEFINITIONS = (
 TABLE = Path("crates/gpu_cmd/specs/Table.antt")
 STATUSES = Path("crates/script_answers/specs/Statuses.antt")
 LEGAL = Path("crates/gpu_journal/specs/Legal.antt")
+WORKED = Path("crates/race_laws/proofs/worked/CrossedWaits.antt")
+EXAMPLE = Path("examples/crossed_waits.script")
 MINUTES, WORDS_A_MINUTE = 30, 130
+BEGIN = "\n## What you must believe\n"  # where the reading of half an hour begins
 SIZE_BITS = 21
 
 COMMAND = re.compile(
@@ -35,6 +38,7 @@ RULE = re.compile(r"^  pub rule_(\d+) :", re.MULTILINE)
 CHECK = re.compile(r"^\| (\d+) \| [^|]+ \| \w+ \|$", re.MULTILINE)
 TEST = re.compile(r"`([a-z]+(?:_[a-z0-9]+)+|race)`")
 BOLD = re.compile(r"\*\*\[\w+\.antt\]\(\.\./([\w/.]+)\)\*\*")
+CODES = re.compile(r'codes "([^"]*)"')
 VERSION = re.compile(r"\d+\.\d+\.\d+")
 
 
@@ -117,8 +121,9 @@ def versions(top: Path) -> Iterator[tuple[str, str | None]]:
 
 
 def half_hour(top: Path) -> Iterator[tuple[str, str | None]]:
-    """How long the page of the definitions is, with the sentences of the files in bold."""
-    page = text_of(top, DEFINITIONS)
+    """How long the page of the definitions is from BEGIN on, with the files in bold."""
+    _, begin, page = text_of(top, DEFINITIONS).partition(BEGIN)
+    yield f"{BEGIN!r} in {DEFINITIONS}", None if begin else "it does not stand there"
     texts = [text_of(top, path) for path in BOLD.findall(page)]
     sentences = [
         line.strip()[2:]
@@ -129,6 +134,16 @@ def half_hour(top: Path) -> Iterator[tuple[str, str | None]]:
     words = prose.count(prose.plain(page)) + sum(map(prose.count, sentences))
     is_so = texts and words <= MINUTES * WORDS_A_MINUTE
     yield "half an hour", None if is_so else f"{words} words take above {MINUTES} minutes aloud"
+
+
+def worked(top: Path) -> Iterator[tuple[str, str | None]]:
+    """The script of a worked case, and what every run prints of it: an example has both."""
+    texts = [text.replace("\\n", "\n") for text in CODES.findall(text_of(top, WORKED))]
+    wanted = text_of(top, EXAMPLE)
+    yield "its script", None if texts[:1] == [wanted] else f"it is not that of {EXAMPLE}"
+    printed = text_of(top, EXAMPLE.with_suffix(".stdout"))
+    is_so = len(texts) == 2 and texts[1] and f"\n{texts[1]}" in printed
+    yield "what is printed", None if is_so else f"it is not in the output of {EXAMPLE}"
 
 
 def check_toolchain(top: Path, tally: Tally) -> None:
@@ -156,6 +171,7 @@ def check(top: Path, _program: Path, tally: Tally) -> None:
         (TESTS, tests(top)),
         ("documents", versions(top)),
         (DEFINITIONS, half_hour(top)),
+        (WORKED, worked(top)),
     ):
         for name, fault in items:
             tally.tell(f"{where}: {name}", fault)

@@ -16,6 +16,7 @@ from typing import Any
 
 from tests import command_texts, hostile, large
 from tools.checks import workers as runs
+from tools.checks import wrong_calls
 from tools.checks.tally import Tally
 from zorvleid import (
     Refused,
@@ -214,7 +215,7 @@ def check_faults(top: Path, tally: Tally) -> None:
             f"a text that is refused by `{kind}`",
             fault_of_refusal(kind, None, lambda: assemble(text).text()),
         )
-    left = sorted(errors.MESSAGES.keys() - kinds)
+    left = sorted(errors.MESSAGES.keys() - kinds - wrong_calls.KINDS)
     tally.tell(str(FAULTS), f"it has no case of {left}" if left else None)
 
 
@@ -297,14 +298,15 @@ def check_calls(top: Path, tally: Tally) -> None:
             "",
             5,
             "",
-            f"{script}:2:1: the first line has to be `gpu-commands 1` or `gpu-commands 2`\n",
+            f"{script}:2:1: this is a script, and no text of commands: `disassemble` makes one of "
+            "it\n",
         ),
         (
             ["disassemble", text],
             "",
             5,
             "",
-            f"{text}:2:1: the first line has to be `gpu-script 1` or `gpu-script 2`\n",
+            f"{text}:2:1: this is a text of commands, and no script: `assemble` makes one of it\n",
         ),
         (["disassemble"], "#" * 16_777_217, 7, "", None),
         (["assemble", top / "examples"], "", 3, "", None),

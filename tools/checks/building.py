@@ -4,6 +4,7 @@ import contextlib
 import os
 import pty
 import re
+import shutil
 import signal
 import subprocess
 import sys
@@ -26,7 +27,13 @@ def until_full(one, other, *words, **how):
 shutil.copytree = until_full
 """
 # A machine's processors and its free GB, and then how many crates are proved at once.
-MACHINES = ((2, 7.2, 2), (4, 7.2, 2), (8, 3.5, 1), (8, 1.5, 1), (4, 21, 4), (1, 21, 1))
+MACHINES = ((2, 7.2, 2), (4, 7.2, 3), (8, 3.5, 1), (8, 1.5, 1), (4, 21, 4), (1, 21, 1))
+# The one line of a build that nobody watches.
+FIRST = re.compile(
+    r"proving \d of 6 crates and building the program: about \d+ min on \d+ processors?, "
+    r"\d+ crates? at once; ZORVLEID_PROGRESS=1 shows how far it is; "
+    r"for a look before, './zorvleid preview run FILE' takes two minutes"
+)
 FAULTS = {
     "1": "is not proved",
     "2": "judged nothing",
@@ -50,11 +57,28 @@ def silent(ran: "subprocess.CompletedProcess[str]", status: int = 0) -> str | No
     return unlike((status, "", ""), (ran.returncode, ran.stdout, ran.stderr))
 
 
+def begun(ran: "subprocess.CompletedProcess[str]") -> "subprocess.CompletedProcess[str]":
+    """A build without its first line, which says what is proved, how long that takes, and more."""
+    first, _, rest = ran.stderr.partition("\n")
+    said = rest if FIRST.fullmatch(first) else f"no first line, but: {ran.stderr}\n"
+    return subprocess.CompletedProcess(ran.args, ran.returncode, ran.stdout, said)
+
+
+def built(ran: "subprocess.CompletedProcess[str]") -> str | None:
+    """A fault unless a build printed its first line alone."""
+    return silent(begun(ran))
+
+
+def failed(ran: "subprocess.CompletedProcess[str]", status: int, *words: str) -> str | None:
+    """A fault unless a build printed its first line, and then one with these words."""
+    return one_line(begun(ran), status, *words)
+
+
 def check_order(top: Path, tally: Tally) -> None:
     """The longest chain comes first, and what has changed, with all above it, is proved again."""
     with place(top) as it:
         tally.tell("--fresh before a build", silent(it.build("--fresh"), 1))
-        tally.tell("a build", silent(it.build("--jobs", "1")))
+        tally.tell("a build", built(it.build("--jobs", "1")))
         order = ["base", "long", "middle", "one", "two", "script_main"]
         tally.tell("the order of proofs", unlike(order, it.begun()))
         jobs = {event.jobs for event in it.events() if event.kind == "begin"}
@@ -64,11 +88,29 @@ def check_order(top: Path, tally: Tally) -> None:
         count = len(it.events())
         tally.tell("a second build", silent(it.build()) or unlike([], it.begun(count)))
         os.utime(it.top / "crates/one/src/lib.rt")
-        tally.tell("a source that was touched", silent(it.build()))
+        tally.tell("a source that was touched", built(it.build()))
         it.edit("middle")
-        tally.tell("a source that was edited", silent(it.build()))
+        tally.tell("a source that was edited", built(it.build()))
         again = ["script_main", "middle", "script_main"]
         tally.tell("what is proved again", unlike(again, it.begun(count)))
+
+
+def check_statements(top: Path, tally: Tally) -> None:
+    """Libraries hold statements alone, but for those of which a check kept work."""
+    with place(top) as it:
+        it.keep("middle")
+        it.build()
+        begun = [event for event in it.events() if event.kind == "begin"]
+        whole = sorted(event.crate for event in begun if not event.states)
+        tally.tell("what is built whole", unlike(["middle", "script_main"], whole))
+        kept = it.out("long", "incremental").exists()
+        tally.tell("what is kept of statements", unlike(False, kept))
+        count = len(it.events())
+        shutil.rmtree(it.out("long", "rlib"))
+        it.edit("one")
+        it.build()
+        again = ["long", "middle", "one", "script_main"]
+        tally.tell("what stands on a lost library", unlike(again, sorted(it.begun(count))))
 
 
 def check_lines(top: Path, tally: Tally) -> None:
@@ -93,7 +135,7 @@ def check_machines(top: Path, tally: Tally) -> None:
     keep = f"import os, sys; os.sched_setaffinity(0, {two}); os.execv(sys.argv[1], sys.argv[1:])"
     with place(top) as it:
         words = [sys.executable, "-c", keep, str(it.top / "tools/build")]
-        ran = subprocess.run(words, env=it.environment(), check=False)
+        ran = subprocess.run(words, env=it.environment(), capture_output=True, check=False)
         jobs = max((event.jobs for event in it.events() if event.kind == "begin"), default=9)
         is_so = ran.returncode == 0 and max(at_once(it.events()), jobs) <= len(two)
         found = f"{at_once(it.events())} go at once, with {jobs} jobs; {ran}"
@@ -103,19 +145,25 @@ def check_machines(top: Path, tally: Tally) -> None:
         name = f"{processors} processors and {free} GB"
         tally.tell(f"crates at once, {name}", unlike(wanted, of.crates))
         tally.tell(f"jobs of a crate, {name}", unlike(min(4, processors), of.jobs))
-        used = 3 * of.crates + 1.5 * of.further
-        tally.tell(f"memory, {name}", None if used <= max(3, free) else f"{used} GB may be used")
+        used = 2 * of.crates + 1.5 * of.further
+        tally.tell(f"memory, {name}", None if used <= max(2, free) else f"{used} GB may be used")
 
 
 def check_stops(top: Path, tally: Tally) -> None:
     """A build that is stopped ends with one line, and the next one goes on from there."""
-    for number, status in ((signal.SIGINT, 130), (signal.SIGTERM, 143), (signal.SIGKILL, -9)):
+    stops = ((signal.SIGINT, 130, True), (signal.SIGTERM, 143, False), (signal.SIGKILL, -9, True))
+    for number, status, keeps in stops:
         with place(top) as it:
-            stop(it, number, status, tally)
+            stop(it, number, status, keeps, tally)
 
 
-def stop(it: Place, number: signal.Signals, status: int, tally: Tally) -> None:
-    """Stops a build while the second crate is proved, and builds again."""
+def stop(it: Place, number: signal.Signals, status: int, keeps: bool, tally: Tally) -> None:
+    """Stops a build while the second crate is proved, and builds again.
+
+    That crate goes on where a check had kept work of it, and else begins anew.
+    """
+    if keeps:
+        it.keep("long")
     with it.start("--jobs", "2", STUB_FAULT="long:rest") as first:
         it.await_begin("long")
         first.send_signal(number)
@@ -123,21 +171,20 @@ def stop(it: Place, number: signal.Signals, status: int, tally: Tally) -> None:
         ran.returncode = first.returncode
     name = number.name
     if number == signal.SIGKILL:
-        tally.tell(f"a build under {name}", silent(ran, status))
+        tally.tell(f"a build under {name}", silent(begun(ran), status))
         tally.tell(f"proofs after {name}", None if it.await_end() else "they go on")
     else:
-        tally.tell(
-            f"a build under {name}", one_line(ran, status, "interrupted", "goes on from there")
-        )
+        said = failed(ran, status, "interrupted", "goes on from there")
+        tally.tell(f"a build under {name}", said)
         logs = sorted((it.top / "crates").glob("*/out/build.log"))
         tally.tell(f"what {name} leaves", it.left_over() or unlike([], logs))
         kept = it.out("long", "incremental/kept").exists()
-        tally.tell(f"what the proof has kept at {name}", unlike(True, kept))
+        tally.tell(f"what the proof has kept at {name}", unlike(keeps, kept))
     count = len(it.events())
-    tally.tell(f"the build after {name}", silent(it.build()) or it.left_over())
+    tally.tell(f"the build after {name}", built(it.build()) or it.left_over())
     tally.tell(f"what is proved after {name}", unlike(False, "base" in it.begun(count)))
     kept = any(event.had_kept for event in it.events(count) if event.crate == "long")
-    tally.tell(f"what was kept at {name} is used", unlike(True, kept))
+    tally.tell(f"what was kept at {name} is used", unlike(keeps, kept))
 
 
 def check_faults(top: Path, tally: Tally) -> None:
@@ -147,7 +194,7 @@ def check_faults(top: Path, tally: Tally) -> None:
         with place(top) as it:
             ran = it.build("--jobs", "1", STUB_FAULT=f"long:{fault}")
             tally.tell(
-                f"fault {fault}", one_line(ran, 126, "long", str(log), "1 of 6 crates", words)
+                f"fault {fault}", failed(ran, 126, "long", str(log), "1 of 6 crates", words)
             )
             said = (it.top / log).read_text() if (it.top / log).exists() else "no log"
             wanted = {"killed": "", "disk": "No space left on device"}.get(
@@ -162,14 +209,14 @@ def check_faults(top: Path, tally: Tally) -> None:
             left = it.left_over() or unlike((True, False, ["base", "long"]), found)
             tally.tell(f"what fault {fault} leaves", left)
             if fault == "disk":
-                tally.tell("the build after that", silent(it.build()))
+                tally.tell("the build after that", built(it.build()))
                 tally.tell("the log after that", unlike(False, (it.top / log).exists()))
     with place(top) as it:
         (it.top / "sitecustomize.py").write_text(FULL_DISK)
         ran = it.build("--jobs", "1", PYTHONPATH=str(it.top))
-        tally.tell("a disk that is full before a proof", one_line(ran, 126, "the disk is full"))
+        tally.tell("a disk that is full before a proof", failed(ran, 126, "the disk is full"))
         tally.tell("what that leaves", it.left_over() or unlike(["base"], it.begun()))
-        tally.tell("the build after a full disk", silent(it.build()))
+        tally.tell("the build after a full disk", built(it.build()))
 
 
 def check_edits(top: Path, tally: Tally) -> None:
@@ -178,16 +225,39 @@ def check_edits(top: Path, tally: Tally) -> None:
         it.build()
         it.edit("long")
         ran = it.build("--jobs", "2", STUB_FAULT="long:1")
-        tally.tell("an edit that is not proved", one_line(ran, 126, "long is not proved"))
+        tally.tell("an edit that is not proved", failed(ran, 126, "long is not proved"))
         stands = it.out("long", "rlib/stamp").read_text()
         tally.tell("what it leaves", it.left_over() or unlike("the sources of long\n", stands))
         ran = it.build(STUB_FAULT="script_main:1")
-        tally.tell("a program that is not proved", one_line(ran, 126, "script_main is not proved"))
+        tally.tell("a program that is not proved", failed(ran, 126, "script_main is not proved"))
         is_there = it.out("script_main", "script_main").exists()
         tally.tell("the program of before", unlike(True, is_there))
     with place(top) as it:
         ran = it.build(STUB_FAULT="long:edit")
-        tally.tell("an edit while it builds", one_line(ran, 126, "no program that is newer"))
+        tally.tell("an edit while it builds", failed(ran, 126, "no program that is newer"))
+
+
+def check_wrong_bodies(top: Path, tally: Tally) -> None:
+    """tools/wrong_bodies tries them over what is built and kept, and leaves that as it was."""
+    with place(top) as it:
+        it.add_body("middle", "refused")
+        ran = it.run("wrong_bodies")
+        tally.tell("wrong bodies before a build", one_line(ran, 126, "run tools/build first: base"))
+        it.build()
+        it.out("middle", "incremental").mkdir(exist_ok=True)
+        it.out("middle", "incremental/kept").touch()
+        count = len(it.events())
+        ran = it.run("wrong_bodies")
+        tally.tell("a wrong body that is refused", unlike((0, ""), (ran.returncode, ran.stderr)))
+        tried = [(event.kind, event.crate, event.had_kept) for event in it.events(count)]
+        tally.tell("what it begins with", unlike([("tried", "middle", True)], tried))
+        stands = it.out("middle", "incremental/kept").exists()
+        tally.tell("what it leaves", it.left_over() or unlike(True, stands))
+        it.add_body("one", "let_through")
+        ran = it.run("wrong_bodies")
+        is_so = ran.returncode == 1 and ran.stdout.endswith("not all are refused in one\n")
+        tally.tell("a wrong body that is let through", None if is_so else f"it ended with {ran}")
+        tally.tell("a crate of none", one_line(it.run("wrong_bodies", "two"), 2, "two", "middle"))
 
 
 def check_words(top: Path, tally: Tally) -> None:
@@ -211,7 +281,9 @@ def check_two(top: Path, tally: Tally) -> None:
     with place(top) as it:
         both = it.start(), it.start()
         found = [(*ran.communicate(timeout=600), ran.returncode) for ran in both]
-        tally.tell("two builds at once", unlike([("", "", 0)] * 2, found))
+        said = [subprocess.CompletedProcess([], status, out, told) for out, told, status in found]
+        one, other = sorted(said, key=lambda ran: len(ran.stderr))
+        tally.tell("two builds at once", silent(one) or built(other))
         tally.tell("what they prove", unlike(MADE_OF, sorted(it.begun())))
 
 
@@ -237,11 +309,13 @@ def check_terminal(top: Path, tally: Tally) -> None:
 
 PARTS = (
     check_order,
+    check_statements,
     check_lines,
     check_machines,
     check_stops,
     check_faults,
     check_edits,
+    check_wrong_bodies,
     check_words,
     check_two,
     check_terminal,

@@ -8,8 +8,8 @@ that is too large to be stored has a sum instead, NAME.script.sum or NAME.stdout
 SHA-256. tests/large.py makes the part.
 
 Where a case is a `run` that ends with 0 or 1, `verify` must say yes to its script, a line `journal`
-and its output. It must show the same picture. Three parts that are too long for one input are left
-out.
+and its output. It must show the same picture. What is too long for `verify` goes to `verify
+--whole`.
 
 tests/cuts_of_two_texels.tsv has the answers of `run` to each prefix of the script of the case
 two_texels, with 2 workers too. tests/short_inputs.tsv has the program's answers to inputs of a few
@@ -32,6 +32,7 @@ CUTS = Path("tests/cuts_of_two_texels.tsv")
 SHORT = Path("tests/short_inputs.tsv")
 CUT_CASE = Path("tests/cases/runs/two_texels.script")
 CASE_FOLDERS = ("examples", "tests/cases")
+BESIDE = (".commands", ".c", ".journal")  # of files that are no part of a case
 CASE_FILES = (".script", ".words", ".stdout", ".stderr", ".status", ".script.sum", ".stdout.sum")
 
 Item = tuple[str, str | None]  # what was looked at, and its fault
@@ -91,11 +92,12 @@ def verified(case: Case) -> Case | None:
         return None
     script = case.script if not case.script or case.script.endswith(b"\n") else case.script + b"\n"
     whole = script + b"journal\n" + case.output
-    if len(whole) > workers.INPUT_AT_MOST:
+    if len(whole) > workers.WHOLE_AT_MOST:
         return None
+    words = ["verify"] if len(whole) <= workers.INPUT_AT_MOST else ["verify", "--whole"]
     read = outputs.read_output(case.output)
     picture = outputs.picture_text(case.output, read)
-    return Case(["verify"], whole, 0, b"yes events %d\n" % read.event_count + picture, b"")
+    return Case(words, whole, 0, b"yes events %d\n" % read.event_count + picture, b"")
 
 
 # --- Stored cases ---
@@ -163,7 +165,7 @@ def check_stored(top: Path, program: Path, tally: Tally, pool: Executor) -> None
     bases = set()
     for folder in CASE_FOLDERS:
         for path in sorted((top / folder).rglob("*")):
-            if path.is_dir() or path.name == "README.md" or path.suffix in (".commands", ".c"):
+            if path.is_dir() or path.name == "README.md" or path.suffix in BESIDE:
                 continue
             base = base_of(path)
             if base is None:

@@ -6,6 +6,7 @@ the program accept the same lines. Each refused script and journal of the cases 
 and shellcheck has nothing to say about the shell scripts.
 """
 
+import compileall
 import os
 import shlex
 import shutil
@@ -23,7 +24,8 @@ from tools.places import PROGRAM
 
 ROWS = Path("tests/command_lines.tsv")
 PARTS = ("zorvleid", "command_line", "view", "python", "docs", "examples", "crates.txt", "HANDLES")
-COMMANDS = ("sh", "cat", "dirname", "readlink", "find", "head", "mktemp", "rm", "tr")
+COMMANDS = ("sh", "cat", "dirname", "env", "readlink", "find", "head", "mktemp", "od", "rm", "tail",
+            "tr", "true", "wc")
 SHELL = ("zorvleid", "tools/build", "tools/check", ".ci/run", "bench/run", "python/run", "view/run")
 LEAST = {"command lines": 60, "right lines": 40, "wrong lines": 60}
 SECONDS, WORKERS = 600, 4
@@ -50,13 +52,15 @@ class Tree:
             else:
                 shutil.copy(top / name, self.top / name)
         (self.top / "tools").mkdir()
-        shutil.copy(top / "tools/build", self.top / "tools/build")
+        for name in ("build", "preview"):
+            shutil.copy(top / "tools" / name, self.top / "tools" / name)
         for part in ("src", "specs", "proofs"):
             (self.top / "crates/script_main" / part).mkdir(parents=True)
         self.path.mkdir()
         for name in COMMANDS:
             (self.path / name).symlink_to(shutil.which(name) or "/nowhere")
         (self.path / "python3").symlink_to(sys.executable)
+        compileall.compile_dir(self.top, quiet=1)  # else each of the many calls compiles it anew
 
     def build(self, program: Path) -> None:
         """Puts a program there as if it were built."""
@@ -321,6 +325,12 @@ NO_SCRIPTS = {
                         "gpu-script [3]: there is no such version of scripts; the head is "
                                            "`gpu-script 1` or `gpu-script 2`"),
     "an output": (b"order 1 1 11\n", f"[order] 1 1 11: this is an output, and no script; {BEGINS}"),
+    "an output without events": (b"stream 1 done entries 0 release 0\n",
+                                 "[stream] 1 done entries ..: this is an output, and no script; "
+                                 f"{BEGINS}"),
+    "a text of commands": (b"# of two lines\ngpu-commands 1\n",
+                           "[gpu-commands] 1: this is a text of commands, and no script: "
+                           "`assemble` makes one of it"),
     "a page": (b"<!DOCTYPE html>\n", f"[<!DOCTYPE] html>: {BEGINS}"),
     "remarks": (b"# nothing\n\n", f"the input has no line but blank ones and comments; {BEGINS}"),
     "a put past the ring": (b"gpu-script 1\nstream 1 normal 16\nput 15 1 2\n", PAST_THE_RING),
@@ -388,7 +398,8 @@ def check_streams(tree: Tree, folder: Path, tally: Tally) -> None:
           for words in READING for closed in ("<&-", "< .")),
         ("$Z explain --program ./README.md < examples/names.stdout", 126,
          "the program does not start: README.md: No such file or directory"),
-        ("yes | $Z check", 7, "input too long"), ("$Z run < /dev/zero", 7, "input too long"),
+        ("yes | $Z check", 7, "input too long: it has more than 16,777,216 bytes"),
+        ("yes | $Z verify --whole", 7, "input too long: it has more than 67,108,864 bytes"),
     ):
         ran = tree.shell(f"export TMPDIR='{folder}' PATH=$PATH:/usr/bin:/bin; {line}")
         tally.tell(line, told(ran, Ran(status, b"", said + "\n")))

@@ -16,6 +16,7 @@ from tools.checks.tally import Tally
 LIST, TABLE = "crates.txt", "docs/ARCHITECTURE.md"
 ROW = re.compile(r"^\| `(\w+)` \|[^|]+\| ([^|]*) \|$", re.MULTILINE)
 PROMISE = re.compile(r"^- \S", re.MULTILINE)
+NOTES = "\nNotes:"  # what comes after it is no promise
 OF_TESTS = "_tests"
 REMARK = {".rt": re.compile(r"(?<!:)//[^\n]*"),
           ".antt": re.compile(r"(?:^|(?<=\s))--[^\n]*", re.MULTILINE)}
@@ -71,7 +72,7 @@ def check_heads(top: Path, tally: Tally) -> None:
     """Reports each crate whose root file does not say at its head what its contracts say."""
     for name, text in prose.heads(top):
         crate = Path(name).parts[1]
-        is_so = text and (crate.endswith(OF_TESTS) or PROMISE.search(text))
+        is_so = text and (crate.endswith(OF_TESTS) or PROMISE.search(text.partition(NOTES)[0]))
         tally.tell(
             f"{name}: its head", None if is_so else "it does not list what the contracts say"
         )
@@ -85,13 +86,3 @@ def check(top: Path, _program: Path, tally: Tally) -> None:
         names = named(top / "crates" / crate)
         needless = [library for library in libraries if library not in names]
         tally.tell(f"{LIST}: {crate}", f"no file of it names {needless[0]}" if needless else None)
-
-
-def planted(top: Path) -> tuple[str, str]:
-    """The end of the last line of the list, and the same with an unused library."""
-    crate, libraries = list(listed(top))[-1]
-    needless = next(name
-                    for name, _ in listed(top)
-                    if name not in named(top / "crates" / crate) and name != crate)
-    end = f": {' '.join(libraries)}\n"
-    return end, f"{end[:-1]} {needless}\n"

@@ -6,6 +6,7 @@ or in examples/README.md, whose numbers belong to its scripts. Headings, table c
 count alike. Left out are versions, powers such as 2^32, and the widths of machine words.
 """
 
+import math
 import re
 from collections.abc import Callable, Iterator
 from dataclasses import dataclass
@@ -50,6 +51,11 @@ def found(path: str, pattern: str) -> Source:
     return source
 
 
+def fixed(number: int) -> Source:
+    """The same number everywhere."""
+    return lambda _: number
+
+
 def constant(path: str, name: str) -> Source:
     """The value of a constant of a source file of the crates."""
     return found(f"crates/{path}", rf"\bconst {name}: \w+ = ([\d_]+);")
@@ -60,6 +66,11 @@ def counted(path: str, pattern: str) -> Source:
     return lambda top: len(
         re.findall(pattern, (top / path).read_text(encoding="utf-8"), re.MULTILINE)
     )
+
+
+def product(*sources: Source) -> Source:
+    """The product of some numbers."""
+    return lambda top: math.prod(source(top) for source in sources)
 
 
 def files(pattern: str, without: tuple[str, ...] = ()) -> Source:
@@ -92,6 +103,8 @@ def most_wrong_bodies(top: Path) -> int:
 
 
 MOST_BYTES = constant("gpu_plan/src/script.rt", "MOST_BYTES")
+MOST_WHOLE_BYTES = constant("verify_input/src/rest.rt", "MOST_WHOLE_BYTES")
+MOST_OF_TOOLS = found("python/zorvleid/console.py", r"^BYTES_AT_MOST = ([\d_]+)")
 MOST_RING = constant("gpu_cmd/src/areas.rt", "MOST_RING")
 MOST_WORDS = constant("gpu_cmd/src/areas.rt", "MOST_WORDS")
 MOST_FETCHED = constant("gpu_cmd/src/facts.rt", "MOST_FETCHED")
@@ -120,8 +133,52 @@ DRAWS = "crates/script_generator/specs/Draws.antt"
 GENERATOR = "crates/script_generator/specs/Generator.antt"
 NUMBERS = "crates/script_lines/specs/Numbers.antt"
 
+# The rows of the table of the longest output: what they count, how many there are at most, and how
+# wide. Four words of a step may make a wait.
+WAIT = "mark 16 100000 16 18446744073709551615 release 4294967295\n"
+STREAM = "stream 16 lost memory entries 4294967295 release 18446744073709551615 token 4294967295 "
+LONGEST = (
+    ("words of steps", product(MOST_STREAMS, MOST_FETCHED),
+     -(-len("step 16" + 4 * " 4095:ffffffff" + "\n" + WAIT) // 4)),
+    ("words of losses", lambda top: MOST_STREAMS(top) * (MOST_RING(top) + MOST_WORDS(top)),
+     len(" 69631:ffffffff")),
+    ("orders and finishes", MOST_FLUSHES, len("order 16 100000 999999\nfinish 16 100000\n")),
+    ("texels", MOST_TEXELS, len("ffffffff ")),
+    ("waits of fences", product(MOST_FENCES, MOST_FLUSHES), len(WAIT)),
+    ("dumps", MOST_ACTIONS, len("dump 16 999999 65535 ffffffff\n")),
+)
+
+
+def other_lines(top: Path) -> int:
+    """The bytes of names, losses without their words, streams and views, where they are most."""
+    of_stream = ("name 16 255 18446744073709551615\n", "lost 16 memory\n",
+                 STREAM + "words 1048576 errors 1048576 1048576 1048576\n")
+    return (len("gpu-journal 2\n") + MOST_STREAMS(top) * sum(map(len, of_stream))
+            + MOST_VIEWERS(top) * ALL_LOOKS(top) * len("view 4 409800016 ffffffff\n"))
+
+
+def longest_output() -> Iterator[Fact]:
+    """The numbers of that table, and of the sentence before it."""
+    for row, count, width in LONGEST:
+        yield Fact(rf"\| {row} \| #", count)
+        yield Fact(rf"\| {row} \| [\d,]+ of #", fixed(width))
+        yield Fact(rf"\| {row} \| [\d,]+ of \d+ bytes \| #", product(count, fixed(width)))
+    yield Fact(r"all others \| \| #", other_lines)
+    yield Fact(r"No output has more than #", lambda top: other_lines(top) + sum(
+        count(top) * width for _, count, width in LONGEST))
+    yield Fact(r"of one word, # steps", LONGEST[0][1])
+    yield Fact(r"steps have # bytes", lambda _: len("step 1 0:ffffffff\n"))
+
+
 FACTS = (
     Fact(r"# bytes (?:were|was) read|bytes of an input \| #|has at most # bytes", MOST_BYTES),
+    Fact(r"it has more than # bytes", MOST_BYTES),
+    Fact(r"ends silently with #|output any more, .* the status is #",
+         found("zorvleid", r"is_unread \|\| exit (\d+)")),
+    Fact(r"output with its script (?:\| |may have )?#|have at most # bytes together",
+         MOST_WHOLE_BYTES),
+    Fact(r"or the input of may have # bytes|out has more than # bytes", MOST_OF_TOOLS),
+    *longest_output(),
     Fact(r"RING is not # to", constant("gpu_cmd/src/areas.rt", "LEAST_RING")),
     Fact(r"RING is not \d+ to #|entries of a ring \| #", MOST_RING),
     Fact(r"# words of one sort|at most # words together|memories of one sort \| #", MOST_WORDS),
@@ -148,16 +205,23 @@ FACTS = (
     Fact(r"\b(?:to|\|) # workers|workers \| #|with N workers, from 1 to #", MOST_WORKERS),
     Fact(r"\b(?:to|\|) # viewers|viewers \| #|with V viewers, from 1 to #", MOST_VIEWERS),
     Fact(
-        r"while (?:it holds )?# notes|are # notes in it|after # posts|that # flushes were posted"
+        r"only while # (?:notes )?wait|are # notes in it|after # posts|[Tt]hat # notes wait"
+        r"|(?:that|take;) # flushes were posted"
         r"|queue has # places",
         MOST_NOTES,
     ),
+    Fact(r"and on # events", found("tools/checks/answers.py", r"^MANY, \w+ = ([\d_]+),")),
+    Fact(r"scripts of above # lines", found("tools/checks/reducing.py", r"^LEAST, \w+ = (\d+),")),
+    Fact(r"bring each below #", found("tools/checks/reducing.py", r"^LEAST, \w+ = \d+, (\d+)")),
     Fact(r"hands # flushes", constant("part_tests/src/tests/queue/posting.rt", "FLUSHES")),
     Fact(r"room for # words from the first", constant("gpu_fetch/src/fetch.rt", "USUAL_ENTRIES")),
     Fact(r"up to # commands", constant("gpu_house/src/batch.rt", "MOST_MEMBERS")),
     Fact(r"viewer has # looks|the # lines of each|viewers, # lines for each", ALL_LOOKS),
     Fact(r"each looks # times", constant("live_view/src/look.rt", "LOOKS")),
-    Fact(r"before # bytes are gathered", constant("run_output/src/page.rt", "PIECE_BYTES")),
+    Fact(
+        r"before # bytes are gathered|once it has # bytes",
+        constant("run_output/src/page.rt", "PIECE_BYTES"),
+    ),
     Fact(r"size up to #|that SIZE, from 1 to #", MOST_SIZE),
     Fact(r"marks over the base #|answered: #", constant("script_main/src/main.rt", "BASE")),
     Fact(r"the same # clauses", CLAUSES),
@@ -168,8 +232,12 @@ FACTS = (
     Fact(r"low # bits", SIZE_BITS),
     Fact(r"id in the other #", ID_BITS),
     Fact(
-        r"[Aa] serial history has at most # events",
-        found("crates/script_laws/specs/Laws.antt", r"most_events p ≤ (\d+)"),
+        r"history has at most # events|events of a run: at most #",
+        found("crates/serial_laws/specs/Laws.antt", r"most_events p ≤ (\d+)"),
+    ),
+    Fact(
+        r"legal history have at most # words",
+        found("crates/script_answers/specs/Laws.antt", r"event_words e\)\) h ≤ (\d+)"),
     ),
     Fact(
         r"block of # values|BASE and PUT are #|and # for even",

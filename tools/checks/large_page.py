@@ -25,8 +25,8 @@ const drawHeld = () => { for (const draw of held.splice(0)) draw(performance.now
 READ = "element('chart').getContext('2d').getImageData(0, 0, 1, 1)"
 
 
-def joined(program: Path) -> str:
-    """The output of one script of two generated ones, each with streams and images of its own."""
+def joined_script(program: Path) -> str:
+    """One script of two generated ones, each with streams and images of its own."""
     script = subprocess.run(
         [program, "generate", *SIZE], capture_output=True, check=True
     ).stdout.decode()
@@ -41,9 +41,13 @@ def joined(program: Path) -> str:
                     words[at] = f"{int(words[at], 16) + 4:x}"
         return " ".join(words)
 
-    both = script + "\n".join(map(moved, script.split("\n")[1:]))
+    return script + "\n".join(map(moved, script.split("\n")[1:]))
+
+
+def joined(program: Path) -> str:
+    """The output of that script."""
     return subprocess.run(
-        [program, "run"], input=both.encode(), capture_output=True, check=True
+        [program, "run"], input=joined_script(program).encode(), capture_output=True, check=True
     ).stdout.decode()
 
 

@@ -60,14 +60,24 @@ COMMANDS = (
      "check 9: the bytes from 5 to 9 go past the end of memory 0, which has 8 (word 00000005 "
                                      "at place 8)"),
     (f"{BUCKET} 00a00007 0 0 0 8 0 4",
-     "check 9: the bytes from 4 to 12 go past the end of result memory 0, which has 8"),
+     "check 9: the bytes from 4 to 12 go past the end of result memory 0, which has 8 (word "
+     "00000008 at place 7)"),
+    (f"{BUCKET} 00a00007 0 0 8 8 0 0",
+     "check 9: the bytes from 8 to 12 go past the end of result memory 0, which has 8 (word "
+     "00000008 at place 6)"),
+    (f"{BUCKET} 00600006 0 0 1000 0 4",
+     "check 9: the bytes from 4 to 4100 go past the end of memory 0, which has 8 (word 00001000 "
+     "at place 6)"),
+    (f"{IMAGE} 20c00009 1 0 0 1 7 4 0 2",
+     "check 9: the bytes from 2 to 9 go past the end of memory 0, which has 8 (word 00000007 "
+     "at place 9)"),
     ("00600006 3 0 4 0 0", "check 11: bucket 3 is not there (word 00000003 at place 1)"),
     (f"{BUFFER} 21000003 0 8", "check 11: buffer 0 is there already (word 00000000 at place 4)"),
     ("21200002 0", "check 11: buffer 0 is not there (word 00000000 at place 1)"),
     (f"{BUCKET} 00600006 0 2 7 0 0",
-     "check 12: bucket 0 has 8 bytes, and the range ends at 9 (the command at place 3)"),
+     "check 12: bucket 0 has 8 bytes, and the range ends at 9 (word 00000007 at place 6)"),
     (f"{IMAGE} {BUCKET} 20e00008 1 0 0 2 2 1 0",
-     "check 12: bucket 0 has 8 bytes, and the range ends at 16 (the command at place 7)"),
+     "check 12: bucket 0 has 8 bytes, and the range ends at 16 (word 00000002 at place 11)"),
     (f"{BUCKET} {BUCKET}", "bucket 0 has 8 bytes already, and keeps them"),
     ("20000003 5 0 20000003 3 0", "the release count stays 5"),
     ("00200002 7 00200002 4", "the token is 4 after 7"),
@@ -81,6 +91,9 @@ stream 1 done entries 8 release 0 token 0 words 8 errors 0 0 1
 """
 FULL_SAID = "; failed, 0505: all images together would have 4,194,305 texels, more than 4,194,304"
 LONG = ("generate", "800", "1")
+LINE = re.compile(
+    r" *(\d+)  stream (\d+)(?: \(\d+, \d+\))?  (?:order (\d+)|no order)  (.+)"
+)
 
 
 def check(top: Path, program: Path, tally: Tally) -> None:
@@ -138,7 +151,7 @@ def fault_of_example(top: Path, path: Path, schema: dict[str, Any]) -> str | Non
         return f"{len(journal)} events, {len(lines)} lines, {len(records)} records"
     known = {words[2]: words[1] for words in journal if words[0] == "order"}
     for number, (words, line, record) in enumerate(zip(journal, lines, records), 1):
-        found = re.fullmatch(r" *(\d+)  stream (\d+)  (?:order (\d+)|no order)  (.+)", line)
+        found = LINE.fullmatch(line)
         if (
             found is None
             or [found[1], found[2]] != [str(number), words[1]]
@@ -159,7 +172,8 @@ def fault_of_example(top: Path, path: Path, schema: dict[str, Any]) -> str | Non
 
 # --- A reader of the few words of JSON Schema that docs/log.schema.json uses ---
 
-KINDS = {"object": dict, "array": list, "string": str, "integer": int, "null": type(None)}
+KINDS = {"object": dict, "array": list, "string": str, "integer": int, "boolean": bool,
+         "null": type(None)}
 KNOWN = {"$schema", "$defs", "$ref", "title", "description", "type", "required",
          "additionalProperties", "properties", "enum", "items", "minimum"}
 
@@ -253,15 +267,17 @@ def check_calls(top: Path, tally: Tally) -> None:
     tally.tell(
         "log of a dropped fence", None if told.endswith(wanted) and "up to PUT 6" in told else told
     )
+    check_names(top, tally)
+    check_unmatched(top, tally)
     for words, text, status, said in (
             (["log", "--command", "ClearRekt"], "", 2,
              "bad command line: argument --command: no command 'ClearRekt'; did you mean "
              "'ClearRect'?"),
             (["log", "--stream", "x"], "", 2,
-             "bad command line: argument --stream: 'x' is no number"),
+             "bad command line: argument --stream: 'x' is no number, and no name NS:ID"),
             (["log"], "x\n", 5, "refused: line 1: "),
             (["log"], "", 5, "refused: the output is empty"),
-            (["log", "names.script"], "", 5, "refused: names.script: line 1: "),
+            (["log", "names.script"], "", 5, "refused: names.script: line 2: this is a script, "),
             (["log", "no\nfile"], "", 3, "read fault: no\\x0afile: no such file"),
             (["log"], "yes events 0\n", 5, "refused: line 1: "),
             (["log", "names.stdout", "--script", "compositor.script"], "", 5,
@@ -279,6 +295,46 @@ def check_calls(top: Path, tally: Tally) -> None:
         tally.tell(f"{' '.join(words)}, which is refused", None if is_told else str(ran))
 
 
+def check_names(top: Path, tally: Tally) -> None:
+    """Streams of version 2 have their names, in words, in JSON, and as a choice."""
+    told = called(top, ["log", "names.stdout"]).stdout.splitlines()
+    wanted = ("1  stream 1 (2, 77)  order 1  ", "; waits for stream 1 (2, 77) to come to release 5",
+              "; ends the wait of number 2 of stream 2 (2, 99) by a release")
+    is_so = all(words in line for words, line in zip(wanted, told))
+    tally.tell("log, the names of streams", None if is_so else str(told))
+    ran = called(top, ["log", "names.stdout", "--stream", "2:99", "--json"])
+    records = [json.loads(line) for line in ran.stdout.splitlines()]
+    names = [(record["event"], record["name"], [wait["name"] for wait in record["waits"]])
+             for record in records]
+    wanted_names = [(2, "2:99", ["2:77"]), (5, "2:99", ["2:77"]), (6, "2:99", [])]
+    fault = unlike((wanted_names, ""), (names, ran.stderr))
+    tally.tell("log, a stream by its name", fault)
+    ran = called(top, ["log", "compositor.stdout", "--stream", "0:3", "--json"])
+    streams = {json.loads(line)["stream"] for line in ran.stdout.splitlines()}
+    tally.tell("log, a stream of version 1 by its name", unlike({3}, streams))
+
+
+def unlike(wanted: object, got: object) -> str | None:
+    """The fault of a thing that is not as it should be, or None."""
+    return None if wanted == got else f"wanted {wanted}, got {got}"
+
+
+def check_unmatched(top: Path, tally: Tally) -> None:
+    """An option that matches no event is named on standard error, and the status is 0."""
+    none: list[str] = []
+    for words, said in (
+            ("names.stdout --stream 9:9", ["--stream 9:9"]),
+            ("compositor.stdout --stream 4 --order 1", ["--stream 4"]),
+            ("compositor.stdout --order 7 --lost --json", ["--order 7", "--lost"]),
+            ("compositor.stdout --command deletebuffer", ["--command DeleteBuffer"]),
+            ("compositor.stdout --failed --waits", ["--failed"]),
+            ("compositor.stdout --stream 1 --command copyrect", ["all options together"]),
+            ("compositor.stdout --stream 1 --order 1", none)):
+        ran = called(top, ["log", *words.split()])
+        notes = "".join(f"note: no event matches {option}\n" for option in said)
+        tally.tell(f"log {words}", unlike((0, notes), (ran.returncode, ran.stderr)))
+
+
 def check_progress(top: Path, program: Path, tally: Tally) -> None:
     """A long log shows its progress on a terminal, and then clears it."""
     script = subprocess.run([program, *LONG], capture_output=True, check=True).stdout
@@ -294,5 +350,6 @@ def check_progress(top: Path, program: Path, tally: Tally) -> None:
         told = os.read(master, 1 << 16).decode()
         os.close(master)
         is_quiet = ran.returncode == 0 and not ran.stdout
-        is_so = is_quiet and "\r5,000 of 22,416 events" in told and told.endswith("\r\033[K")
+        end = "\r\033[Knote: no event matches --lost\r\n"
+        is_so = is_quiet and "\r5,000 of 22,416 events" in told and told.endswith(end)
         tally.tell("log, far on a terminal", None if is_so else repr(told))

@@ -5,14 +5,11 @@ import shutil
 import subprocess
 from pathlib import Path
 
+from command_line.table import COMMANDS as TABLE
 from tools.checks.tally import Tally
 
-COMMANDS = ("run", "check", "generate", "trial", "verify", "pictures", "timeline", "log", "compare",
-            "explain",
-            "assemble", "disassemble", "--help", "--version")
-OPTIONS = ("--into", "--scale", "--at", "--trace", "--page", "--script", "--json", "--stream",
-           "--order", "--command", "--failed", "--lost", "--waits", "--program", "--whole",
-           "--await")
+COMMANDS = (*TABLE, "--help", "--version")
+OPTIONS = sorted({option.name for command in TABLE.values() for option in command.options})
 STATUSES = (*range(1, 12), 126, 127)
 EXAMPLE = re.compile(r"examples/\w+\.(?:script|stdout)")
 SENTENCES = range(3, 7)
@@ -27,6 +24,7 @@ def check(top: Path, program: Path, tally: Tally) -> None:
     check_text(
         "the manual page", source.replace("Fl -", "--").replace(r"\&", ""), r"\.It (?:Cm )?", tally
     )
+    check_synopsis(source, tally)
     check_status_line(top, program, tally)
     check_examples(top, tally)
     if shutil.which("mandoc") is None:
@@ -36,6 +34,21 @@ def check(top: Path, program: Path, tally: Tally) -> None:
         ["mandoc", "-T", "lint", "-W", "warning", page], capture_output=True, text=True, check=False
     )
     tally.tell("the manual page, by mandoc", told.stdout.strip() or None)
+
+
+def check_synopsis(source: str, tally: Tally) -> None:
+    """The synopsis has each command of the table, with its options and its operands."""
+    part = source.partition(".Sh SYNOPSIS\n")[2].partition(".Sh DESCRIPTION\n")[0]
+    for name, command in TABLE.items():
+        lines = "".join(
+            lines for lines in part.split(".Nm\n") if lines.startswith(f".Cm {name}\n"))
+        named = [f"Fl -{option.name.lstrip('-')}" for option in command.options]
+        named += [" ".join(["Ar", *(value.name for value in command.operands)])] * bool(
+            command.operands and not command.may_lack)
+        whole = lines.replace("| -", "| Fl -")  # of options of which one alone may stand
+        lost = [words for words in named if words not in whole]
+        fault = f"it lacks {lost}" if lost else None if lines else "it is not there"
+        tally.tell(f"the synopsis of {name}", fault)
 
 
 def check_text(name: str, text: str, before: str, tally: Tally) -> None:
@@ -57,7 +70,7 @@ def check_status_line(top: Path, program: Path, tally: Tally) -> None:
     """Wrong words are reported in one line."""
     for words in (["timeline"], ["compare", "x"], ["log", "--json=1"], ["pictures", "--scale", "0"],
                   ["pictures", "--in", "x"],
-                  ["explain", "x"]):
+                  ["explain", "x", "y", "z"]):
         ran = subprocess.run(
             [top / "zorvleid", *words], input=b"", capture_output=True, check=False
         )

@@ -1,12 +1,11 @@
-"""Checks that the sources answer 'out of memory' only where an allocation was refused.
+"""Checks that the sources make no refusal of an allocation of their own.
 
-No contract ties this answer to a cause, so a body that gives it without need would be proved. This
-search finds each place of the sources that makes such an answer, but for tests: a `Memory` of any
-type, a status for it, and the name of a function that loses a stream for it, however it is called
-or passed on. Each place must be in the list PLACES with its reason, its function and its guard. The
-guard is the nearest line before it with a smaller indent, as the head of an `if` or of a `match`.
-Each place of the list must exist. Declarations, patterns, clauses and types are no answers. `?`
-passes on an answer made elsewhere; the bodies of `From` are places.
+`Memory` of gpu_word has a private field, and is neither `Clone` nor `Copy` nor `Default`. So one
+comes from a refusal of the library alone: by `From`, of an `AllocError` or an `AllocFailed`. Two
+words are left to look at. `AllocError` has no private field, so a source could make one. And
+`of_too_many` asks the library for a list that no machine can hold, for a count that would run over.
+Each function of the sources that uses one of them, but for tests, must be in the table with its
+reason, and each function of the table must use it.
 """
 
 import re
@@ -15,85 +14,57 @@ from pathlib import Path
 
 from tools.checks.tally import Tally
 
-PLACES = Path(__file__).with_name("memory_places.txt")
+REASONS = {
+    ("live_view/absorbing.rt", "absorb_first", "AllocError"):
+        "the kit names this error; the images gave a refusal",
+    ("live_view/copies.rt", "hand_over", "AllocError"):
+        "the kit gives an operation back where the library refused the room for it",
+    ("live_view/copies.rt", "end_version", "AllocError"):
+        "the kit gives an operation back where the library refused the room for it",
+    ("gpu_journal/journal.rt", "reserve_words", "of_too_many"): "2^32 words of all events",
+    ("house_core/core_of.rt", "take_room", "of_too_many"): "2^64 events",
+    ("journal_verify/entering.rt", "draw", "of_too_many"): "a lost stream, and this one is open",
+    ("journal_text/sheet.rt", "make", "of_too_many"): "2^64 bytes",
+    ("journal_text/text.rt", "journal_text", "of_too_many"): "2^64 bytes",
+    ("live_view/writer.rt", "publish", "of_too_many"): "2^64 versions",
+    ("script_lines/names.rt", "mention", "of_too_many"): "2^32 names",
+    ("seq_sched/scheduler.rt", "make", "of_too_many"): "2^32 streams",
+    ("sync_core/sync.rt", "wait", "of_too_many"): "2^64 waits of one order number",
+    ("wait_hooks/hooks.rt", "reserve", "of_too_many"): "2^64 marks",
+}  # fmt: skip
+
 REMARK = re.compile(r"//[^\n]*")
-CLAUSE = re.compile(r"\b(?:requires|ensures|invariant|decreases|ghost \w+ =)\s*(?:\w+\s*)?\{")
-NO_ANSWER = re.compile(
-    r"(?:pub(?:\(crate\))? )?(?:use|ghost|mod|fn|struct|enum|trait|impl)\b|#!?\[|[A-Z]\w*,$"
-)
-TYPE = re.compile(r"Result<.*?\bMemory>|: Memory\b")
-ANSWER = re.compile(r"\b(?:Memory|NoMemory|MemoryLost)\b(?!::)|"
-                    r"\b(?:no_memory|lose|lose_client|lose_for_memory)\b")
 FUNCTION = re.compile(r"\bfn (\w+)")
+TYPE = re.compile(r"\buse [^;]*;|\bResult<.*\bAllocError>|: AllocError\b|\bFrom<AllocError>")
+WORD = re.compile(r"\b(?:AllocError|of_too_many)\b")
 
 
-def blanked(text: str) -> str:
-    """A text with its remarks and its clauses as blanks."""
-    text = REMARK.sub(lambda found: " " * len(found[0]), text)
-    at = 0
-    while (found := CLAUSE.search(text, at)) is not None:
-        depth, end = 1, found.end()
-        while depth and end < len(text):
-            depth += (text[end] == "{") - (text[end] == "}")
-            end += 1
-        text = text[:found.start()] + re.sub(r"[^\n]", " ", text[found.start():end]) + text[end:]
-        at = end
-    return text
-
-
-def indent(line: str) -> int:
-    return len(line) - len(line.lstrip())
-
-
-def guard_of(lines: list[str], at: int) -> str:
-    """The nearest line before this one that is indented less."""
-    for line in reversed(lines[:at]):
-        if line.strip() not in ("", "{") and indent(line) < indent(lines[at]):
-            return line.strip()
-    return ""
-
-
-def places_of_file(name: str, text: str) -> Iterator[tuple[str, str, str]]:
-    """Each place of a source: the file with the function, the guard and the line."""
-    lines, function = blanked(text).split("\n"), ""
-    for at, line in enumerate(lines):
+def uses_of(name: str, text: str) -> Iterator[tuple[str, str, str]]:
+    """Each use of a word in a source: the file, the function and the word."""
+    function = ""
+    for line in REMARK.sub("", text).split("\n"):
         found = FUNCTION.search(line)
         function = found[1] if found else function
-        answer = TYPE.sub("", line.strip()).split("=>")[-1].strip()
-        if not NO_ANSWER.match(answer) and ANSWER.search(answer):
-            yield f"{name} {function}", guard_of(lines, at), line.strip()
+        for word in WORD.findall(TYPE.sub("", line)):
+            if function != word:
+                yield name, function, word
 
 
-def places_of(top: Path) -> Iterator[tuple[str, str, str]]:
+def uses(top: Path) -> Iterator[tuple[str, str, str]]:
     for path in sorted((top / "crates").glob("*/src/**/*.rt")):
         inner = path.relative_to(top / "crates")
-        if "tests" not in inner.parts and path.stem != "tests":
-            name = inner.as_posix().replace("/src/", "/")
-            yield from places_of_file(name, path.read_text(encoding="utf-8"))
-
-
-def allowed() -> dict[tuple[str, str, str], str]:
-    """The places of the list with their reasons.
-
-    A block has a line for the place, the guard and the line; then comes the reason.
-    """
-    places: dict[tuple[str, str, str], str] = {}
-    for block in PLACES.read_text(encoding="utf-8").split("\n\n"):
-        parts = [line.strip() for line in block.strip().split("\n") if not line.startswith("#")]
-        if parts:
-            assert len(parts) >= 4, f"{PLACES.name} has no reason for {parts}"
-            places[parts[0], parts[1], parts[2]] = " ".join(parts[3:])
-    return places
+        if "tests" not in inner.parts and not inner.parts[0].endswith("_tests"):
+            yield from uses_of(
+                inner.as_posix().replace("/src/", "/"), path.read_text(encoding="utf-8")
+            )
 
 
 def check(top: Path, program: Path, tally: Tally) -> None:
-    known, found = allowed(), list(places_of(top))
-    for place in found:
-        where, guard, line = place
-        fault = f"out of memory is answered after `{guard}`, and no reason is listed"
-        tally.tell(f"crates/{where}: {line}", None if place in known else fault)
-    for place in known:
-        if place not in found:
-            tally.tell(
-                f"crates/{place[0]}: {place[2]}", f"{PLACES.name} lists it, and it is not there"
-            )
+    found = set(uses(top))
+    for name, function, word in sorted(found | set(REASONS)):
+        fault = None
+        if (name, function, word) not in REASONS:
+            fault = f"it uses `{word}`, and tools/checks/memory.py has no reason for it"
+        elif (name, function, word) not in found:
+            fault = f"tools/checks/memory.py says that it uses `{word}`, and it does not"
+        tally.tell(f"crates/{name}: {function}", fault)

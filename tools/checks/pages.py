@@ -244,7 +244,7 @@ def check_pictures(look: Looker, top: Path, text: str) -> None:
               ["event 14", "event 15"])
     look.value("pick(imageAt(3, 15), 2, 2)")
     look.tell("who wrote texel 2, 2", re.findall(r"event \d+", look.text("#texel ul")),
-              ["event 14", "event 15", "event 16"])
+              ["event 14", "event 15", "event 16", "event 5"])
     look.value("document.querySelector('[data-image=\"3\"]').focus()")
     page.key("ArrowRight")
     look.tell("the texel after a key", look.text("#texel h3"), "Texel 3, 2 of image 3: d9534fff")

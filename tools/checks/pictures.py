@@ -74,16 +74,16 @@ def check_wrapper(top: Path, tally: Tally) -> None:
             else f"{ran} left {written}"
         )
         tally.tell("pictures of the compositor", fault)
-        ran = subprocess.run([*tool, "--into", "none"], input=output[:-1], capture_output=True,
-                             cwd=folder, check=False)
-        last = output.count(b"\n")
+        ran = subprocess.run([*tool, "--into", "none"], input=output + b"more\n",
+                             capture_output=True, cwd=folder, check=False)
+        last = output.count(b"\n") + 1
         is_told = (
             ran.returncode == 5
             and ran.stderr.startswith(b"refused: line %d: " % last)
             and ran.stderr.count(b"\n") == 1
         )
         is_told = is_told and not Path(folder, "none").exists()
-        tally.tell("pictures of an output without its end", None if is_told else str(ran))
+        tally.tell("pictures of an output with a line too many", None if is_told else str(ran))
         ran = subprocess.run([*tool, "--into", "/dev/null/none"], input=output, capture_output=True,
                              cwd=folder, check=False)
         tally.tell("pictures into no folder",

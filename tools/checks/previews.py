@@ -1,4 +1,7 @@
-"""tools/preview with a stub for `rt try`, which says what the real one says."""
+"""tools/preview with a stub for the toolchain, which says what the real one says.
+
+The stub may make a program for a while, as the real one does. Then the program is kept.
+"""
 
 import os
 import shutil
@@ -12,19 +15,24 @@ from pathlib import Path
 from .tally import Tally
 
 STUB = r"""#!{python} -S
-import os, sys
+import os, shutil, sys, tempfile, time
+if sys.argv[1:] == ["version"]:
+    print(os.environ.get("KIT", "a kit"))
+    sys.exit(0)
 assert sys.argv[1:3] == ["try", "--seconds"] and sys.argv[4] == "--"
 assert os.getcwd().endswith("crates/script_main")
+if "MADE" in os.environ:
+    with tempfile.TemporaryDirectory() as folder:
+        shutil.copy(os.environ["MADE"], folder + "/program")
+        time.sleep(0.5)
 said, status = os.environ["SAID"], int(os.environ["STATUS"])
 if "run=ended" in said:
     print(*sys.argv[5:], sys.stdin.read(), sep="/", end="")
 sys.stderr.write(said)
 sys.exit(status)
 """
-NOTICE = (
-    "preview: not proved; sanitizer on; at most 1 MiB of output; "
-    "compiling takes one to two minutes\n"
-)
+NOTICE = "preview: unproved; sanitizer on\n"
+COMPILING = "preview: unproved; sanitizer on; compiling takes one to two minutes\n"
 NO_RACES = "races: not looked for, since a kit has no ThreadSanitizer\n"
 TOO_MUCH = f"""the end of the program's standard output:
 | order 1 1 11
@@ -110,9 +118,13 @@ Ran = Callable[[str, dict[str, str]], tuple[int, str, str]]
 
 def previews(top: Path, folder: Path) -> Ran:
     """Makes a tree with the real tools/preview in a folder, and gives what runs it on words."""
-    for it in ("copy/tools", "copy/crates/script_main", "bin"):
+    for it in ("copy/tools", "copy/crates/script_main/src", "bin"):
         (folder / it).mkdir(parents=True)
-    shutil.copy2(top / "tools/preview", folder / "copy/tools")
+    for name in ("preview", "preview.py", "__init__.py", "places.py"):
+        shutil.copy2(top / "tools" / name, folder / "copy/tools")
+    unwanted = shutil.ignore_patterns("__pycache__")
+    shutil.copytree(top / "tools/building", folder / "copy/tools/building", ignore=unwanted)
+    (folder / "copy/crates.txt").write_text("script_main:\n", encoding="utf-8")
     (folder / "a.script").write_text("of the file", encoding="utf-8")
     (folder / "bin/python3").symlink_to(sys.executable)
 
@@ -147,12 +159,54 @@ def check(top: Path, program: Path, tally: Tally) -> None:
         (folder / "bin/rt").write_text(STUB.replace("{python}", sys.executable), encoding="utf-8")
         (folder / "bin/rt").chmod(0o755)
         for case, wanted in CASES:
-            whole = (wanted.status, wanted.output, NOTICE + wanted.after)
+            whole = (wanted.status, wanted.output, COMPILING + wanted.after)
             tell(case.words, whole, **case.variables)
         tell("run b.script", (3, "", "read fault: b.script: no such file\n"))
         tell("run copy", (3, "", "read fault: copy: it is a folder\n"))
         usage = "tools/preview takes the words of a command, as in tools/preview run FILE\n"
         tell("", (2, "", usage))
-        left = sorted(os.listdir(folder))
+        left = [*sorted(os.listdir(folder)), *sorted(os.listdir(folder / KEPT))]
         stays = ["a.script", "bin", "copy"]
         tally.tell("what previews leave", None if left == stays else f"there are {left}")
+        check_kept(folder, program, run, tally)
+
+
+# --- Programs that are kept ---
+
+KEPT = "copy/crates/script_main/out/preview"
+SCRIPT = "gpu-script 1\nstream 1 normal 16\nflush 0\n"
+ANSWER = "ok streams 1 actions 1 flushes 1\n"
+
+
+def check_kept(folder: Path, program: Path, run: Ran, tally: Tally) -> None:
+    """A program that works is kept until a source or the toolchain changes."""
+    (folder / "a.script").write_text(SCRIPT, encoding="utf-8")
+    source = folder / "copy/crates/script_main/src/main.rt"
+    stub = Case("check a.script", ended(0)).variables | {"MADE": str(program)}
+    by_stub = (0, f"check/{SCRIPT}", COMPILING)
+    by_kept = (0, ANSWER, NOTICE)
+    much = {**stub, "SAID": TOO_MUCH, "STATUS": "6"}
+
+    def tell(
+        what: str, wanted: tuple[int, str, str], variables: dict[str, str], files: int
+    ) -> None:
+        got, left = run("check a.script", variables), os.listdir(folder / KEPT)
+        fault = None if got == wanted else f"{wanted} is wanted, and it is {got}"
+        tally.tell(f"a preview {what}", fault or (None if len(left) == files else f"kept: {left}"))
+
+    tell("of a toolchain whose program does nothing", by_stub, {**stub, "MADE": "/bin/true"}, 0)
+    tell("that is the first one", by_stub, stub, 1)
+    tell("after it", by_kept, stub, 1)
+    source.write_text("edited", encoding="utf-8")
+    tell("after an edit", by_stub, stub, 1)
+    tell("after that", by_kept, stub, 1)
+    tell("with another toolchain", by_stub, {**stub, "KIT": "another"}, 1)
+    source.write_text("edited again", encoding="utf-8")
+    tell("with too much output", (0, ANSWER, COMPILING + NOTICE), much, 1)
+    kept = next((folder / KEPT).iterdir())
+    kept.write_text("#!/bin/sh\nkill -ABRT $$\n", encoding="utf-8")
+    tell("of a kept program that stops", (0, f"check/{SCRIPT}", NOTICE + COMPILING), stub, 1)
+    shutil.rmtree(folder / KEPT)
+    (folder / KEPT).write_text("")
+    got = run("check a.script", stub)
+    tally.tell("a preview that can keep nothing", None if got == by_stub else f"it is {got}")

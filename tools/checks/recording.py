@@ -1,4 +1,4 @@
-"""The recorders of include/zorvleid_record.h: they compile, and what they write is taken.
+"""The recorders of include/: they compile, and what they write is taken.
 
 Each program is compiled as C99 and as C++, with an address sanitizer where the compiler has one.
 Without a compiler all of it is skipped.
@@ -12,6 +12,7 @@ from typing import Any
 
 from tools.checks import refusing
 from tools.checks.tally import Tally
+from zorvleid import Script, disassemble, read_script
 
 CLIENT, SERVICE, CALLS = (
     "examples/record/client.c",
@@ -28,9 +29,10 @@ HEADERS = {  # what a compiler brings along, for one that has come without
     "#undef NULL\n#define NULL 0\n",
     "stdarg.h": "typedef __builtin_va_list __gnuc_va_list;\ntypedef __builtin_va_list va_list;\n",
 }
+BYTES = bytes([1, 2, 3, 4, 5, 255, *[0] * 63, 9])
 COPY = b"image 2 8 4\n" + (b" ".join([b"d9534fff"] * 8) + b"\n") * 4
 CHECKED = b"ok streams 3 actions 4109 flushes 3\n"
-BROKEN = "event 5 of the journal, line 13 of the input, breaks rule 5:"
+BROKEN = "event 5 of the journal, line 16 of the input, breaks rule 5:"
 JOURNAL = b"""gpu-journal 2
 name 1 255 18446744073709551615
 name 2 0 0
@@ -149,8 +151,59 @@ def check_service(top: Path, program: Path, made: Path) -> Iterator[tuple[str, s
     yield "its usage", told(ran, ran.returncode == 2 and ran.stderr.count(b"\n") == 1)
 
 
+def commands_by_calls() -> Script:
+    """The script of `record_calls commands`, made by the calls of the Python package."""
+    script = Script()
+    r = script.stream(ring=64)
+    r.memory(1, 8)
+    r.results(2, 8)
+    r.results(3, 8)
+    r.set_token(token=5)
+    r.set_bucket_size(bucket=3, size=70)
+    r.set_bucket_data(bucket=3, offset=8, size=4, memory=1, memory_offset=12)
+    r.set_bucket_data_immediate(bucket=3, offset=0, data=BYTES)
+    r.get_bucket_start(bucket=3, result_memory=2, result_offset=4, data_size=12, data_memory=3,
+                       data_offset=16)
+    r.get_bucket_data(bucket=3, offset=1, size=6, memory=2, memory_offset=8)
+    r.flush()
+    r.token(5)
+    r.insert_fence(release=7)
+    r.finish()
+    r.insert_fence(release=0x100000008)
+    r.wait_token(stream=2, release=0x200000003)
+    r.create_image(image=1, width=4, height=3)
+    r.create_image(image=2, width=5, height=6)
+    r.clear_rect(image=1, x=1, y=2, w=3, h=1, texel=0x336699FF)
+    r.flush()
+    r.finish()
+    r.copy_rect(source=1, x=0, y=1, target=2, x2=3, y2=4, w=2, h=1)
+    r.upload_rect(image=1, x=1, y=0, w=2, h=3, format="RGB565", memory=1, memory_offset=6)
+    r.upload_bucket(image=2, x=1, y=2, w=3, h=4, format="RGBA4444", bucket=3)
+    r.create_buffer(buffer=4, size=80)
+    r.flush()
+    r.finish()
+    r.buffer_data(buffer=4, offset=10, size=5, memory=1, memory_offset=3)
+    r.upload_buffer(image=1, x=0, y=1, w=3, h=2, format="RGBA8", buffer=4, offset=7)
+    r.delete_buffer(buffer=4)
+    r.delete_image(image=2)
+    r.noop(size=3)
+    r.noop()
+    r.wait_sync_token(namespace=9, id=0x300000004, release=0x500000006)
+    r.flush()
+    return script
+
+
+def fault_of_commands(ran: "subprocess.CompletedProcess[bytes]") -> str | None:
+    """The commands of a ring in C are those of a ring in Python."""
+    wanted, got = disassemble(commands_by_calls()), disassemble(read_script(ran.stdout))
+    if ran.returncode == 0 and wanted == got:
+        return None
+    return f"it ends with {ran.returncode}, and the script of it is\n{got}"
+
+
 def check_recorded(top: Path, program: Path, made: Path) -> Iterator[tuple[str, str | None]]:
     script, journal = run([made, "script"]), run([made, "journal"])
+    yield "each command by its call", fault_of_commands(run([made, "commands"]))
     ran = run([program, "check"], script.stdout)
     yield "each call of a script", told(ran, script.returncode == 0 and ran.stdout == CHECKED)
     yield "each call of a journal", told(

@@ -12,6 +12,8 @@ from tools.places import PROGRAM
 
 COMMANDS = ("sh", "cat", "dirname", "readlink", "mktemp", "head", "rm", "python3")
 LINK = re.compile(r"\]\(([^)\s#:]+)[^):]*\)")
+MADE = ("page.html", "trace.json")  # by the runs of this check
+STRANGE = ("tools/", "crates/", ".ci/", "first run proves", "preview")  # what a release has not
 LEFT_OUT = (".git", "out", "__pycache__", "cases", "crates", "bench")
 TIME = "2020-01-01T00:00:00Z"
 
@@ -142,6 +144,7 @@ def check_unpacked(top: Path, archive: Path, folder: Path, commit: str, tally: T
     )
     run(["--version"], b"", version.encode(), "version")
     check_links(there, tally)
+    check_readme(there, tally)
     checker = ["sha256sum", "--check", "--quiet", "SHA256SUMS"]
     sums = subprocess.run(checker, cwd=there, capture_output=True, text=True, check=False)
     tally.tell("the release, its sums", sums.stderr.strip() or sums.stdout.strip() or None)
@@ -154,6 +157,24 @@ def check_unpacked(top: Path, archive: Path, folder: Path, commit: str, tally: T
               "view/pages/chart.js"}
     tally.tell("the release, its files",
                None if packed <= listed else f"it lacks {sorted(packed - listed)}")
+
+
+def check_readme(there: Path, tally: Tally) -> None:
+    """The README names all that is packed at the top, and nothing that is not packed."""
+    text = (there / "README.md").read_text(encoding="utf-8")
+    found = re.findall(r"(?:`|\./|(?=examples/))([\w/]+(?:\.\w+)*)", text)
+    paths = sorted({name for name in found if "/" in name or "." in name})
+    lost = [name for name in paths if not (there / name).exists()]
+    tally.tell("the README of the release, its paths",
+               f"{lost} are not packed" if lost else None if paths else "it has none")
+    named = re.findall(r"[\w.]+", " ".join(re.findall(r"^\| (.*?) \|", text, re.MULTILINE)))
+    silent = [path.name for path in there.iterdir()
+              if path.name not in (*named, "README.md", *MADE)]
+    tally.tell("the README of the release, what is packed",
+               f"it does not name {sorted(silent)}" if silent else None)
+    strange = [word for word in STRANGE if word in text]
+    tally.tell("the README of the release, its words",
+               f"it speaks of {strange}" if strange else None)
 
 
 def check_links(there: Path, tally: Tally) -> None:

@@ -2,8 +2,8 @@
 
 The stub keeps others out of the folders of its crate and of those below, as the toolchain does, but
 fails where that would wait. It fails too where a library below is missing. It makes its own library
-in two steps, with a rest between them. The crates of STUB_TOGETHER rest until all of them have
-begun, for a while. STUB_FAULT is CRATE:FAULT.
+in two steps, with a rest between them, and keeps work unless it is to write statements alone. The
+crates of STUB_TOGETHER rest until all of them have begun, for a while. STUB_FAULT is CRATE:FAULT.
 """
 
 import contextlib
@@ -40,6 +40,10 @@ if verb == "version":
 def log(*words):
     with open("{log}", "a") as file:
         print(*words, file=file)
+if verb == "must-fail":
+    folder = "crates/" + sys.argv[2]
+    log("tried", sys.argv[2], 0, 0, os.path.exists(folder + "/out/incremental/kept"))
+    sys.exit(int("let_through.edit" in os.listdir(folder + "/must-fail")))
 rows = [line.partition(":") for line in open("../../crates.txt")]
 for name in sorted(row[0].split()[0] for row in rows):
     fcntl.flock(os.open("../" + name, os.O_RDONLY), fcntl.LOCK_EX | fcntl.LOCK_NB)
@@ -51,9 +55,11 @@ if verb == "lib" and os.path.exists(stamp) and open(stamp).read() == sources:
     log("stands", crate)
     sys.exit(0)
 had_kept = os.path.exists("out/incremental/kept")
-os.makedirs("out/incremental", exist_ok=True)
-open("out/incremental/kept", "w").close()
-log("begin", crate, sys.argv[3], os.getpid(), had_kept)
+states = "ZORVLEID_STATEMENTS" in os.environ
+if not states:
+    os.makedirs("out/incremental", exist_ok=True)
+    open("out/incremental/kept", "w").close()
+log("begin", crate, sys.argv[3], os.getpid(), had_kept, states)
 made = "out/" + crate if verb == "run" else rlib + "/format"
 os.makedirs(rlib if verb == "lib" else "out", exist_ok=True)
 open(made, "w").write("#!/bin/sh\nexit 2\n")
@@ -86,13 +92,14 @@ sys.exit(2 if verb == "run" else 0)
 
 @dataclass(frozen=True)
 class Event:
-    """A line of the stub's log: a crate begins, ends or stands."""
+    """A line of the stub's log: a crate begins, ends or stands, or its wrong bodies are tried."""
 
     kind: str
     crate: str
     jobs: int = 0
     process: int = 0
     had_kept: bool = False
+    states: bool = False
 
     def goes_on(self) -> bool:
         """Whether the process that began is there, and has not ended unseen."""
@@ -116,7 +123,8 @@ class Place:
         found = []
         for kind, crate, *more in map(str.split, lines[after:]):
             jobs, process = map(int, more[:2] or (0, 0))
-            found.append(Event(kind, crate, jobs, process, more[2:] == ["True"]))
+            flags = [it == "True" for it in more[2:]]
+            found.append(Event(kind, crate, jobs, process, *flags))
         return found
 
     def begun(self, after: int = 0) -> list[str]:
@@ -128,8 +136,11 @@ class Place:
 
     def build(self, *words: str, **more: str) -> "subprocess.CompletedProcess[str]":
         """Runs tools/build with these words, and these variables beside its own."""
+        return self.run("build", *words, **more)
+
+    def run(self, tool: str, *words: str, **more: str) -> "subprocess.CompletedProcess[str]":
         return subprocess.run(
-            [self.top / "tools/build", *words],
+            [self.top / "tools" / tool, *words],
             capture_output=True,
             text=True,
             check=False,
@@ -152,6 +163,17 @@ class Place:
 
     def edit(self, crate: str) -> None:
         (self.top / "crates" / crate / "src/lib.rt").write_text("edited\n", encoding="utf-8")
+
+    def add_body(self, crate: str, name: str) -> None:
+        """Adds a wrong body, which the stub lets through if that is its name."""
+        folder = self.top / "crates" / crate / "wrong-bodies"
+        folder.mkdir(exist_ok=True)
+        (folder / f"{name}.edit").write_text("file: src/lib.rt\n", encoding="utf-8")
+
+    def keep(self, crate: str) -> None:
+        """Leaves what a check keeps of a crate."""
+        self.out(crate, "incremental").mkdir(parents=True)
+        self.out(crate, "incremental/kept").touch()
 
     def await_begin(self, crate: str) -> None:
         for _ in range(2400):
@@ -183,7 +205,8 @@ class Place:
 def furnish(top: Path, made: Path) -> None:
     """Makes the repository in a folder, with the tools of the real one."""
     (made / "tools").mkdir(parents=True)
-    for name in ("build", "prove_crates", "prove_crates.py", "__init__.py", "places.py"):
+    for name in ("build", "prove_crates", "prove_crates.py", "wrong_bodies", "wrong_bodies.py",
+                 "__init__.py", "places.py"):
         shutil.copy2(top / "tools" / name, made / "tools" / name)
     unwanted = shutil.ignore_patterns("__pycache__")
     shutil.copytree(top / "tools/building", made / "tools/building", ignore=unwanted)

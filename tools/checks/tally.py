@@ -22,6 +22,11 @@ class Tally:
         if not self.quiet:
             print(f"failed: {name}: {fault}", flush=True)
 
+    def add(self, passed: int, failed: int) -> None:
+        """Counts items that another check has told."""
+        self.passed += passed
+        self.failed += failed
+
     def tell_all(self, name: str, faults: Iterable[tuple[str, str | None]]) -> None:
         """Counts a thing that was tried in many ways: one item, or each place with a fault."""
         faults = list(faults)

@@ -93,7 +93,7 @@ def lines_of(trace: Iterable[bytes]) -> Iterator[str]:
 
 def records_of(trace: Iterable[bytes]) -> Iterator[Record]:
     """The events of a trace, each of which is a line, with a comma after each but the last."""
-    lines, decode = lines_of(trace), json.JSONDecoder().decode
+    lines, decode = lines_of(trace), json.JSONDecoder().raw_decode
     if next(lines, "") != HEAD:
         raise Fault("it has another head")
     is_last = False
@@ -102,9 +102,11 @@ def records_of(trace: Iterable[bytes]) -> Iterator[Record]:
             return
         if is_last:
             raise Fault(f"a comma is missing before {line!r}")
-        is_last = not line.endswith(",")
+        record, end = decode(line) if line else ({}, 0)
+        is_last = line[end:] == ""
+        if not is_last and line[end:] != ",":
+            raise Fault(f"more than an event stands in {line!r}")
         if line:
-            record: Record = decode(line.removesuffix(","))
             yield record
     raise Fault("it has no end")
 

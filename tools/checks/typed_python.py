@@ -15,7 +15,7 @@ from pathlib import Path
 from tools.checks.tally import Tally
 
 PACKAGES = ("tools", "tests", "bench", "view", "command_line", "python/zorvleid")
-SCRIPTS = ("tools/preview", "bench/once", "python/pack_zorvleid.py")
+SCRIPTS = ("bench/once", "python/pack_zorvleid.py")
 COMMANDS = ([sys.executable, "-m", "mypy"], ["mypy"])
 ENVIRONMENT = {name: text for name, text in os.environ.items() if name != "PYTHONPATH"}
 

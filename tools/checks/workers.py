@@ -34,7 +34,7 @@ from tests.model_script import Reader
 from tools.checks.tally import Tally
 from tools.places import SECONDS
 
-INPUT_AT_MOST = 16_777_216
+INPUT_AT_MOST, WHOLE_AT_MOST = 16_777_216, 67_108_864
 COUNTS = (1, 2, 4, 8)
 CASES = "tests/cases"
 FOLDERS = ("hostile", "lost", "refused", "results", "runs", "waits")
