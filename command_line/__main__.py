@@ -8,7 +8,7 @@ import os
 import signal
 import sys
 
-from . import help, judge, version
+from . import help, judge
 from .marks import printable
 from .table import COMMANDS, TOP
 
@@ -32,7 +32,7 @@ def write(text: str) -> int:
 
 def start(words: list[str]) -> int:
     """Puts the tool of a command in the place of this process."""
-    tool = COMMANDS[words[0]].tool
+    tool = COMMANDS[words[0]].tool_for(words[1:])
     try:
         os.execv(TOP / tool[0], [str(TOP / tool[0]), *tool[1:], *words[1:]])
     except OSError as error:
@@ -42,7 +42,8 @@ def start(words: list[str]) -> int:
 
 def answer(words: list[str]) -> int:
     """Answers the words after the name of the program."""
-    if words and words[0] in COMMANDS and not {"--help", "-h"}.isdisjoint(words[1:]):
+    own = words[:words.index("--")] if "--" in words else words
+    if own and own[0] in COMMANDS and not {"--help", "-h"}.isdisjoint(own[1:]):
         words = ["help", words[0]]
     if (why := judge.reason(words)) is not None:
         print(f"bad command line: {printable(why)}", file=sys.stderr)
@@ -50,14 +51,21 @@ def answer(words: list[str]) -> int:
     if words[0] in judge.HELP:
         return write(help.text(words[1:]))
     if words[0] in judge.VERSION:
+        from . import version  # it starts processes, which takes long to be read
+
         return write(version.text())
-    return start(words) if COMMANDS[words[0]].tool else 0
+    return start(words) if COMMANDS[words[0]].tool_for(words[1:]) else 0
 
 
 def main() -> int:
     """Answers the words of this process. A fault of this package itself is a line too."""
+    held = (signal.SIGINT,)  # by the shell script, until Python can answer it
     try:
-        return answer(sys.argv[1:])
+        try:
+            signal.pthread_sigmask(signal.SIG_UNBLOCK, held)
+            return answer(sys.argv[1:])
+        finally:
+            signal.pthread_sigmask(signal.SIG_BLOCK, held)
     except KeyboardInterrupt:
         return 128 + signal.SIGINT
     except Exception as fault:

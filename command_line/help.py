@@ -10,7 +10,7 @@ STATUSES = """\
 Where the status is not 0, a line on standard error says why:
 
     1   all was written, and a stream was lost     7   the input is too long
-    2   the words are no command line              8   a stream was lost as out of memory
+    2   the words are wrong, or harm an input      8   a stream was lost as out of memory
     3   standard input or a named file failed      9   the journal breaks a rule, or a line is off
     4   standard output or a file failed          10   the journal is legal and not complete
     5   the input is no script, or no output      11   the journal is missing, or is none
@@ -24,12 +24,13 @@ Examples:
     ./zorvleid run examples/compositor.script | ./zorvleid pictures --into pictures --scale 16
     ./zorvleid run examples/compositor.script | ./zorvleid timeline --page timeline.html
     ./zorvleid run examples/lost_stream.script | ./zorvleid log --script examples/lost_stream.script
-    (cat examples/names.script; echo journal; sed 's/^order 2 2/order 2 3/' examples/names.stdout) |
-        ./zorvleid explain"""
+    ./zorvleid races examples/compositor.script
+    sed 's/^order 2 2/order 2 3/' examples/names.stdout |
+        ./zorvleid explain examples/names.script -"""
 
 BUILD = """\
-The first run proves and builds the program, which takes long. On a terminal, or with
-ZORVLEID_PROGRESS=1, standard error tells how far that is."""
+The first run proves and builds the program, which takes long. A line on standard error says how
+long it takes here. On a terminal, or with ZORVLEID_PROGRESS=1, more lines tell how far it is."""
 
 
 def words_of(command: Command) -> str:
@@ -37,7 +38,8 @@ def words_of(command: Command) -> str:
     names = [value.name for value in command.operands]
     sure = len(names) - command.may_lack
     front = [command.name, "COMMAND .."] if command.takes_command else [command.name]
-    return " ".join([*front, *names[:sure], *(f"[{name}]" for name in names[sure:])])
+    last = ["-- COMMAND .."] if command.ends_with_command else []
+    return " ".join([*front, *names[:sure], *(f"[{name}]" for name in names[sure:]), *last])
 
 
 def row(words: str, says: str, indent: int = 4) -> Iterator[str]:

@@ -14,7 +14,16 @@ EVENTS = {form.first: form for form in FORMS}
 CODES = ("1", "2", "3", "4", "6", "memory")
 NUMBER, PAIR = re.compile("0|[1-9][0-9]*"), re.compile("(0|[1-9][0-9]*):[0-9a-f]{8}")
 ANY = "the line of an event begins with order, step, finish, lost or close"
-NO_JOURNAL = "no line has the one word `journal`, which stands between the script and the journal"
+NO_JOURNAL = (
+    "no line has the one word `journal`, which stands between the script and the journal; "
+    "two files need none: verify SCRIPT JOURNAL"
+)
+GLUED = "a journal begins here, and the line `journal` is missing before it"
+
+
+def begins(word: str) -> bool:
+    """Whether a line with this first word begins a journal."""
+    return word in ("gpu-journal", "order", "step", "lost")
 
 
 def is_number(word: str) -> bool:

@@ -73,8 +73,10 @@ def check_place(option: Option, words: Sequence[str], at: int) -> None:
     """Refuses an option that does not stand after the one that it needs."""
     if option.behind not in (word.partition("=")[0] for word in words):
         raise Wrong(f"{option.name} needs {option.behind}")
+    example = f"{option.behind} 4 {option.name} 2"
+    if any(word.startswith((f"{option.name}=", f"{option.behind}=")) for word in words):
+        raise Wrong(f"where {option.name} stands no '=' is taken: write it as '{example}'")
     if words[at] != option.name or at < 2 or words[at - 2] != option.behind:
-        example = f"{option.behind} 4 {option.name} 2"
         raise Wrong(f"{option.name} stands after {option.behind}, as in '{example}'")
     if words[at - 1] == "0":
         raise Wrong(f"{option.name} needs {option.behind} from 1 to 8, not '0'")
@@ -91,7 +93,7 @@ def check_words(command: Command, words: Sequence[str]) -> None:
             operands.append(word)
             continue
         option = option_of(command, word)
-        if operands and command.operands:
+        if operands and command.operands and not command.tool:
             raise Wrong(f"{option.name} stands before '{operands[0]}', not after it")
         if option.name in seen:
             raise Wrong(f"{option.name} stands twice")
@@ -110,7 +112,14 @@ def check_words(command: Command, words: Sequence[str]) -> None:
             raise Wrong(f"{option.name} takes {option.value.what}, not '{value}'")
         if option.behind:
             check_place(option, words, here)
+    alone = next((option for option in command.options
+                  if option.is_alone and option.name in seen), None)
+    if alone and operands:
+        raise Wrong(f"{alone.words} goes with no file, not with '{operands[0]}'")
     check_operands(command, operands)
+    for option in command.options:
+        if option.is_needed and option.name not in seen:
+            raise Wrong(f"{command.name} needs {option.words}")
     named = (option for option in command.options if option.name in seen)
     if command.needs_one and all(option.is_aside for option in named):
         choices = (option.words for option in command.options if not option.is_aside)
@@ -142,12 +151,23 @@ def check(words: Sequence[str]) -> None:
             command_of(rest[0])
         return
     command = command_of(name)
+    if command.ends_with_command:
+        if "--" not in rest or rest[-1] == "--":
+            raise Wrong(f"{name} needs a command after --, as in '{name} FILE -- ./zorvleid run'")
+        rest = rest[:rest.index("--")]
     if not command.takes_command:
         check_words(command, rest)
     elif not rest or rest[0] not in COMMANDS or COMMANDS[rest[0]].tool:
         raise Wrong(f"{name} takes a command of the program, as in '{name} run FILE'")
     else:
         check(rest)
+        check_one_file(name, rest)
+
+
+def check_one_file(name: str, words: Sequence[str]) -> None:
+    """Refuses what the shell script alone adds to the words of the program."""
+    if words[0] == "verify" and ("--quiet" in words or len(words) - words.count("--whole") > 2):
+        raise Wrong(f"{name} takes one file and no --quiet, as in '{name} verify FILE'")
 
 
 def reason(words: Sequence[str]) -> str | None:

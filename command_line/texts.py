@@ -15,7 +15,8 @@ MARKS = (
 )
 LOOKED_AT = 4096
 CONTROLS = re.compile(rb"[\x00-\x08\x0e-\x1f\x7f]")
-OUTPUTS = ("gpu-journal", "order", "yes", "image")
+OUTPUTS = ("gpu-journal", "order", "step", "yes", "image")
+COMMANDS = "this is a text of commands, and no script: `assemble` makes one of it"
 
 
 def is_utf_16(data: bytes) -> bool:
@@ -45,6 +46,8 @@ def of_head(words: list[str]) -> Fault:
         return Fault(0, f"the input has no line but blank ones and comments; {BEGINS}")
     if words[0] == "gpu-script" and len(words) == 2:
         return Fault(1, f"there is no such version of scripts; the head is {HEADS}")
-    if words[0] in OUTPUTS:
+    if words[0] == "gpu-commands":
+        return Fault(0, COMMANDS)
+    if words[0] in OUTPUTS or words[0] == "stream" and "entries" in words:
         return Fault(0, f"this is an output, and no script; {BEGINS}")
     return Fault(0, BEGINS)

@@ -13,17 +13,36 @@ def build_wheel(
     wheel_directory: str, config_settings: object = None, metadata_directory: str | None = None
 ) -> str:
     """Writes the wheel into a folder, and answers its name."""
-    project = tomllib.loads((HERE / "pyproject.toml").read_text(encoding="utf-8"))["project"]
-    release = f"{project['name']}-{project['version']}"
-    metadata = (
-        f"Metadata-Version: 2.1\nName: {project['name']}\nVersion: {project['version']}\n"
-        f"Summary: {project['description']}\nRequires-Python: {project['requires-python']}\n"
-    )
-    files = {
-        f"{project['name']}/{path.name}": path.read_bytes()
-        for path in sorted((HERE / project["name"]).iterdir())
+    package = HERE / project()["name"]
+    return write_wheel(wheel_directory, {
+        f"{package.name}/{path.name}": path.read_bytes()
+        for path in sorted(package.iterdir())
         if path.suffix == ".py" or path.name == "py.typed"
-    }
+    })
+
+
+def build_editable(
+    wheel_directory: str, config_settings: object = None, metadata_directory: str | None = None
+) -> str:
+    """The same for `pip install -e`: the wheel names this folder, where the package is."""
+    return write_wheel(wheel_directory, {f"{project()['name']}.pth": f"{HERE}\n".encode()})
+
+
+def project() -> dict[str, str]:
+    """The facts of pyproject.toml that the package has."""
+    found = tomllib.loads((HERE / "pyproject.toml").read_text(encoding="utf-8"))["project"]
+    return {name: said for name, said in found.items() if isinstance(said, str)}
+
+
+def write_wheel(wheel_directory: str, files: dict[str, bytes]) -> str:
+    """Writes a wheel with these files, and answers its name."""
+    about = project()
+    release = f"{about['name']}-{about['version']}"
+    metadata = (
+        f"Metadata-Version: 2.1\nName: {about['name']}\nVersion: {about['version']}\n"
+        f"Summary: {about['description']}\nRequires-Python: {about['requires-python']}\n"
+        "Description-Content-Type: text/markdown\n\n"
+    ) + (HERE / about["readme"]).read_text(encoding="utf-8")
     files[f"{release}.dist-info/METADATA"] = metadata.encode()
     files[
         f"{release}.dist-info/WHEEL"

@@ -14,7 +14,7 @@ from tests.model_history import History
 from tests.model_script import Reader, Refused
 
 NO, NOT_COMPLETE, NO_JOURNAL, REFUSED, TOO_LONG = 9, 10, 11, 5, 7
-VIEWERS_AT_MOST, LOOKS = 4, 17
+VIEWERS_AT_MOST, LOOKS, BYTES_AT_MOST = 4, 17, 67_108_864
 Answer = tuple[int, str]
 
 
@@ -146,7 +146,7 @@ def answer_to_text(script: Reader, lines: Sequence[str], before: int) -> Answer:
 
 def answer(data: bytes) -> Answer:
     """The status of `verify --whole`, and its line on standard error."""
-    if len(data) > model.BYTES_AT_MOST:
+    if len(data) > BYTES_AT_MOST:
         return TOO_LONG, "input too long"
     lines = re.findall(r"[^\n]*\n|[^\n]+", data.decode("latin-1"))
     count = next((at for at, line in enumerate(lines) if words_on(line) == ["journal"]), None)

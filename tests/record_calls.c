@@ -1,13 +1,14 @@
-/* Calls of include/zorvleid_record.h, for tools/checks/recording.py:
+/* Calls of include/zorvleid_record.h and zorvleid_ring.h, for tools/checks/recording.py:
  *
  *   record_calls script     writes a script of version 2 by every call of a zv_script
+ *   record_calls commands   writes a script with each command, put by its call into a ring that goes round its end
  *   record_calls journal    writes a journal of version 2 by every call of a zv_journal
  *   record_calls faults     makes each call that is refused, and writes how many are not refused as they have to be
  *   record_calls sticks     does the same for a sink that fails
  */
 #include <string.h>
 
-#include "../include/zorvleid_record.h"
+#include "../include/zorvleid_ring.h"
 
 static const uint32_t values[4096] = {0x20000003, 7, 0, 0xffffffff};
 static zv_fence fences[17];
@@ -29,6 +30,59 @@ static int script(void)
     fault |= zv_close(&s);
     fault |= zv_stream_named(&s, 0, 0, ZV_NORMAL, 16) | zv_flush(&s, 0, fences, 16, &action);
     return fault | zv_stream_named(&s, 0, 1, ZV_LOW, 17) | zv_script_end(&s) | (action != 0);
+}
+
+#define DO(call) (fault = fault != 0 ? fault : (call))
+
+static int commands(void)
+{
+    static uint32_t entries[64];
+    static unsigned char bytes[70] = {1, 2, 3, 4, 5, 255};
+    zv_script s;
+    zv_ring r;
+    uint32_t action = 0;
+    int fault = zv_script_begin(&s, zv_file(stdout), 1);
+    bytes[69] = 9;
+    DO(zv_stream(&s, ZV_NORMAL, 64));
+    DO(zv_ring_begin(&r, &s, entries, 64));
+    DO(zv_memory(&s, 1, 8));
+    DO(zv_results(&s, 2, 8));
+    DO(zv_results(&s, 3, 8));
+    DO(zv_set_token(&r, 5));
+    DO(zv_set_bucket_size(&r, 3, 70));
+    DO(zv_set_bucket_data(&r, 3, 8, 4, 1, 12));
+    DO(zv_set_bucket_data_immediate(&r, 3, 0, bytes, 70));
+    DO(zv_get_bucket_start(&r, 3, 2, 4, 12, 3, 16));
+    DO(zv_get_bucket_data(&r, 3, 1, 6, 2, 8));
+    DO(zv_ring_flush(&r, NULL, 0, &action));
+    DO(action != r.place);
+    DO(zv_token(&s, 5));
+    DO(zv_ring_read(&r, 2));
+    DO(zv_insert_fence(&r, 7));
+    DO(zv_ring_finish(&r));
+    DO(zv_insert_fence(&r, 0x100000008u));
+    DO(zv_wait_token(&r, 2, 0x200000003u));
+    DO(zv_create_image(&r, 1, 4, 3));
+    DO(zv_create_image(&r, 2, 5, 6));
+    DO(zv_clear_rect(&r, 1, 1, 2, 3, 1, 0x336699ff));
+    DO(zv_ring_flush(&r, NULL, 0, NULL));
+    DO(zv_ring_finish(&r));
+    DO(zv_copy_rect(&r, 1, 0, 1, 2, 3, 4, 2, 1));
+    DO(zv_upload_rect(&r, 1, 1, 0, 2, 3, ZV_RGB565, 1, 6));
+    DO(zv_upload_bucket(&r, 2, 1, 2, 3, 4, ZV_RGBA4444, 3));
+    DO(zv_create_buffer(&r, 4, 80));
+    DO(zv_ring_flush(&r, NULL, 0, NULL));
+    DO(zv_ring_finish(&r));
+    DO(zv_buffer_data(&r, 4, 10, 5, 1, 3));
+    DO(zv_upload_buffer(&r, 1, 0, 1, 3, 2, ZV_RGBA8, 4, 7));
+    DO(zv_delete_buffer(&r, 4));
+    DO(zv_delete_image(&r, 2));
+    DO(zv_noop(&r, 3));
+    DO(zv_noop(&r, 1));
+    DO(zv_wait_sync_token(&r, 9, 0x300000004u, 0x500000006u));
+    DO(zv_ring_flush(&r, NULL, 0, NULL));
+    DO(zv_script_end(&s));
+    return fault;
 }
 
 static int journal(void)
@@ -181,10 +235,62 @@ static void in_a_journal(void)
     WANT(0, (int)written);
 }
 
+static void in_a_ring(void)
+{
+    static uint32_t entries[16];
+    zv_script s;
+    zv_ring r;
+    begin(&s);
+    WANT(EINVAL, zv_ring_begin(&r, &s, NULL, 16));
+    WANT(EINVAL, zv_ring_begin(&r, &s, entries, 17));
+    WANT(ERANGE, zv_ring_begin(&r, NULL, entries, 15));
+    WANT(ERANGE, zv_ring_begin(&r, NULL, entries, 4097));
+    WANT(ERANGE, zv_noop(&r, 1));
+    WANT(EINVAL, zv_ring_read(&r, 0));
+    WANT(0, zv_ring_begin(&r, &s, entries, 16));
+    WANT(ERANGE, zv_noop(&r, 0));
+    WANT(ERANGE, zv_noop(&r, 16));
+    WANT(EINVAL, zv_set_bucket_data_immediate(&r, 0, 0, NULL, 1));
+    WANT(ERANGE, zv_set_bucket_data_immediate(&r, 0, 0, entries, 49));
+    WANT(ERANGE, zv_set_bucket_data_immediate(&r, 0, 0, entries, 0xffffffff));
+    WANT(EINVAL, zv_ring_flush(&r, NULL, 1, NULL));
+    WANT(EINVAL, zv_ring_read(&r, 16));
+    WANT(0, (int)written);
+    WANT(0, zv_noop(&r, 8));
+    WANT(8, (int)r.place);
+    WANT(ERANGE, zv_copy_rect(&r, 1, 0, 0, 1, 0, 0, 1, 1)); /* 8 to fill, and 9 */
+    WANT(0, zv_clear_rect(&r, 1, 0, 0, 1, 1, 7));
+    WANT(EAGAIN, zv_noop(&r, 1));
+    WANT(EINVAL, zv_ring_read(&r, 8));
+    WANT(0, zv_ring_flush(&r, NULL, 0, NULL));
+    WANT(EAGAIN, zv_delete_image(&r, 1));
+    WANT(0, zv_ring_read(&r, 8));
+    WANT(EINVAL, zv_ring_read(&r, 4));
+    WANT(0, zv_delete_image(&r, 1)); /* with a Noop of the last entry before it */
+    WANT(1, (int)entries[15]);
+    WANT((int)zv_header(ZV_DELETE_IMAGE, 2), (int)entries[0]);
+    WANT(2, (int)r.place);
+    WANT(EAGAIN, zv_clear_rect(&r, 1, 0, 0, 1, 1, 7));
+    WANT(0, zv_ring_finish(&r));
+    WANT(15, (int)r.freed);
+    WANT(0, zv_clear_rect(&r, 1, 0, 0, 1, 1, 7));
+    r.script = NULL;
+    written = 0;
+    WANT(0, zv_ring_flush(&r, NULL, 0, NULL));
+    WANT(0, zv_ring_finish(&r));
+    WANT(0, zv_set_token(&r, 3));
+    WANT(0, (int)written);
+    r.script = &s;
+    WANT(0, zv_close(&s));
+    WANT(EINVAL, zv_set_token(&r, 4));
+    WANT(11, (int)r.place);
+}
+
 static int faults(void)
 {
     before_a_stream();
     in_a_stream();
+    in_a_ring();
     at_the_limits();
     in_a_journal();
     printf("%d wrong\n", wrong);
@@ -195,16 +301,26 @@ static int faults(void)
 
 static int sticks(void)
 {
+    static uint32_t entries[16];
     int code = 0;
     zv_sink sink;
     zv_script s;
+    zv_ring r;
     zv_journal j;
     sink.write = count;
     sink.to = &code;
     WANT(0, zv_script_begin(&s, sink, 1));
     WANT(0, zv_stream(&s, ZV_NORMAL, 16));
     WANT(0, zv_journal_begin(&j, sink, 1));
+    WANT(0, zv_ring_begin(&r, &s, entries, 16));
     code = ENOSPC;
+    WANT(ENOSPC, zv_set_bucket_data_immediate(&r, 0, 0, values, 4));
+    WANT(5, (int)r.place);
+    WANT(0x20000003, (int)entries[4]);
+    WANT(ENOSPC, zv_noop(&r, 1));
+    WANT(ENOSPC, zv_ring_flush(&r, NULL, 0, NULL));
+    WANT(ENOSPC, zv_ring_finish(&r));
+    WANT(5, (int)r.place);
     WANT(ENOSPC, zv_put(&s, 0, values, 16));
     WANT(ENOSPC, zv_order(&j, 1, 1, 0));
     code = 0;
@@ -241,6 +357,8 @@ int main(int argc, char **argv)
     const char *asked = argc == 2 ? argv[1] : "";
     if (strcmp(asked, "script") == 0)
         return script();
+    if (strcmp(asked, "commands") == 0)
+        return commands();
     if (strcmp(asked, "journal") == 0)
         return journal();
     if (strcmp(asked, "faults") == 0)

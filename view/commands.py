@@ -7,14 +7,11 @@ from collections.abc import Iterable
 from functools import lru_cache
 from typing import NamedTuple
 
-from zorvleid.output import words_of
-
 from .plain import counted
 from .table import BYTES_OF_FORMAT, ERRORS, FORMATS, NOOP, TABLE, WIDE
 
 __all__ = ["BYTES_OF_FORMAT", "ERRORS", "FORMATS", "NOOP", "TABLE", "WIDE", "Command", "Words",
-           "decode", "entries_wanted",
-           "place_of", "read", "sentence", "told"]
+           "decode", "entries_wanted", "place_of", "read", "sentence", "sentence_of"]
 
 
 class Command(NamedTuple):
@@ -33,17 +30,25 @@ def entries_wanted(number: int, size: int) -> int:
     return 1 if number == NOOP else size
 
 
+# by the id of a command: its arguments, and whether they have two entries
+FIELDS = {number: [(field, field in WIDE) for field in fields.split() if field != "+"]
+          for number, (_, _, fields) in TABLE.items()}
+
+
 def decode(words: Iterable[tuple[int, int]]) -> Command:
     """The command of words, given as places and values. It has the arguments that are there."""
-    values = [value for _, value in words]
+    return command_of([value for _, value in words])
+
+
+def command_of(values: list[int]) -> Command:
+    """The same of their values alone."""
     header = values[0] if values else 0
     size, number = header % 2**21, header // 2**21
-    name, _, fields = TABLE.get(number, ("no command", 1, "+"))
+    name = TABLE[number][0] if number in TABLE else "no command"
     entries = values[1:entries_wanted(number, size)] if number in TABLE else []
     found: dict[str, int] = {}
     at = 0
-    for field in fields.replace("+", "").split():
-        wide = field in WIDE
+    for field, wide in FIELDS.get(number, ()):
         if at + wide >= len(entries):
             break
         found[field] = entries[at] + (entries[at + 1] << 32 if wide else 0)
@@ -53,31 +58,48 @@ def decode(words: Iterable[tuple[int, int]]) -> Command:
     )
 
 
-Words = list[tuple[int, int]]
+class Words(NamedTuple):
+    """The words of an event: the place of the first one, the values of all, and their command."""
+
+    place: int
+    values: list[int]
+    command: Command
+
+
 SHORT, KNOWN = 256, 8192  # the number of short texts that are kept
 
 
-def parse(words: str) -> tuple[Words, Command]:
-    """The words of a line, and their command."""
-    found = words_of(words)
-    return found, decode(found)
+def parse(words: str) -> Words:
+    """Words as they are printed."""
+    texts = words.split()
+    values = [int(text[-8:], 16) for text in texts]
+    return Words(int(texts[0][:-9]) if texts else 0, values, command_of(values))
 
 
-parse_short = lru_cache(KNOWN)(parse)
+def explained(words: str) -> str:
+    return sentence(read(words).command)
 
 
-def read(words: str) -> tuple[Words, Command]:
+parse_short, explained_short = lru_cache(KNOWN)(parse), lru_cache(KNOWN)(explained)
+
+
+def read(words: str) -> Words:
     """The same as `parse`, where short texts that come again are read once."""
     return parse_short(words) if len(words) <= SHORT else parse(words)
+
+
+def sentence_of(words: str) -> str:
+    """The sentence of a command, by its words as they are printed."""
+    return explained_short(words) if len(words) <= SHORT else explained(words)
 
 
 def place_of(command: Command, field: str) -> int:
     """Where an argument stands among the entries of its command; the header is at 0."""
     at = 1
-    for name in TABLE[command.id][2].split():
+    for name, wide in FIELDS[command.id]:
         if name == field:
             break
-        at += 1 + (name in WIDE)
+        at += 1 + wide
     return at
 
 
@@ -101,9 +123,3 @@ def sentence(command: Command) -> str:
     if command.transfer:
         parts.append(counted(command.transfer, "word of the memory", "words of the memory"))
     return f"{command.name}: " + ", ".join(parts) if parts else command.name
-
-
-def told(words: str) -> tuple[str, str]:
-    """The name of a command, and its sentence, by its words as they are printed."""
-    _, command = read(words)
-    return command.name, sentence(command)

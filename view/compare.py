@@ -7,7 +7,7 @@ from typing import NamedTuple
 from zorvleid.output import Event, Image, Output, StreamEnd
 
 from . import log, page
-from .history import History
+from .history import ENDS_HERE, History
 from .plain import counted
 
 CHANNELS = 4  # bytes of a texel
@@ -202,7 +202,15 @@ def lines(comparison: Comparison) -> Iterator[str]:
     """The differences, line by line."""
     if comparison.is_same:
         yield "the two outputs say the same"
-        return
+    else:
+        yield from differing(comparison)
+    for name, output in zip("AB", comparison.outputs):
+        if output.is_cut:
+            yield f"{name}: {ENDS_HERE}"
+
+
+def differing(comparison: Comparison) -> Iterator[str]:
+    """The differences of two outputs that do not say the same."""
     both = (comparison.first, comparison.second)
     if comparison.whole.is_none:
         yield f"journal: the same, {counted(len(comparison.outputs[0].events), 'event')}"

@@ -71,13 +71,11 @@ def ended_waits(event: Event, standing: Standing) -> Iterator[str]:
 # --- Words ---
 
 
-ERROR_OF_CHECK = {1: "InvalidSize", 2: "OutOfBounds", 3: "UnknownCommand", 4: "InvalidArguments"}
-
-
 def header_fault(header: int, room: int | None) -> str | None:
     """The fault of a header, as an error, or None."""
-    found = faults.header_fault(header, room)
-    return f"{ERROR_OF_CHECK[found[0]]}: {found[1]}" if found else None
+    for check, why in faults.header_faults(header, room):
+        return f"{commands.ERRORS[faults.ERROR_OF_CHECK[check]]}: {why}"
+    return None
 
 
 def transfer_places(command: commands.Command, plan: Plan) -> list[int]:

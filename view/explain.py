@@ -5,22 +5,20 @@ nothing.
 """
 
 import re
-import signal
-import subprocess
 import sys
 from collections.abc import Iterable, Iterator
 from pathlib import Path
 
-from zorvleid import console
+from zorvleid import console, verdict
 from zorvleid.errors import printable
 from zorvleid.output import HEAD, NO_LINE_FEED, Event, Lines, read_event
+from zorvleid.script import BYTES_AT_MOST
 
-from . import commands, due, rules, whole
-from .script import BLANKS, Script
+from . import commands, due, files, programs, rules, sources, whole
+from .script import Script
 from .standing import Stand, Standing
 
-WRAPPER = Path(__file__).resolve().parent.parent / "zorvleid"
-NO, NOT_COMPLETE, NO_JOURNAL, NOT_STARTED = 9, 10, 11, 126
+NO, NOT_COMPLETE, NO_JOURNAL = 9, 10, 11
 ANSWER = re.compile(
     r"no: event \d+ rule \d+|no: line \d+: \w+|not complete|refused: journal line \d+"
 )
@@ -30,14 +28,11 @@ EVENT_FORMS = "order S N C, step S I:V .., finish S N, lost S CODE I:V .., lost 
 class Input:
     """The parts of an input of `verify`: a script, the line `journal`, and the journal's events."""
 
-    def __init__(self, data: bytes) -> None:
-        self.lines = Lines(data).lines
-        words = (
-            BLANKS.split(line.removesuffix(NO_LINE_FEED).strip(" \t\r")) for line in self.lines
-        )
-        self.journal = next(
-            (number for number, found in enumerate(words, 1) if found == ["journal"]), None
-        )
+    def __init__(self, data: bytes, journal_file: str | None = None) -> None:
+        self.lines, self.journal_file = Lines(data).lines, journal_file
+        self.journal = next((
+            number for number, line in enumerate(self.lines, 1)
+            if line.removesuffix(NO_LINE_FEED).strip(" \t\r") == "journal"), None)
         self.script = Script(
             line.removesuffix(NO_LINE_FEED) for line in self.lines[: (self.journal or 1) - 1]
         )
@@ -59,6 +54,12 @@ class Input:
             events.append(event)
         return events
 
+    def place(self, line: int) -> str:
+        """A line in words: of the file of the journal, where that has one, or of the input."""
+        if self.journal_file is None or self.journal is None:
+            return f"line {line} of the input"
+        return f"line {line - self.journal} of {self.journal_file}"
+
     def text(self, line: int) -> str | None:
         return self.lines[line - 1].removesuffix(NO_LINE_FEED) if line <= len(self.lines) else None
 
@@ -75,11 +76,11 @@ def on_no(given: Input, number: int, rule: int) -> Iterator[str]:
     """The rule, the event that breaks it, and the events that it allows."""
     event = given.events[number - 1]
     of_events, sentence = rules.table().get(rule, ("", "see docs/FORMATS.md"))
-    yield f"event {number} of the journal, line {event.line} of the input, breaks rule {rule}:"
+    yield f"event {number} of the journal, {given.place(event.line)}, breaks rule {rule}:"
     yield f"    {event.text}"
     yield f"stream: {event.stream}"
     if event.words:
-        yield f"words: {commands.told(event.words)[1]}"
+        yield f"words: {commands.sentence_of(event.words)}"
     yield f"rule {rule}{f' (of {of_events})' if of_events else ''}: {sentence}"
     standing = standing_of(given, number - 1)
     for line in due.wanted(rule, event, standing):
@@ -101,7 +102,8 @@ def on_no_journal(given: Input, line: int) -> Iterator[str]:
     if given.journal is None:
         yield (
             "the input has no line whose only word is `journal`: such a line and "
-            "the journal must come after the script"
+            "the journal must come after the script; or name two files, as in "
+            "'explain SCRIPT JOURNAL'"
         )
         return
     text = given.text(line)
@@ -109,7 +111,7 @@ def on_no_journal(given: Input, line: int) -> Iterator[str]:
     fault = " is no line of a journal:" if ended else " has no line feed at its end:"
     if text is None:
         fault = " is missing"
-    yield f"line {line} of the input{fault}"
+    yield f"{given.place(line)}{fault}"
     if text is not None:
         yield f"    {text}"
     place = line - given.journal - 1
@@ -123,9 +125,11 @@ def on_no_journal(given: Input, line: int) -> Iterator[str]:
         )
 
 
-def meaning(status: int, said: str, data: bytes) -> Iterable[str]:
+def meaning(
+    status: int, said: str, data: bytes, journal_file: str | None = None
+) -> Iterable[str]:
     """The lines that say what an answer means; none where it needs no words."""
-    given = Input(data)
+    given = Input(data, journal_file)
     if status == NO and (found := re.fullmatch(r"no: event (\d+) rule (\d+)", said)):
         return on_no(given, int(found[1]), int(found[2]))
     if status == NO and (found := re.fullmatch(r"no: line (\d+): (\w+)", said)):
@@ -137,28 +141,33 @@ def meaning(status: int, said: str, data: bytes) -> Iterable[str]:
     return ()
 
 
-def explain(data: bytes, program: Path | None = None, is_whole: bool = False) -> int:
+def input_of(script: str, journal: str | None, most: int) -> tuple[bytes, str | None]:
+    """The input of `verify` from one file or from two, and the name of a file of the journal."""
+    if journal is None:
+        return sources.read(script, most), None
+    if script == journal == console.STANDARD:
+        raise files.WrongName("standard input cannot be both files")
+    both = [sources.read(name, most) for name in (script, journal)]
+    return verdict.joined(*both), console.input_name(journal)
+
+
+def explain(
+    names: tuple[str, str | None], program: Path | None, is_whole: bool, is_quiet: bool
+) -> int:
     """Runs `verify`, passes on what it writes, adds what it means, and answers its status."""
-    words = ["verify", "--whole"] if is_whole else ["verify"]
-    path = (program or WRAPPER).resolve()
-    signal.signal(signal.SIGPIPE, signal.SIG_IGN)  # the program may end before it has read all
-    try:
-        ran = subprocess.run([path, *words], input=data, capture_output=True, check=False)
-    except OSError as error:
-        why = f"{printable(str(program))}: {error.strerror}"
-        print(f"the program does not start: {why}", file=sys.stderr)
-        return NOT_STARTED
-    signal.signal(signal.SIGPIPE, signal.SIG_DFL)
+    data, journal_file = input_of(*names, console.BYTES_AT_MOST if is_whole else BYTES_AT_MOST)
+    ran = programs.run(program, ["verify", "--whole"] if is_whole else ["verify"], data)
     sys.stderr.buffer.write(ran.stderr)
     sys.stderr.flush()
-    console.write(answer(ran, data))
+    if not is_quiet:
+        console.write([ran.stdout])
+    console.write(answer(ran, data, journal_file))
     return ran.returncode
 
 
-def answer(ran: "subprocess.CompletedProcess[bytes]", data: bytes) -> Iterator[bytes]:
-    """What the program wrote, and the lines that say what its answer means."""
-    yield ran.stdout
+def answer(ran: programs.Ran, data: bytes, journal_file: str | None) -> Iterator[bytes]:
+    """The lines that say what an answer of the program means."""
     if ran.returncode in (NO, NOT_COMPLETE, NO_JOURNAL):
         said = next(filter(ANSWER.fullmatch, ran.stderr.decode("latin-1").split("\n")), "")
-        for line in meaning(ran.returncode, said, data):
+        for line in meaning(ran.returncode, said, data, journal_file):
             yield printable(line).encode() + b"\n"

@@ -8,13 +8,13 @@ or a pipe, directly. `-` is standard output.
 import errno
 import os
 import stat
-from collections.abc import Iterable
-from contextlib import suppress
+from collections.abc import Iterable, Iterator
+from contextlib import contextmanager, suppress
 from dataclasses import dataclass
 from pathlib import Path
 from typing import BinaryIO
 
-from zorvleid.console import STANDARD, WriteFault
+from zorvleid.console import STANDARD, WriteFault, refuse_overwriting
 
 LINKS_AT_MOST = 40
 
@@ -64,22 +64,31 @@ def target_of(name: str | Path) -> Target:
         raise WrongName("the name of a file is empty")
     if text == STANDARD:
         return Target(text, 1)
-    path = Path(text)
+    try:
+        place = place_of(Path(text))
+        is_folder = isinstance(place, Path) and (text.endswith("/") or place.is_dir())
+    except OSError as error:  # as in a folder that this user may not look into
+        raise WriteFault(text, error) from None
+    if is_folder:
+        raise WrongName(f"{text} is a folder, and no file")
+    return Target(text, place)
+
+
+def place_of(path: Path) -> int | Path:
+    """The place at the end of a path's links."""
     for _ in range(LINKS_AT_MOST):
         if (descriptor := descriptor_of(path)) is not None:
-            return Target(text, descriptor)
+            return descriptor
         if not path.is_symlink():
-            break
+            return Path(os.path.realpath(path))
         path = path.parent / os.readlink(path)
-    else:
-        raise WriteFault(text, OSError(errno.ELOOP, os.strerror(errno.ELOOP)))
-    if text.endswith("/") or path.is_dir():
-        raise WrongName(f"{text} is a folder, and no file")
-    return Target(text, Path(os.path.realpath(path)))
+    raise OSError(errno.ELOOP, os.strerror(errno.ELOOP))
 
 
-def targets_of(names: Iterable[str | Path]) -> list[Target]:
-    """The things that names lead to, each to a file of its own."""
+def targets_of(names: Iterable[str | Path], inputs: Iterable[str] = ()) -> list[Target]:
+    """The things that names lead to, each to a file of its own, which is none of the inputs."""
+    names = list(names)
+    refuse_overwriting(inputs, map(str, names))
     targets: dict[object, Target] = {}
     for target in map(target_of, names):
         if (other := targets.get(target.identity)) is not None:
@@ -97,15 +106,17 @@ def write_data(file: BinaryIO, data: Data) -> None:
     file.writelines([data] if isinstance(data, bytes) else data)
 
 
-def write_beside(target: Target, data: Data, part: Path) -> None:
-    """Writes the bytes of a target to a new file, with the rights of the old one."""
-    status = target.status
-    if status and not os.access(target.place, os.W_OK):
+def check_rights(target: Target) -> None:
+    """Sees that a file that is there may be written."""
+    if target.status and not os.access(target.place, os.W_OK):
         raise OSError(errno.EACCES, os.strerror(errno.EACCES))
-    with part.open("xb") as file:
-        write_data(file, data)
-        if status:
-            os.fchmod(file.fileno(), stat.S_IMODE(status.st_mode))
+
+
+def write_beside(target: Target, data: Data, file: BinaryIO) -> None:
+    """Writes the bytes of a target to a new file, with the rights of the old one."""
+    write_data(file, data)
+    if status := target.status:
+        os.fchmod(file.fileno(), stat.S_IMODE(status.st_mode))
 
 
 def write_in_place(place: int | Path, data: Data) -> None:
@@ -115,18 +126,20 @@ def write_in_place(place: int | Path, data: Data) -> None:
         write_data(file, data)
 
 
-def write_all(files: Iterable[tuple[str | Path, Data]]) -> None:
-    """Writes files, given by their names, or none of them."""
+def write_all(files: Iterable[tuple[str | Path, Data]], inputs: Iterable[str] = ()) -> None:
+    """Writes files, given by their names, or none of them. None of them is an input."""
     files = list(files)
-    targets = targets_of(name for name, _ in files)
+    targets = targets_of((name for name, _ in files), inputs)
     parts: dict[Path, tuple[Target, Path]] = {}
     at = None
     try:
         for at, (_, data) in zip(targets, files):
             if (place := at.replaced) is not None:
+                check_rights(at)
                 part = place.with_name(f".{os.getpid()}.{len(parts)}.part")
-                parts[part] = at, place
-                write_beside(at, data, part)
+                with part.open("xb") as file:
+                    parts[part] = at, place
+                    write_beside(at, data, file)
         for at, (_, data) in zip(targets, files):
             if at.replaced is None:
                 write_in_place(at.place, data)
@@ -137,7 +150,23 @@ def write_all(files: Iterable[tuple[str | Path, Data]]) -> None:
         raise WriteFault("standard output" if name == STANDARD else name, error) from None
     finally:
         for part in parts:
-            part.unlink(missing_ok=True)
+            with suppress(OSError):  # a fault here would hide the one that is told
+                part.unlink()
+
+
+@contextmanager
+def made_folder(path: str | Path) -> Iterator[None]:
+    """Makes a folder and those above it. Those that are new go again where nothing is written."""
+    new = [folder for folder in (Path(path), *Path(path).parents)
+           if not os.path.exists(folder)]  # with no fault for a forbidden one
+    make_folder(path)
+    try:
+        yield
+    except BaseException:
+        with suppress(OSError):
+            for folder in new:
+                folder.rmdir()
+        raise
 
 
 def make_folder(path: str | Path) -> None:

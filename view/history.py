@@ -7,6 +7,7 @@ has a row, the first free one.
 
 from bisect import bisect_right
 from collections.abc import Callable, Iterable
+from dataclasses import replace
 
 from zorvleid.output import Event, Image, Output, OutputRefused, StreamEnd
 
@@ -21,6 +22,7 @@ from .working import Deed
 BASE = 1000
 ENDINGS = {"release": 0, "guard": 1, "closed": 2}
 CODES = {"done": "", "closed": "close", "lost memory": "memory"}
+ENDS_HERE = "the output ends here"
 COUNTS = ("entries", "release", "token", "words", "error 0501", "error 0502", "error 0505")
 
 
@@ -38,23 +40,47 @@ def rings(output: Output) -> list[int | None]:
     return found
 
 
-def standing_of(output: Output, script: Script | None = None) -> Standing:
-    """How things stand before the first event of an output."""
-    names = output.names or [(0, stream.number) for stream in output.streams]
-    if script is None:
-        return Standing([Stand(None, ring) for ring in rings(output)], names, output.marks)
-    if script.names != names:
+def names_of(output: Output) -> list[tuple[int, int]]:
+    return output.names or [(0, stream.number) for stream in output.streams]
+
+
+def need_script_of(output: Output, script: Script) -> None:
+    """Refuses a script that has other streams than an output."""
+    if script.names != names_of(output):
         raise NoScript(
             "refused: the script is of another run: its streams are not those of the output"
         )
+
+
+def standing_of(output: Output, script: Script | None = None) -> Standing:
+    """How things stand before the first event of an output."""
+    names = names_of(output)
+    if script is None:
+        return Standing([Stand(None, ring) for ring in rings(output)], names, output.marks)
+    need_script_of(output, script)
     return Standing([Stand(plan) for plan in script.plans], names)
+
+
+def standing_after(
+    output: Output, count: int, script: Script | None = None,
+    watch: Callable[[Event, Bar | None, Deed, Standing], None] | None = None,
+) -> Standing:
+    """How things stand after `count` events. `watch` is called after each of them."""
+    standing = standing_of(output, script)
+    for event in output.events[:count]:
+        bar, deed = standing.take(event)
+        if watch is not None:
+            watch(event, bar, deed, standing)
+    return standing
 
 
 def images_after(output: Output, count: int) -> list[Image]:
     """The images after `count` events."""
-    standing = standing_of(output)
-    for event in output.events[:count]:
-        standing.take(event)
+    return images_of(standing_after(output, count))
+
+
+def images_of(standing: Standing) -> list[Image]:
+    """The images as they stand."""
     return [Image(number, picture.width, picture.height, bytes(picture.texels))
             for number, picture in sorted(standing.images.pictures.items())]
 
@@ -77,10 +103,13 @@ class History:
             self.deeds.append(deed)
             if watch is not None:
                 watch(event, deed, self.standing)
-        for stream, stand in zip(output.streams, self.standing.streams):
-            check_end(stream, stand)
+        if output.is_cut:
+            self.cut_bars()
+        else:
+            for stream, stand in zip(output.streams, self.standing.streams):
+                check_end(stream, stand)
         self.waits = self.match_marks()
-        self.notes = list(differences(self))
+        self.notes = [ENDS_HERE] if self.output.is_cut else list(differences(self))
 
     @property
     def lanes(self) -> list[Stand]:
@@ -89,6 +118,11 @@ class History:
     @property
     def bars(self) -> list[Bar]:
         return self.standing.bars
+
+    def cut_bars(self) -> None:
+        """Ends the bars that are open where the output ends: after its last event."""
+        for bar in (bar for stand in self.lanes for bar in stand.open):
+            bar.end, bar.how = len(self.output.events), "cut"
 
     def match_marks(self) -> list[Wait]:
         """The waits that ended, each with its mark; OutputRefused for other marks."""
@@ -102,19 +136,23 @@ class History:
             wait.mark, wait.lets = mark, self.lets(wait)
         if len(self.output.marks) > len(ended):
             raise OutputRefused(self.output.marks[len(ended)].line, "no event ends such a wait")
-        if len(ended) > len(self.output.marks):
-            raise OutputRefused(self.output.events[ended[len(self.output.marks)].made].line,
-                                "a wait of this event ended without a mark")
+        if unmarked := ended[len(self.output.marks):]:
+            if not self.output.may_end or self.output.dumps or self.output.views:
+                raise OutputRefused(self.output.events[unmarked[0].made].line,
+                                    "a wait of this event ended without a mark")
+            self.output = replace(self.output, is_cut=True)
+            for wait in unmarked:
+                wait.lets = self.lets(wait)
         return ended
 
     def lets(self, wait: Wait) -> int:
-        """The first event of the waiter that could come once the wait had ended."""
+        """The first event of the waiter that could come once the wait had ended, or -1."""
         bar = self.bars[wait.number - 1]
         later = bisect_right(bar.steps, wait.ended)
         lets = bar.steps[later] if later < len(bar.steps) else bar.end
         if later:
             bar.pauses.append((bar.steps[later - 1], lets))
-        return lets
+        return lets if lets < len(self.output.events) else -1
 
     def waits_made(self, place: int) -> list[Wait]:
         """The waits that an event made, kept or dropped."""

@@ -2,11 +2,13 @@
 
 import json
 import sys
-from collections.abc import Iterator
+from collections.abc import Iterator, Sequence
 from dataclasses import dataclass
 
+from zorvleid.script import Name
+
 from . import commands
-from .history import History
+from .history import ENDS_HERE, History
 from .waits import Wait
 
 MANY = 20_000  # events; a longer log shows its progress on a terminal
@@ -39,7 +41,7 @@ def what(history: History, place: int) -> str:
     """The kind and the work of an event, in words."""
     event, deed = history.output.events[place], history.deeds[place]
     if event.kind == "step" and deed.command is not None:
-        return f"{commands.sentence(deed.command)}; {history.text(place)}"
+        return f"{commands.sentence_of(event.words)}; {history.text(place)}"
     if event.kind == "lost":
         is_known = deed.command is not None and deed.command.id in commands.TABLE
         at = f" at {commands.sentence(deed.command)}" if deed.command and is_known else ""
@@ -48,18 +50,21 @@ def what(history: History, place: int) -> str:
 
 
 def line(history: History, place: int) -> str:
-    bar = history.bar_of[place]
+    bar, stream = history.bar_of[place], history.output.events[place].stream
     order = f"order {bar.number}" if bar else "no order"
     wide = len(str(len(history.output.events)))
-    return (
-        f"{place + 1:>{wide}}  stream {history.output.events[place].stream}  {order}  "
-        f"{what(history, place)}"
-    )
+    called = history.standing.names.called(stream)
+    return f"{place + 1:>{wide}}  {called}  {order}  {what(history, place)}"
+
+
+def written(name: Name | None) -> str | None:
+    """A name of a stream, as a fence has it in a text of commands."""
+    return f"{name[0]}:{name[1]}" if name else None
 
 
 def told_wait(wait: Wait) -> dict[str, object]:
     return {"stream": wait.stream, "order": wait.number, "target": wait.target,
-            "release": wait.release, "by": wait.by,
+            "name": written(wait.name), "release": wait.release, "by": wait.by,
             "made": wait.made + 1, "how": wait.how, "why": wait.why,
             "ended": wait.ended + 1 if wait.ended >= 0 else None}
 
@@ -69,6 +74,8 @@ def record(history: History, place: int) -> dict[str, object]:
     event, deed, bar = history.output.events[place], history.deeds[place], history.bar_of[place]
     told: dict[str, object] = {"event": place + 1, "line": event.line, "stream": event.stream,
                                "order": bar.number if bar else None, "kind": event.kind}
+    if history.output.names:
+        told["name"] = written(history.output.names[event.stream - 1])
     if deed.command is not None:
         told |= {"command": deed.command.name, "size": deed.command.size,
                  "arguments": deed.command.values}
@@ -81,11 +88,24 @@ def record(history: History, place: int) -> dict[str, object]:
     return told
 
 
+def unmatched(history: History, choice: Choice, parts: Sequence[tuple[str, Choice]]) -> list[str]:
+    """The options that match no event, or that together match none: a sentence each."""
+    places = range(len(history.output.events))
+
+    def matches(one: Choice) -> bool:
+        return any(one.takes(history, place) for place in places)
+
+    alone = [f"no event matches {option}" for option, part in parts if not matches(part)]
+    return alone or ([] if matches(choice) else ["no event matches all options together"])
+
+
 def lines(history: History, choice: Choice, as_json: bool) -> Iterator[str]:
     dump = json.JSONEncoder(separators=(",", ":")).encode
     for place in range(len(history.output.events)):
         if choice.takes(history, place):
             yield dump(record(history, place)) if as_json else line(history, place)
+    if history.output.is_cut and not as_json:
+        yield ENDS_HERE
 
 
 class Progress:

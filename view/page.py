@@ -6,13 +6,14 @@ and sets texels only where a difference says so.
 
 import base64
 import json
-from collections.abc import Iterable
+from collections.abc import Iterable, Sequence
 
-from zorvleid.output import Event, Output, StreamEnd
+from zorvleid.output import Event, Output, OutputRefused, StreamEnd
 
 from . import commands, files, log
 from .history import History
 from .plain import counted
+from .races import Races
 from .script import Script
 from .standing import Stand, Standing
 from .trace import ending_of, name_of_stream
@@ -20,10 +21,11 @@ from .waits import Wait
 from .working import Deed
 
 TEXEL_BYTES_AT_MOST = 48 << 20  # as text in the page they are 64 MiB
-SCRIPTS = ("data.js", "chart.js", "images.js", "words.js", "moving.js")
+SCRIPTS = ("data.js", "races.js", "chart.js", "images.js", "words.js", "moving.js")
 # commands that change a noted value
 CHANGING = ("SetToken", "InsertFence", "SetBucketSize", "CreateBuffer", "DeleteBuffer")
 NAMING = ("image", "source", "target")  # the arguments that name images
+RELEASING = ("release",)
 
 
 class Recorder:
@@ -80,8 +82,13 @@ def end_of(stream: StreamEnd) -> str:
     return f"{stream.end} ({commands.ERRORS[code]})" if code in commands.ERRORS else stream.end
 
 
-def marked(history: History, mark: str) -> list[int]:
-    return [place for place, deed in enumerate(history.deeds) if deed.mark == mark]
+def marked(history: History) -> dict[str, list[int]]:
+    """The events of each mark."""
+    found: dict[str, list[int]] = {"failed": [], "dropped": [], "lost": []}
+    for place, deed in enumerate(history.deeds):
+        if deed.mark:
+            found[deed.mark].append(place)
+    return found
 
 
 def summary(history: History) -> str:
@@ -93,20 +100,33 @@ def summary(history: History) -> str:
     return ", ".join(parts)
 
 
-def named_images(history: History) -> dict[int, list[int]]:
-    """By image, the events whose commands name it."""
+def naming(history: History, fields: Sequence[str]) -> dict[int, list[int]]:
+    """By the value of some arguments, as the number of an image, the events that have it."""
     found: dict[int, list[int]] = {}
+    fields_of = {number: [field for field, _ in known if field in fields]
+                 for number, known in commands.FIELDS.items()}
     for place, deed in enumerate(history.deeds):
-        told = deed.command.values if deed.command else {}
-        for image in {told[field] for field in NAMING if field in told}:
-            found.setdefault(image, []).append(place)
+        if deed.command is not None and (named := fields_of.get(deed.command.id)):
+            told = deed.command.values
+            for value in {told[field] for field in named if field in told}:
+                found.setdefault(value, []).append(place)
     return found
 
 
-def wait_of(wait: Wait) -> list[object]:
+def copies(history: History) -> list[list[int]]:
+    """The copies of texels: the event, the image that is read, and the first texel there."""
+    return [[place, told["source"], told["x"], told["y"]]
+            for place, deed in enumerate(history.deeds)
+            if deed.command is not None and deed.command.name == "CopyRect"
+            for told in (deed.command.values, )]
+
+
+def wait_of(wait: Wait, total: int) -> list[object]:
+    """The facts of a wait. One that is pending where the output ends, ends after its events."""
     text = wait.mark.text if wait.mark else wait.why
+    ended = wait.ended if wait.ended >= 0 else total
     return [wait.stream - 1, wait.number, wait.target, str(wait.release), wait.by, wait.made,
-            wait.ended, wait.how, wait.lets, text]
+            ended, wait.how, wait.lets, text]
 
 
 def table(values: Iterable[str]) -> tuple[list[str], list[int]]:
@@ -116,7 +136,19 @@ def table(values: Iterable[str]) -> tuple[list[str], list[int]]:
     return list(places), which
 
 
-def data(history: History, recorder: Recorder) -> dict[str, object]:
+def raced(output: Output, script: Script | None) -> list[list[object]]:
+    """The races of a whole run whose script is known: both steps, and the sentence."""
+    try:
+        found = Races(output, script).races if script is not None else []
+    except OutputRefused:  # the run is not whole
+        return []
+    return [[finding.facts["first"]["event"] - 1, finding.facts["second"]["event"] - 1,
+             finding.text] for finding in found if finding.kind == "race"]
+
+
+def data(
+    history: History, recorder: Recorder, script: Script | None = None
+) -> dict[str, object]:
     """The data of the page. Places in the journal count from 0 here."""
     output = history.output
     names, name_of = table(deed.command.name if deed.command else event.kind
@@ -137,13 +169,15 @@ def data(history: History, recorder: Recorder) -> dict[str, object]:
         "bars": [[bar.stream - 1, bar.begin, -1 if bar.first is None else bar.first, bar.end, how,
                   bar.row, -1 if bar.put is None else bar.put, bar.pauses]
                  for bar, how in zip(history.bars, how_of)],
-        "waits": [wait_of(wait) for wait in history.standing.waits.all],
-        "marks": {mark: marked(history, mark) for mark in ("failed", "dropped", "lost")},
+        "waits": [wait_of(wait, len(output.events)) for wait in history.standing.waits.all],
+        "marks": marked(history),
         "gets": recorder.gets,
         "changes": [[stream - 1, key, *kept] for (stream, key), kept in recorder.changes.items()],
-        "writes": recorder.writes, "named": named_images(history),
+        "writes": recorder.writes, "copies": copies(history),
+        "named": naming(history, NAMING), "released": naming(history, RELEASING),
         "leftOut": (recorder.left_out[:1] + recorder.left_out[-1:] + [len(recorder.left_out)]
                     if recorder.left_out else []),
+        "races": raced(output, script),
         "remarks": history.notes,
     }
 
@@ -167,14 +201,14 @@ def text(
     output: Output, script: Script | None = None, texel_bytes_at_most: int = TEXEL_BYTES_AT_MOST
 ) -> str:
     recorder = Recorder(texel_bytes_at_most)
-    return text_of(History(output, script, recorder), recorder)
+    return text_of(History(output, script, recorder), recorder, script)
 
 
-def text_of(history: History, recorder: Recorder) -> str:
+def text_of(history: History, recorder: Recorder, script: Script | None = None) -> str:
     return filled(files.part_of_page("timeline.html"), {
         "style": files.part_of_page("timeline.css"),
         "script": "\n".join(map(files.part_of_page, SCRIPTS)),
         "summary": summary(history),
-        "data": as_script(data(history, recorder)),
+        "data": as_script(data(history, recorder, script)),
         "texels": base64.b64encode(recorder.texels).decode(),
     })

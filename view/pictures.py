@@ -7,7 +7,7 @@ from pathlib import Path
 from zorvleid.output import Image, Output, OutputRefused
 
 from . import files
-from .history import History, images_after
+from .history import ENDS_HERE, History, images_after
 from .log import what
 from .page import NAMING
 from .plain import counted
@@ -58,7 +58,7 @@ class Marks:
     """The failed commands, the dropped waits and the losses of an output up to an event."""
 
     def __init__(self, output: Output, count: int) -> None:
-        self.why_none = ""
+        self.why_none, self.is_cut = "", output.is_cut
         self.lines: list[str] = []
         self.count = {"failed": 0, "dropped": 0, "lost": 0}
         self.on: dict[int, int] = {}  # by image, how many commands on it failed
@@ -69,6 +69,7 @@ class Marks:
         except OutputRefused as refused:
             self.why_none = f"What its commands did is not told: {refused}."
             return
+        self.is_cut = history.output.is_cut
         for place, deed in enumerate(history.deeds[:count]):
             if deed.mark:
                 self.count[deed.mark] += 1
@@ -87,8 +88,9 @@ class Marks:
         )
 
     def items(self) -> str:
+        ends = f"<p>{ENDS_HERE.capitalize()}.</p>" if self.is_cut else ""
         if not self.lines:
-            return ""
+            return ends
         rest = len(self.lines) - MARKS_TOLD
         items = [escape(line) for line in self.lines[:MARKS_TOLD]] + (
             [f"and {rest:,} more"] if rest > 0 else []
@@ -96,7 +98,7 @@ class Marks:
         return (
             "<h2>Failed commands and losses</h2><ul>"
             + "".join(f"<li>{item}</li>" for item in items)
-            + "</ul>"
+            + "</ul>" + ends
         )
 
 
@@ -128,12 +130,22 @@ def images_of(output: Output, at: int | None) -> tuple[Iterable[Image], int, str
     return images_after(output, at), at, f"After event {at:,} of {len(output.events):,} the run has"
 
 
-def write(output: Output, folder: Path, scale: int = 1, at: int | None = None) -> None:
-    """Writes the pictures of an output and the sheet to a folder, at its end or after an event."""
+def write(
+    output: Output,
+    folder: Path,
+    scale: int = 1,
+    at: int | None = None,
+    inputs: Iterable[str] = (),
+) -> bool:
+    """Writes the pictures of an output and the sheet to a folder, at its end or after an event.
+
+    The answer is whether the end of the output is missing.
+    """
     found, count, of = images_of(output, at)
     images = list(found)
     made = [(Path(folder) / name_of(image), picture(image, scale)) for image in images]
     marks = Marks(output, count)
     made.append((Path(folder) / "index.html", sheet(images, scale, marks, of).encode()))
-    files.make_folder(folder)
-    files.write_all(made)
+    with files.made_folder(folder):
+        files.write_all(made, inputs)
+    return marks.is_cut

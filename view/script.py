@@ -3,12 +3,18 @@
 Scripts that may be unlawful are not read here.
 """
 
-import re
-from collections.abc import Iterable
+from bisect import bisect_left, bisect_right
+from collections.abc import Iterable, Iterator
 from dataclasses import dataclass, field
+from functools import cached_property
+from itertools import count, repeat
 
-BLANKS = re.compile(r"[ \t\r]+")
 Target = int | tuple[int, int]  # a stream by its number, or by its name
+
+
+# A line of a script with actions: their kind, and an argument; of puts that is the first place, and
+# each action has a value.
+Line = tuple[str, int, list[int]]
 
 
 @dataclass(eq=False)
@@ -25,22 +31,56 @@ class Plan:
     # the same of result memories, with places of their own
     results: dict[int, tuple[int, int]] = field(default_factory=dict)
     words: int = 0  # of all transfer memories
-    actions: list[tuple[str, int, int]] = field(default_factory=list)  # (kind, argument, argument)
+    size: int = 0  # how many actions there are
+    acts: list[Line] = field(default_factory=list)
+    # of each of them: its first action, and the number of the line
+    begins: list[int] = field(default_factory=list)
+    lines: list[int] = field(default_factory=list)
     flushes: list[int] = field(default_factory=list)  # how many actions stand before each flush
+    # of each action that waits, and of a close: the actions and the flushes before it, and its line
+    awaits: list[tuple[int, int, Line]] = field(default_factory=list)
     # of each dump: how many actions stand before it, and its result place
     dumps: list[tuple[int, int]] = field(default_factory=list)
     # of a flush that has some, by its action
     fences: dict[int, list[tuple[Target, int]]] = field(default_factory=dict)
 
+    def add(self, number: int, line: Line) -> None:
+        """Adds the actions of a line of the script."""
+        self.begins.append(self.size)
+        self.lines.append(number)
+        self.acts.append(line)
+        self.size += len(line[2])
+
+    @cached_property
+    def actions(self) -> list[tuple[str, int, int]]:
+        """All of them: the kind, the argument or the place, and the value."""
+        return [(kind, argument + at, value) for kind, argument, values in self.acts
+                for at, value in enumerate(values)]
+
     def closes(self) -> bool:
-        return bool(self.actions) and self.actions[-1][0] == "close"
+        return bool(self.acts) and self.acts[-1][0] == "close"
+
+    def at(self, action: int) -> int:
+        """Which line with actions has an action."""
+        return bisect_right(self.begins, action) - 1
 
     def put_of(self, action: int) -> int:
         """PUT of a flush."""
-        return self.actions[action][1]
+        return self.acts[self.at(action)][1]
 
     def fences_of(self, action: int) -> list[tuple[Target, int]]:
         return self.fences.get(action, [])
+
+    def line_of(self, action: int) -> int:
+        """The number of the line of an action, from 1."""
+        return self.lines[self.at(action)]
+
+    def puts(self, begin: int, end: int) -> Iterator[tuple[int, int]]:
+        """The puts from one line with actions to another: each action, and its place."""
+        for at in range(bisect_left(self.begins, begin), bisect_left(self.begins, end)):
+            kind, place, values = self.acts[at]
+            if kind == "put":
+                yield from zip(count(self.begins[at]), range(place, place + len(values)))
 
     def values_between(
         self, places: Iterable[int], begin: int, end: int
@@ -55,18 +95,23 @@ class Plan:
             values[place][value] = None
         return values
 
-    def reach(self, finished: int, token: int) -> int:
-        """The most actions of the client after `finished` flushes, with this greatest token.
+    def passed(self, finished: int, token: int, first: int = 0) -> int:
+        """How many awaits the client can have passed after some finishes, with a greatest token.
 
-        Before a stream sets one its token is 0, so `token 0` waits for nothing.
+        Before a stream sets one its token is 0, so `token 0` waits for nothing. The first ones are
+        known to be passed.
         """
-        before = 0
-        for at, (kind, argument, _) in enumerate(self.actions):
-            content = before <= finished or (kind == "token" and token >= argument)
-            if kind == "close" or (kind in ("finish", "token") and not content):
-                return at
-            before += kind == "flush"
-        return len(self.actions)
+        while first < len(self.awaits):
+            _, before, (kind, wanted, _) = self.awaits[first]
+            is_content = before <= finished or (kind == "token" and token >= wanted)
+            if kind == "close" or not is_content:
+                break
+            first += 1
+        return first
+
+    def reach(self, passed: int) -> int:
+        """The most actions of a client that has passed some awaits."""
+        return self.awaits[passed][0] if passed < len(self.awaits) else self.size
 
 
 class Script:
@@ -74,9 +119,10 @@ class Script:
 
     def __init__(self, lines: Iterable[str]) -> None:
         self.version = 1
+        self.line = 0  # that is read
         self.plans: list[Plan] = []
-        for line in lines:
-            words = [word for word in BLANKS.split(line) if word]
+        for self.line, line in enumerate(lines, 1):
+            words = line.split()
             if words and not words[0].startswith("#"):
                 self.take(words)
 
@@ -105,24 +151,24 @@ class Script:
             plan.results[number] = (sum(size for _, size in plan.results.values()), words)
 
     def act(self, plan: Plan, first: str, rest: list[str]) -> None:
-        if first in ("put", "fill"):
-            start = (
-                int(rest[0]) if first == "put" else plan.memories[int(rest[0])][0] + int(rest[1])
-            )
-            values = rest[1:] if first == "put" else rest[2:]
-            plan.actions += [("put", start + at, int(value, 16)) for at, value in enumerate(values)]
+        line: Line = (first, 0, [0])
+        if first == "put":
+            line = (first, int(rest[0]), numbers(rest[1:]))
+        elif first == "fill":
+            line = ("put", plan.memories[int(rest[0])][0] + int(rest[1]), numbers(rest[2:]))
         elif first == "flush":
-            if fences := self.fences(rest[1:]):
-                plan.fences[len(plan.actions)] = fences
-            plan.flushes.append(len(plan.actions))
-            plan.actions.append(("flush", int(rest[0]), 0))
+            line = (first, int(rest[0]), [0])
+            if len(rest) > 1:
+                plan.fences[plan.size] = self.fences(rest[1:])
+            plan.flushes.append(plan.size)
         else:
-            if first == "dump":
-                place = plan.results[int(rest[0])][0] + int(rest[1])
-                plan.dumps.append((len(plan.actions), place))
-            plan.actions.append(
-                ("finish" if first == "dump" else first, int(rest[0]) if first == "token" else 0, 0)
-            )
+            if first == "token":
+                line = (first, int(rest[0]), [0])
+            elif first == "dump":
+                line = ("finish", 0, [0])
+                plan.dumps.append((plan.size, plan.results[int(rest[0])][0] + int(rest[1])))
+            plan.awaits.append((plan.size, len(plan.flushes), line))
+        plan.add(self.line, line)
 
     def fences(self, words: list[str]) -> list[tuple[Target, int]]:
         """Pairs of a stream and a release; a stream of version 2 has its name."""
@@ -130,3 +176,8 @@ class Script:
         if self.version == 1:
             return list(zip(numbers[::2], numbers[1::2]))
         return list(zip(zip(numbers[::3], numbers[1::3]), numbers[2::3]))
+
+
+def numbers(words: list[str]) -> list[int]:
+    """Words of hexadecimal digits."""
+    return list(map(int, words, repeat(16)))

@@ -18,7 +18,7 @@ from .commands import decode
 from .images import Images, Written
 from .script import Plan, Target
 from .table import ERRORS
-from .waits import Waits
+from .waits import Names, Waits
 from .working import Deed
 
 
@@ -92,7 +92,7 @@ class Stand:
 
     @property
     def reach(self) -> int:
-        return self.known.reach(self.finished, self.token or 0)
+        return self.known.reach(self.known.passed(self.finished, self.token or 0))
 
     @property
     def room(self) -> int | None:
@@ -125,10 +125,11 @@ class Standing:
         self, stands: Sequence[Stand], names: Sequence[Name] = (), marks: Iterable[Mark] = ()
     ) -> None:
         self.streams = list(stands)
+        self.names = Names(tuple(names))
         self.numbers = {name: number for number, name in enumerate(names, 1)}
         self.bars: list[Bar] = []
         self.images = Images()
-        self.waits = Waits(self)
+        self.waits = Waits(self, self.names)
         self.count = 0  # how many events there were
         self.written: Written | None = None  # by the latest event
         # by number, the waits that have a mark
@@ -198,13 +199,14 @@ class Standing:
         return self.numbers.get(target, 0) if isinstance(target, tuple) else target
 
     def take_step(self, event: Event, stand: Stand) -> tuple[Bar, Deed]:
-        if not stand.open or not event.words:
+        words = event.words
+        if not stand.open or not words:
             raise OutputRefused(
                 event.line, "the stream has no number to work on, or the step has no words"
             )
         bar = stand.open[0]
         bar.steps.append(self.count)
-        return bar, working.execute(self, event, stand)
+        return bar, working.execute(self, event, words, stand)
 
     def take_finish(self, event: Event, stand: Stand) -> tuple[Bar, Deed]:
         if stand.front != event.number:

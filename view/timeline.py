@@ -2,7 +2,7 @@
 
 from pathlib import Path
 
-from zorvleid.output import Output, OutputRefused
+from zorvleid.output import Output
 
 from . import files, page, trace
 from .history import History
@@ -11,15 +11,14 @@ from .script import Script
 
 def write(
     output: Output, trace_path: str | None, page_path: str | None, script: Script | None = None
-) -> None:
-    """Writes the files that are asked for."""
-    if output.is_verdict:
-        raise OutputRefused(1, "the output of verify has no journal")
+) -> bool:
+    """Writes the files that are asked for, and answers whether the end of the output is missing."""
     recorder = page.Recorder()
     history = History(output, script, recorder if page_path is not None else None)
     made: list[tuple[str | Path, files.Data]] = []
     if trace_path is not None:
         made.append((trace_path, trace.parts(history)))
     if page_path is not None:
-        made.append((page_path, page.text_of(history, recorder).encode()))
+        made.append((page_path, page.text_of(history, recorder, script).encode()))
     files.write_all(made)
+    return history.output.is_cut

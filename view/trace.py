@@ -12,14 +12,14 @@ from itertools import islice
 from zorvleid.output import Event, Output
 
 from . import commands
-from .history import History
+from .history import ENDS_HERE, History
 from .standing import Bar
 from .waits import Wait
 
 # row R of stream S is track S + 100 R, so that no two tracks have the same number
 ROWS_APART = 100
 HOW = {"finish": "finished", "close": "ended by the close of its stream",
-       "memory": "lost as out of memory"}
+       "memory": "lost as out of memory", "cut": "not finished where the output ends"}
 # names that chrome://tracing knows
 COLOURS = {"failed": "bad", "dropped": "terrible", "lost": "black"}
 LINES_AT_ONCE = 4096
@@ -109,6 +109,8 @@ class Flows:
         # by event: which end of which wait, whose numbers count from 1
         self.ends: dict[int, list[tuple[str, int]]] = {}
         for number, wait in enumerate(history.waits, 1):
+            if wait.lets < 0:
+                continue
             self.ends.setdefault(wait.ended, []).append(("s", number))
             self.ends.setdefault(wait.lets, []).append(("f", number))
 
@@ -124,8 +126,7 @@ class Flows:
 
 
 def args_of(wait: Wait) -> Record:
-    assert wait.mark is not None
-    return {"line": wait.mark.line, "text": wait.mark.text}
+    return {"line": wait.mark.line, "text": wait.mark.text} if wait.mark else {}
 
 
 class Counters:
@@ -184,6 +185,9 @@ def records(history: History) -> Iterator[Record]:
             yield point(history, place, event)
         yield from counters.records(place, event)
         yield from flows.records(place)
+    if history.output.is_cut:
+        yield {"ph": "i", "s": "g", "cat": "end", "name": ENDS_HERE, "pid": 1, "tid": 1,
+               "ts": len(history.output.events) + 1, "args": {}}
 
 
 def lines(history: History) -> Iterator[str]:

@@ -2,13 +2,55 @@
 
 from dataclasses import dataclass, field
 from heapq import heappop, heappush
-from typing import TYPE_CHECKING
+from typing import TYPE_CHECKING, Protocol
 
 if TYPE_CHECKING:
-    from zorvleid.output import Mark
+    from zorvleid.output import Event, Mark
     from zorvleid.script import Name
 
-    from .standing import Standing
+
+class Awaited(Protocol):
+    """A stream, as far as waits on it go."""
+
+    release: int
+    gone: "Event | None"  # the event by which it was lost or closed
+
+    @property
+    def front(self) -> int | None:
+        """The first unprocessed number."""
+
+
+@dataclass(frozen=True)
+class Names:
+    """The names of the streams of a run, by their numbers."""
+
+    names: "tuple[Name, ...]" = ()
+    # what was called already, since many waits are for the same stream
+    said: "dict[tuple[int, Name | None], str]" = field(default_factory=dict, compare=False)
+
+    def at(self, number: int) -> "Name | None":
+        """The name of a stream, where it says more than its number."""
+        name = self.names[number - 1] if 1 <= number <= len(self.names) else None
+        return None if name == (0, number) else name
+
+    def called(self, number: int, name: "Name | None" = None) -> str:
+        """A stream in words: by its number, and by its name where that says more."""
+        if number:
+            name = self.at(number)
+        if (number, name) not in self.said:
+            parts = [f"({name[0]}, {name[1]})"] if name else []
+            words = ["stream", *([str(number)] if number or not name else []), *parts]
+            self.said[number, name] = " ".join(words)
+        return self.said[number, name]
+
+
+class Streams(Protocol):
+    """The streams after some events of a journal."""
+
+    count: int  # how many events there were
+
+    def stream(self, number: int) -> Awaited | None:
+        """The stream of a number, where there is one."""
 
 
 @dataclass(eq=False)
@@ -31,12 +73,12 @@ class Wait:
     ended: int = -1  # the event that ended it, or with which it was gone
     lets: int = -1  # the event of the waiter that could come then
     mark: "Mark | None" = None
-    name: "Name | None" = None  # of the stream, where the wait has one
+    name: "Name | None" = None  # of the stream that is waited for, where it is known
+    called: str = ""  # that stream, in words, and the one that waits
+    caller: str = ""
 
     def __str__(self) -> str:
-        stream = f"({self.name[0]}, {self.name[1]})" if self.name and not self.target else str(
-            self.target)
-        return f"stream {stream} to come to release {self.release}"
+        return f"{self.called} to come to release {self.release}"
 
 
 @dataclass
@@ -50,8 +92,8 @@ class Queue:
 class Waits:
     """All waits of a journal in their order, and those that ended in the order of their marks."""
 
-    def __init__(self, standing: "Standing") -> None:
-        self.standing = standing
+    def __init__(self, standing: Streams, names: Names) -> None:
+        self.standing, self.names = standing, names
         self.all: list[Wait] = []
         self.ended: list[Wait] = []
         self.on: dict[int, Queue] = {}  # by the stream that is waited for
@@ -69,7 +111,9 @@ class Waits:
     ) -> Wait:
         """A new wait, which is kept or dropped."""
         position = self.made[number] = self.made.get(number, -1) + 1
-        wait = Wait(stream, number, target, release, by, self.standing.count, position, name=name)
+        wait = Wait(stream, number, target, release, by, self.standing.count, position,
+                    name=name or self.names.at(target),
+                    called=self.names.called(target, name), caller=self.names.called(stream))
         wait.why = self.why_dropped(wait)
         if wait.why:
             wait.how, wait.ended = "dropped", wait.made
@@ -111,11 +155,11 @@ class Waits:
         if wait.target == wait.stream:
             return "a stream does not wait for itself"
         if target.gone is not None:
-            return f"stream {wait.target} is {'closed' if target.gone.kind == 'close' else 'lost'}"
+            return f"{wait.called} is {'closed' if target.gone.kind == 'close' else 'lost'}"
         if target.release >= wait.release:
-            return f"stream {wait.target} has come to release {target.release} already"
+            return f"{wait.called} has come to release {target.release} already"
         if target.front is None or target.front > wait.number:
-            return f"stream {wait.target} has no unprocessed number below {wait.number}"
+            return f"{wait.called} has no unprocessed number below {wait.number}"
         return ""
 
     def settle(self, stream: int) -> tuple[Wait, ...]:

@@ -125,7 +125,9 @@ def due_lines(replay: Replay) -> Iterator[Line]:
     yield from dump_lines(replay)
 
 
-def on_row(replay: Replay, row: tuple[int, int], due: str, text: str) -> Iterator[str]:
+def on_row(
+    given: "Input", replay: Replay, row: tuple[int, int], due: str, text: str
+) -> Iterator[str]:
     """The first texel of a row that differs, its last writer, and the two values."""
     image, y = row
     wanted, found = due.split(" "), text.split(" ")
@@ -136,9 +138,9 @@ def on_row(replay: Replay, row: tuple[int, int], due: str, text: str) -> Iterato
     yield f"texel {x}, {y} of image {image}: {wanted[x]} is due, and {found[x]} stands there"
     if number := replay.writer(image, x, y):
         event = replay.events[number - 1]
-        yield f"last written by event {number} of the journal, line {event.line} of the input:"
+        yield f"last written by event {number} of the journal, {given.place(event.line)}:"
         yield f"    {event.text}"
-        yield f"    {commands.told(event.words)[1]}"
+        yield f"    {commands.sentence_of(event.words)}"
 
 
 def on_view(replay: Replay, place: int, before: str, text: str) -> Iterator[str]:
@@ -167,7 +169,7 @@ def on_view(replay: Replay, place: int, before: str, text: str) -> Iterator[str]
 def on_line(given: "Input", line: int, what: str) -> Iterator[str]:
     """What a line is that is off, and what was due in its place."""
     text = given.text(line)
-    yield f"line {line} of the input " + ("is missing:" if text is None else f"is off ({what}):")
+    yield f"{given.place(line)} " + ("is missing:" if text is None else f"is off ({what}):")
     if text is not None:
         yield f"    {text}"
     assert given.journal is not None
@@ -186,7 +188,7 @@ def on_line(given: "Input", line: int, what: str) -> Iterator[str]:
         if due.beside:
             yield due.beside
         if due.row is not None and text is not None:
-            yield from on_row(replay, due.row, due.text, text)
+            yield from on_row(given, replay, due.row, due.text, text)
     elif what == "more":
         yield "wanted: no line, as nothing is due any more"
     else:

@@ -36,7 +36,7 @@ def steps(count: int) -> str:
 def endings(ended: "Iterable[Wait]") -> str:
     """The waits that an event ended, after its other work."""
     return "".join(
-        f"; ends the wait of number {wait.number} of stream {wait.stream} {HOW[wait.how]}"
+        f"; ends the wait of number {wait.number} of {wait.caller} {HOW[wait.how]}"
         for wait in ended)
 
 
@@ -55,14 +55,14 @@ def dropped_numbers(left: list[int]) -> str:
     )
 
 
-def execute(standing: "Standing", event: Event, stand: "Stand") -> Deed:
+def execute(standing: "Standing", event: Event, words: str, stand: "Stand") -> Deed:
     """Does what a step does. Words that are no whole command do nothing."""
-    words, command = commands.read(event.words)
-    stand.at = words[0][0] + command.size
+    place, values, command = commands.read(words)
+    stand.at = place + command.size
     stand.entries += command.size
-    stand.fetched += len(words)
+    stand.fetched += len(values)
     size = commands.entries_wanted(command.id, command.size)
-    if command.id not in TABLE or command.size < TABLE[command.id][1] or len(words) < size:
+    if command.id not in TABLE or command.size < TABLE[command.id][1] or len(values) < size:
         return Deed(
             "these words are no whole command, and nothing is done", "failed", "no command", command
         )
@@ -70,7 +70,9 @@ def execute(standing: "Standing", event: Event, stand: "Stand") -> Deed:
     if fault is not None:
         why = f"these words fail check {fault.check}, and nothing is done: {fault.why}"
         return Deed(why, "failed", f"check {fault.check}", command)
-    data = b"".join(value.to_bytes(4, "little") for _, value in words[size:])
+    data = b"".join([value.to_bytes(4, "little") for value in values[size:]])
+    if command.name in IMAGE_COMMANDS:
+        return draw(standing, command, stand, data)
     match command.name:
         case "Noop":
             return Deed("passes over them", command=command)
@@ -80,9 +82,7 @@ def execute(standing: "Standing", event: Event, stand: "Stand") -> Deed:
             return release(standing, event, command, stand)
         case "WaitToken" | "WaitSyncToken":
             return wait(standing, event, command, stand)
-        case name if name in IMAGE_COMMANDS:
-            return draw(standing, command, stand, data)
-    return Deed(keep(command, stand, [value for _, value in words[4:size]], data), command=command)
+    return Deed(keep(command, stand, values[4:size], data), command=command)
 
 
 def set_token(command: commands.Command, stand: "Stand") -> str:
@@ -118,8 +118,8 @@ def wait(standing: "Standing", event: Event, command: commands.Command, stand: "
 
 # --- Images ---
 
-IMAGE_COMMANDS = ("CreateImage", "DeleteImage", "ClearRect", "CopyRect", "UploadRect",
-                  "UploadBucket", "UploadBuffer")
+IMAGE_COMMANDS = {"CreateImage", "DeleteImage", "ClearRect", "CopyRect", "UploadRect",
+                  "UploadBucket", "UploadBuffer"}
 
 
 def draw(standing: "Standing", command: commands.Command, stand: "Stand", data: bytes) -> Deed:

@@ -5,15 +5,15 @@
  */
 #include <string.h>
 
-#include "../../include/zorvleid_record.h"
+#include "../../include/zorvleid_ring.h"
 
 enum { RING = 64, KEPT = 4096 };
 
-/* A client: the ring that it shares with a service, where its next command goes, and its recorder. */
+/* A client: the entries that it shares with a service, its recorder, and the ring by which it puts commands. */
 struct client {
-    uint32_t ring[RING];
-    uint32_t place;
+    uint32_t entries[RING];
     zv_script script;
+    zv_ring ring;
 };
 
 struct kept {
@@ -31,20 +31,15 @@ static int keep(void *to, const char *text, size_t length)
     return 0;
 }
 
-/* Puts a command into the ring, and records that first. Its faults are told by zv_script_end. */
-static void put(struct client *client, const uint32_t *words, size_t count)
+/* Begins the stream of a client, and its ring. */
+static int begin(struct client *client, zv_priority priority)
 {
-    (void)zv_put(&client->script, client->place, words, count);
-    memcpy(client->ring + client->place, words, count * sizeof *words);
-    client->place += (uint32_t)count;
+    int fault = zv_stream(&client->script, priority, RING);
+    return fault == 0 ? zv_ring_begin(&client->ring, &client->script, client->entries, RING) : fault;
 }
 
 int main(void)
 {
-    static const uint32_t create_1[] = {0x20400004, 1, 4, 4}, red[] = {0x20800007, 1, 0, 0, 4, 4, 0xd9534fff},
-                          release_1[] = {0x20000003, 1, 0};
-    static const uint32_t create_2[] = {0x20400004, 2, 8, 4}, left[] = {0x20a00009, 1, 0, 0, 2, 0, 0, 4, 4},
-                          right[] = {0x20a00009, 1, 0, 0, 2, 4, 0, 4, 4};
     static const zv_fence painted = {0, 1, 1};
     static struct client painter, copier;
     static struct kept kept;
@@ -55,21 +50,24 @@ int main(void)
     to_kept.to = &kept;
     fault = zv_script_begin(&painter.script, zv_file(stdout), 1);
     if (fault == 0)
-        fault = zv_stream(&painter.script, ZV_LOW, RING);
+        fault = begin(&painter, ZV_LOW);
     if (fault == 0)
         fault = zv_script_part(&copier.script, to_kept, 1, 1);
     if (fault == 0)
-        fault = zv_stream(&copier.script, ZV_HIGH, RING);
+        fault = begin(&copier, ZV_HIGH);
 
-    put(&painter, create_1, 4);
-    put(&copier, create_2, 4);
-    put(&painter, red, 7);
-    put(&copier, left, 9);
-    put(&copier, right, 9);
-    put(&painter, release_1, 3);
-    (void)zv_flush(&painter.script, painter.place, NULL, 0, NULL);
-    (void)zv_flush(&copier.script, copier.place, &painted, 1, NULL);
-    (void)zv_finish(&copier.script);
+    /* The rings have room for all of this, and a fault of a recorder is told by zv_script_end. */
+    if (fault == 0) {
+        (void)zv_create_image(&painter.ring, 1, 4, 4);
+        (void)zv_create_image(&copier.ring, 2, 8, 4);
+        (void)zv_clear_rect(&painter.ring, 1, 0, 0, 4, 4, 0xd9534fff);
+        (void)zv_copy_rect(&copier.ring, 1, 0, 0, 2, 0, 0, 4, 4);
+        (void)zv_copy_rect(&copier.ring, 1, 0, 0, 2, 4, 0, 4, 4);
+        (void)zv_insert_fence(&painter.ring, 1);
+        (void)zv_ring_flush(&painter.ring, NULL, 0, NULL);
+        (void)zv_ring_flush(&copier.ring, &painted, 1, NULL);
+        (void)zv_ring_finish(&copier.ring);
+    }
 
     if (fault == 0)
         fault = zv_script_end(&copier.script);

@@ -6,13 +6,13 @@
  */
 #include <string.h>
 
-#include "../../include/zorvleid_record.h"
+#include "../../include/zorvleid_ring.h"
 
-enum { RING = 64, STREAMS = 2, INSERT_FENCE = 256, WAIT_TOKEN = 257, CREATE_IMAGE = 258, CLEAR_RECT = 260 };
+enum { RING = 64, STREAMS = 2 };
 
 /* A stream with at most one flush: what its client has put, and how far the service has come. */
 struct stream {
-    uint32_t ring[RING];
+    uint32_t entries[RING];
     uint32_t put, action;           /* the flush: up to where, and after how many actions */
     uint32_t number, get;           /* its order number, 0 where it has none, and what was read of it */
     uint64_t release;
@@ -22,14 +22,40 @@ struct stream {
 
 static struct stream streams[STREAMS + 1]; /* from 1 on */
 
-/* Records a client that puts some commands and flushes them once, and puts them into the ring of its stream. */
-static int record(zv_script *script, struct stream *stream, const uint32_t *words, uint32_t count)
+/* Begins the stream of a client, and its ring. */
+static int begin(zv_script *script, struct stream *stream, zv_ring *ring)
 {
-    memcpy(stream->ring, words, count * sizeof *words);
-    stream->put = count;
-    (void)zv_stream(script, ZV_NORMAL, RING);
-    (void)zv_put(script, 0, words, count);
-    return zv_flush(script, count, NULL, 0, &stream->action);
+    int fault = zv_stream(script, ZV_NORMAL, RING);
+    return fault == 0 ? zv_ring_begin(ring, script, stream->entries, RING) : fault;
+}
+
+/* Hands over what a client has put. */
+static int flush(struct stream *stream, zv_ring *ring)
+{
+    stream->put = ring->place;
+    return zv_ring_flush(ring, NULL, 0, &stream->action);
+}
+
+/* Records two clients, and fills the rings of their streams: the second waits for the first, and paints its image. */
+static int record(zv_script *script)
+{
+    zv_ring ring;
+    int fault = begin(script, &streams[1], &ring);
+    if (fault == 0)
+        fault = zv_create_image(&ring, 1, 4, 4);
+    if (fault == 0)
+        fault = zv_clear_rect(&ring, 1, 0, 0, 4, 4, 0xd9534fff);
+    if (fault == 0)
+        fault = zv_insert_fence(&ring, 1);
+    if (fault == 0)
+        fault = flush(&streams[1], &ring);
+    if (fault == 0)
+        fault = begin(script, &streams[2], &ring);
+    if (fault == 0)
+        fault = zv_wait_token(&ring, 1, 1);
+    if (fault == 0)
+        fault = zv_clear_rect(&ring, 1, 1, 1, 2, 2, 0xffffffff);
+    return fault == 0 ? flush(&streams[2], &ring) : fault;
 }
 
 /* A wait is kept while its target has not come to the release and works on a lower number. */
@@ -44,7 +70,7 @@ static int step(zv_journal *journal, uint32_t number)
 {
     struct stream *stream = &streams[number];
     zv_word words[RING];
-    uint32_t header = stream->ring[stream->get], size = header & 0x1fffff, id = header >> 21, at;
+    uint32_t header = stream->entries[stream->get], size = zv_size_of(header), id = zv_id_of(header), at;
     int fault;
     if (size == 0 || size > stream->put - stream->get) {
         words[0].place = stream->get;
@@ -54,13 +80,13 @@ static int step(zv_journal *journal, uint32_t number)
     }
     for (at = 0; at < size; at++) {
         words[at].place = stream->get + at;
-        words[at].value = at == 0 ? header : stream->ring[stream->get + at];
+        words[at].value = at == 0 ? header : stream->entries[stream->get + at];
     }
     fault = zv_step(journal, number, words, size);
     stream->get += size;
-    if (id == INSERT_FENCE && words[1].value + ((uint64_t)words[2].value << 32) > stream->release)
+    if (id == ZV_INSERT_FENCE && words[1].value + ((uint64_t)words[2].value << 32) > stream->release)
         stream->release = words[1].value + ((uint64_t)words[2].value << 32);
-    if (id == WAIT_TOKEN && words[1].value >= 1 && words[1].value <= STREAMS && words[1].value != number) {
+    if (id == ZV_WAIT_TOKEN && words[1].value >= 1 && words[1].value <= STREAMS && words[1].value != number) {
         stream->target = words[1].value;
         stream->wanted = words[2].value + ((uint64_t)words[3].value << 32);
     }
@@ -94,8 +120,6 @@ static int serve(zv_journal *journal, int is_broken)
 
 int main(int count, char **words)
 {
-    static const uint32_t painter[] = {0x20400004, 1, 4, 4, 0x20800007, 1, 0, 0, 4, 4, 0xd9534fff, 0x20000003, 1, 0};
-    static const uint32_t waiter[] = {0x20200004, 1, 1, 0, 0x20800007, 1, 1, 1, 2, 2, 0xffffffff};
     int is_broken = count == 2 && strcmp(words[1], "--break") == 0, fault;
     zv_script script;
     zv_journal journal;
@@ -106,9 +130,7 @@ int main(int count, char **words)
     }
     fault = zv_script_begin(&script, zv_file(stdout), 1);
     if (fault == 0)
-        fault = record(&script, &streams[1], painter, sizeof painter / sizeof *painter);
-    if (fault == 0)
-        fault = record(&script, &streams[2], waiter, sizeof waiter / sizeof *waiter);
+        fault = record(&script);
     if (fault == 0)
         fault = zv_script_end(&script);
     if (fault == 0 && puts("journal") == EOF)

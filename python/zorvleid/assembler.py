@@ -17,6 +17,7 @@ HEXADECIMAL = re.compile(r"0[xX][0-9a-fA-F]+")
 NO_PREFIX = re.compile(
     r"[0-9]*[a-fA-F][0-9a-fA-F]*"
 )  # hexadecimal digits of which one is not decimal
+HASH = re.compile(r"#([0-9a-fA-F]+)")  # as colours are written elsewhere
 BYTES = re.compile(r"(?:[0-9a-fA-F]{2})*")
 HANDS_OVER = {1: "flush [PUT] [after S:R ..]", 2: "flush [PUT] [after NS:ID:R ..]"}
 FENCES = {1: "S:R, a stream and a release", 2: "NS:ID:R, the name of a stream and a release"}
@@ -38,6 +39,9 @@ class Assembler(Reader):
         if NO_PREFIX.fullmatch(word.text):
             self.columns[what] = word.column
             raise ScriptError("hexadecimal", what, what=what, given=word.text)
+        if found := HASH.fullmatch(word.text):
+            self.columns[what] = word.column
+            raise ScriptError("prefix", what, what=what, given=word.text, digits=found[1])
         return super().number_of(what, word, greatest, least)
 
     def parsed(self, text: str, greatest: int) -> int | None:
@@ -174,9 +178,13 @@ class Assembler(Reader):
 
 
 def assemble(data: bytes | str, file: str = "-", awaits: bool = False) -> Script:
-    """The script of a text of commands. One that is wrong raises `Refused`.
+    r"""The script of a text of commands. One that is wrong raises `Refused`.
 
     Where it `awaits`, a `finish` goes before what would overwrite entries that may still be read.
+
+    >>> script = assemble("gpu-commands 1\nstream 1 low 16\nSetToken token=7\nflush\n")
+    >>> list(script.lines())
+    ['gpu-script 1', 'stream 1 low 16', 'put 0 00200002 7', 'flush 2']
     """
     text = data if isinstance(data, bytes) else data.encode("utf-8", "surrogateescape")
     return Assembler(file, awaits).read(text)

@@ -13,7 +13,7 @@ def format_number(form: int | str) -> int:
     """A format by its number or by its name."""
     if isinstance(form, int):
         return form
-    if form not in FORMAT_NAMED:
+    if not isinstance(form, str) or form not in FORMAT_NAMED:
         raise ScriptError("format", "format", names=", ".join(FORMAT_NAMED), given=form)
     return FORMAT_NAMED[form]
 
@@ -71,8 +71,10 @@ class Calls:
         if isinstance(data, (bytes, bytearray, memoryview)):
             told = bytes(data)
             entries, count = entries_of_bytes(told), len(told)
-        else:
+        elif isinstance(data, Sequence):
             entries, count = list(data), 4 * len(data)
+        else:
+            raise ScriptError("numbers", "data", what="data", given=repr(data))
         size = count if size is None else size
         self.command(
             "SetBucketDataImmediate", {"bucket": bucket, "offset": offset, "size": size}, entries

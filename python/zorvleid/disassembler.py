@@ -177,5 +177,11 @@ def lines_of(script: Script) -> Iterator[str]:
 
 
 def disassemble(script: Script) -> str:
-    """A script as a text of commands."""
+    r"""A script as a text of commands.
+
+    >>> from .reader import read_script
+    >>> script = read_script("gpu-script 1\nstream 1 low 16\nput 0 00200002 7\nflush 2\n")
+    >>> disassemble(script).splitlines()
+    ['gpu-commands 1', 'stream 1 low 16', '  SetToken token=7', '  flush']
+    """
     return "".join(line + "\n" for line in lines_of(script))

@@ -6,6 +6,9 @@ docs/FORMATS.md lists them, and tests/command_faults.tsv has cases of them.
 MESSAGES = {
     # Lines and words
     "head": "the first line has to be `{head} 1` or `{head} 2`",
+    "a script": "this is a script, and no text of commands: `disassemble` makes one of it",
+    "a text": "this is a text of commands, and no script: `assemble` makes one of it",
+    "an output": "this is an output of `run`, and no {what}",
     "mark": "the text begins with a byte-order mark: save it without one",
     "utf-16": "the text is UTF-16: save it as plain ASCII",
     "line": "no line begins with '{word}'; the nearest word is '{nearest}'",
@@ -13,11 +16,16 @@ MESSAGES = {
     "number": "{what} has to be a number from {least} to {greatest}, not '{given}'",
     "hexadecimal": "{what} has to be a number: '{given}' is hexadecimal "
     "where it is written 0x{given}",
+    "prefix": "{what} has to be a number: '{given}' is written 0x{digits}",
+    "whole": "{what} has to be a whole number, not {given}",
+    "numbers": "{what} has to be numbers, not {given}",
     "value": "a value has 1 to 8 hexadecimal digits, unlike '{given}'",
     "priority": "the priority has to be high, normal or low, not '{given}'",
     "fence": "a fence is written {form}, not '{given}'",
+    "after": "a fence is a stream and a release, not {given}",
     "unchecked": "after `unchecked` there has to be a command, a `word` line or a `put` line",
     # Keys of a command
+    "command": "no command is called {given}",
     "pair": "'{word}' is not KEY=VALUE; the keys of {command} are {keys}",
     "key": "{command} has no key '{key}'; its keys are {keys}",
     "double": "the key '{key}' stands twice",
@@ -29,6 +37,8 @@ MESSAGES = {
     # Streams and memories
     "no stream": "a `stream` line has to come first",
     "next": "the next stream is {wanted}, not {given}",
+    "no name": "streams of version 1 have no names: the next one is stream {wanted}",
+    "name": "a name is a namespace and an id, not {given}",
     "taken": "the stream {name} is there already",
     "streams": "a script has at most {most} streams",
     "late": "`{kind}` has to stand before the first action of its stream",

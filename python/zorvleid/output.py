@@ -7,7 +7,10 @@ not compare lines, such as a step and the order number that it belongs to.
 
 import re
 from dataclasses import dataclass, field
+from itertools import islice
 from typing import NamedTuple, NoReturn
+
+from .commands import decode
 
 SIDE_AT_MOST = 4096
 
@@ -36,8 +39,6 @@ EVENTS = {
     "close": re.compile(f"close {NUMBER}"),
 }
 KINDS = {kind: kind for kind in EVENTS}  # one string of each, for all events
-# how many words of a line stand before those that were fetched
-WORDS_AFTER = {"step": 2, "lost": 3}
 HEAD = "gpu-journal 2"
 NAME = re.compile(f"name {NUMBER} {NUMBER} {LONG_NUMBER}")
 VERDICT = re.compile(f"yes events {NUMBER}")
@@ -77,13 +78,25 @@ class Event(NamedTuple):
     @property
     def words(self) -> str:
         """The words of a step or a loss as they are printed, with a space before each."""
-        before = WORDS_AFTER.get(self.kind, 0)
-        parts = self.text.split(" ", before) if before else []
-        return f" {parts[before]}" if len(parts) > before else ""
+        at = self.text.find(" ", 5) if self.kind in ("step", "lost") else -1
+        if self.kind == "lost":
+            at = self.text.find(" ", at + 1)
+        return self.text[at:] if at > 0 else ""
 
     def fetched(self) -> list[tuple[int, int]]:
         """The places and values of its words."""
         return words_of(self.words)
+
+    @property
+    def command(self) -> str | None:
+        """The name of the command of a step or a loss, where its words are one of the table."""
+        row = decode([value for _, value in self.fetched()]).command if self.words else None
+        return row.name if row else None
+
+    @property
+    def arguments(self) -> dict[str, int]:
+        """The arguments of that command by their keys, those that were fetched."""
+        return decode([value for _, value in self.fetched()]).arguments
 
 
 class Image(NamedTuple):
@@ -165,6 +178,8 @@ class Output:
     views: list[View] = field(default_factory=list)
     event_count: int = 0
     picture: tuple[int, int] = (0, 0)  # the lines of the images, counted from 0: first, past last
+    may_end: bool = False  # whether its end may be missing, and whether it is
+    is_cut: bool = False
 
 
 class Lines:
@@ -196,11 +211,34 @@ class Lines:
         self.at += found is not None
         return found
 
+    @property
+    def is_over(self) -> bool:
+        """Whether this line is not whole or not there, after one that was read."""
+        is_part = self.at + 1 == len(self.lines) and self.here().endswith(NO_LINE_FEED)
+        return self.at > 0 and (is_part or self.at >= len(self.lines))
+
     def refuse(self, why: str = "no line of an output that can stand here") -> NoReturn:
         """Refuses this line."""
         raise OutputRefused(
             self.number, why if self.at < len(self.lines) else "the output ends too early"
         )
+
+
+OTHERS = {
+    "gpu-script": "this is a script, and no output: `run` gives the output of it",
+    "gpu-commands": "this is a text of commands, and no output: `assemble` makes a script of it",
+}
+
+
+def refuse_other(lines: Lines) -> None:
+    """Refuses a script and a text of commands, by the first line that they do not pass over."""
+    for at, line in enumerate(lines.lines):
+        words = line.split()
+        if words and not words[0].startswith("#"):
+            if words[0] in OTHERS:
+                lines.at = at
+                lines.refuse(OTHERS[words[0]])
+            return
 
 
 def words_of(text: str) -> list[tuple[int, int]]:
@@ -240,10 +278,13 @@ def read_head(lines: Lines, output: Output) -> None:
 
 def read_events(lines: Lines, output: Output) -> None:
     """The journal."""
-    while (event := read_event(lines.here(), lines.number)) is not None:
+    for number, text in enumerate(islice(lines.lines, lines.at, None), lines.number):
+        event = read_event(text, number)
+        if event is None:
+            break
         output.events.append(event)
-        lines.at += 1
     output.event_count = len(output.events)
+    lines.at += output.event_count
 
 
 def read_row(lines: Lines, width: int) -> bytes:
@@ -314,10 +355,32 @@ def read_endings(lines: Lines, output: Output) -> None:
         output.views.append(View(int(found[1]), int(found[2]), int(found[3], 16)))
 
 
-def read_output(data: bytes | str) -> Output:
-    """The content of an output; the output of `verify` has images alone."""
+def read_output(data: bytes | str, is_whole: bool = True, first: int = 1) -> Output:
+    r"""The content of an output; the output of `verify` has images alone.
+
+    One that need not be whole may end after any line, or within one: what stands before is read,
+    and it is cut. The number of its first line may be another one.
+
+    >>> events = read_output("order 1 1 2\nstep 1 0:00200002 1:00000007\nfinish 1 1\n").events
+    >>> events[1].command, events[1].arguments
+    ('SetToken', {'token': 7})
+    """
     told = data.encode("utf-8", "surrogateescape") if isinstance(data, str) else data
-    lines, output = Lines(told), Output()
+    lines, output = Lines(told, first), Output(may_end=not is_whole)
+    refuse_other(lines)
+    try:
+        read_parts(lines, output)
+    except OutputRefused:
+        if is_whole or not lines.is_over:
+            raise
+        output.is_cut = True
+    if not is_whole and output.events and not output.streams:
+        output.is_cut = True
+    return output
+
+
+def read_parts(lines: Lines, output: Output) -> None:
+    """All lines, up to the one that is refused."""
     if (found := lines.take(VERDICT)) is not None:
         output.is_verdict, output.event_count = True, int(found[1])
         read_images(lines, output)
@@ -329,7 +392,6 @@ def read_output(data: bytes | str) -> Output:
         read_endings(lines, output)
     if lines.at < len(lines.lines):
         lines.refuse()
-    return output
 
 
 def picture_text(data: bytes, output: Output) -> bytes:

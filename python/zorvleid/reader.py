@@ -16,6 +16,12 @@ MARKS = {b"\xef\xbb\xbf": "mark", b"\xff\xfe": "utf-16", b"\xfe\xff": "utf-16"}
 DECIMAL = {WORD: re.compile(r"[0-9]{1,10}"), LONG: re.compile(r"[0-9]{1,20}")}
 
 
+# The texts that others are taken for: by their heads, and by the first words of outputs.
+HEADS = {"gpu-script": "a script", "gpu-commands": "a text"}
+WHATS = {"gpu-script": "script", "gpu-commands": "text of commands"}
+OUTPUTS = ("gpu-journal", "order", "step", "image", "yes")
+
+
 class Word(NamedTuple):
     """A word of a line, and its column, which counts from 1."""
 
@@ -74,15 +80,19 @@ class Reader:
                 self.script.note(line.strip(" \t\r"))
             return
         self.columns = {"": words[0].column}
-        if self.has_head:
-            self.take(words)
-        else:
+        if not self.has_head:
             self.take_head(words)
+            return
+        self.take(words)
+        if self.script.streams:
+            stream = self.script.streams[-1]
+            stream.origins += [self.number] * (len(stream.items) - len(stream.origins))
 
     def take_head(self, words: Sequence[Word]) -> None:
         """Takes the head line."""
-        if [word.text for word in words] not in ([self.HEAD, "1"], [self.HEAD, "2"]):
-            raise ScriptError("head", head=self.HEAD)
+        texts = [word.text for word in words]
+        if texts not in ([self.HEAD, "1"], [self.HEAD, "2"]):
+            raise self.other_head(texts)
         self.has_head = True
         self.script = Script(
             int(words[1].text),
@@ -90,6 +100,14 @@ class Reader:
             notes=self.script.notes,
             notes_before_head=len(self.script.notes),
         )
+
+    def other_head(self, texts: Sequence[str]) -> ScriptError:
+        """What a text is whose first line is another one."""
+        if texts[0] != self.HEAD and texts[0] in HEADS:
+            return ScriptError(HEADS[texts[0]])
+        if texts[0] in OUTPUTS or texts[0] == "stream" and "entries" in texts:
+            return ScriptError("an output", what=WHATS[self.HEAD])
+        return ScriptError("head", head=self.HEAD)
 
     def take(self, words: Sequence[Word]) -> None:
         """Takes a line of a script."""
@@ -229,9 +247,15 @@ def nearest(word: str, words: Sequence[str]) -> str:
 
 
 def read_script(data: bytes | str, file: str = "-") -> Script:
-    """A script of its text. What the program refuses raises `Refused`.
+    r"""A script of its text. What the program refuses raises `Refused`.
 
     The lines that are passed over are kept, but for those of a very long script.
+
+    >>> read_script("gpu-script 1\nstream 1 low 16\nflush 0\n").streams[0].priority
+    'low'
+    >>> read_script("gpu-script 1\nstream 2 low 16\n")
+    Traceback (most recent call last):
+    zorvleid.errors.Refused: -:2:8: the next stream is 1, not 2
     """
     return Reader(file).read(
         data if isinstance(data, bytes) else data.encode("utf-8", "surrogateescape")

@@ -98,10 +98,19 @@ Item: TypeAlias = Union[Memory, Put, Fill, Flush, Finish, Token, Close, Dump, No
 
 
 def within(what: str, number: int, greatest: int, least: int = 0) -> int:
-    """The number, or an error where it is out of range."""
+    """The number, or an error where it is none or is out of range."""
+    if not isinstance(number, int) or isinstance(number, bool):
+        raise ScriptError("whole", what, what=what, given=repr(number))
     if not least <= number <= greatest:
         raise ScriptError("number", what, what=what, least=least, greatest=greatest, given=number)
     return number
+
+
+def numbers_of(what: str, values: Iterable[int]) -> tuple[int, ...]:
+    """Numbers of 32 bits, or an error where one is none."""
+    if not isinstance(values, Iterable):
+        raise ScriptError("numbers", what, what=what, given=repr(values))
+    return tuple(within(what, value, WORD) for value in values)
 
 
 @dataclass
@@ -126,6 +135,7 @@ class Stream(Calls):
     ) -> None:
         self.version, self.name, self.priority, self.ring = version, name, priority, Ring(size)
         self.items: list[Item] = []
+        self.origins: list[int] = []  # the line of each item, where a text was read
         self.memories: dict[str, dict[int, int]] = {"memory": {}, "results": {}}  # words by number
         self._counts, self._awaits, self._is_checked = counts, awaits, True
         self._has_actions = self._is_closed = False
@@ -144,7 +154,7 @@ class Stream(Calls):
         if self._has_actions:
             raise ScriptError("late", kind=kind)
         there = self.memories[kind]
-        if number in there:
+        if within("M", number, WORD) in there:
             raise ScriptError("declared", "M", kind=kind, number=number)
         within("M", number, MEMORY_AT_MOST)
         within("WORDS", words, SPAN_AT_MOST, least=1)
@@ -163,12 +173,12 @@ class Stream(Calls):
         size: int | None = None,
     ) -> None:
         """Puts a command. A size is given for a Noop alone, and only header and data are put."""
-        row = NAMED[command] if isinstance(command, str) else command
+        row = NAMED.get(command) if isinstance(command, str) else command
+        if row is None:
+            raise ScriptError("command", given=repr(command))
         for key, argument in arguments.items():
             within(key, argument, LONG if key in WIDE else WORD)
-        for value in data:
-            within("data", value, WORD)
-        words = encode(row, arguments, data)
+        words = encode(row, arguments, numbers_of("data", data))
         if row is NOOP and size is not None:
             words[0] = within("size", size, WORD, least=1)
             if size <= len(data):
@@ -193,19 +203,18 @@ class Stream(Calls):
 
     def word(self, *values: int) -> None:
         """Puts entries as they are, where the next command would go."""
-        for value in values:
-            within("value", value, WORD)
+        numbers_of("value", values)
         self._claim(self.ring.place, len(values))
         for value in values:
             self._store(self.ring.place, (value,))
             self.ring.next += 1
 
-    def put(self, place: int, values: Iterable[int]) -> None:
-        """Stores values at places of the ring.
+    def put(self, place: int, values: Iterable[int], is_command: bool = False) -> None:
+        """Stores values at places of the ring; those of a command stay on one line.
 
         Where the next command would go they count as a command does, unless they are unchecked.
         """
-        stored = tuple(within("value", value, WORD) for value in values)
+        stored = numbers_of("value", values)
         within("PLACE", place, WORD)
         if stored and place + len(stored) > self.ring.size:
             raise ScriptError(
@@ -213,12 +222,12 @@ class Stream(Calls):
             )
         self._claim(place, len(stored))
         is_next = self._is_checked and place == self.ring.place
-        self._store(place, stored)
+        self._store(place, stored, is_command)
         self.ring.next += len(stored) if is_next else 0
 
     def fill(self, memory: int, index: int, values: Iterable[int]) -> None:
         """Stores values in a transfer memory, from a word on."""
-        stored = tuple(within("value", value, WORD) for value in values)
+        stored = numbers_of("value", values)
         self._find("memory", memory, index, len(stored))
         self._act(len(stored))
         self.items.append(Fill(memory, index, stored))
@@ -239,7 +248,9 @@ class Stream(Calls):
         ring = self.ring
         if put is None and ring.pending >= ring.size:
             raise ScriptError("full", count=ring.pending, ring=ring.size, most=ring.size - 1)
-        fences = tuple(self._fence(*fence) for fence in after)
+        if not isinstance(after, Iterable):
+            raise ScriptError("after", "FENCE", given=given_of(after))
+        fences = tuple(self._fence(fence) for fence in after)
         if len(fences) > FENCES_AT_MOST:
             raise ScriptError("fences", "FENCE", most=FENCES_AT_MOST)
         self._act(1)
@@ -250,15 +261,17 @@ class Stream(Calls):
         self.items.append(item)
         ring.flush(item.put)
 
-    def _fence(self, stream: "Stream | int | Name", release: int) -> tuple[int, ...]:
-        within("RELEASE", release, LONG)
-        match stream:
-            case Stream():
+    def _fence(self, fence: Fence) -> tuple[int, ...]:
+        match fence:
+            case (Stream() as stream, release):
                 name = stream.name
-            case int():
-                name = (0, stream)
+            case (int(number), release):
+                name = (0, number)
+            case ((space, number), release):
+                name = (space, number)
             case _:
-                name = stream
+                raise ScriptError("after", "FENCE", given=given_of(fence))
+        within("RELEASE", release, LONG)
         if self.version == 1:
             return within("STREAM", name[1], WORD), release
         return within("NS", name[0], WORD), within("ID", name[1], LONG), release
@@ -350,6 +363,11 @@ class Stream(Calls):
                     yield from _lines_of(item)
 
 
+def given_of(fence: object) -> str:
+    """What stands in the place of a fence, for a sentence."""
+    return "a stream alone" if isinstance(fence, Stream) else repr(fence)
+
+
 def notes_of(text: str) -> list[Item]:
     """A text as lines that are passed over."""
     return [
@@ -358,6 +376,14 @@ def notes_of(text: str) -> list[Item]:
         )
         for line in text.split("\n")
     ]
+
+
+def pair_of(name: Name) -> Name:
+    """A namespace and an id."""
+    match name:
+        case (int(space), int(id)):
+            return space, id
+    raise ScriptError("name", "NS", given=repr(name))
 
 
 def _units(put: Put) -> Iterator[tuple[int, list[str]]]:
@@ -434,10 +460,12 @@ class Script:
         number = len(self.streams) + 1
         if priority not in PRIORITIES:
             raise ScriptError("priority", "PRIORITY", given=priority)
-        name = (0, number) if name is None else name
-        if self.version == 1 and name != (0, number):
-            raise ScriptError("next", "S", wanted=number, given=name[1])
-        within("ID", name[1], LONG)
+        space, id = pair_of((0, number) if name is None else name)
+        if self.version == 1 and space != 0:
+            raise ScriptError("no name", "S", wanted=number)
+        if self.version == 1 and id != number:
+            raise ScriptError("next", "S", wanted=number, given=id)
+        name = (space, within("ID", id, LONG))
         if any(stream.name == name for stream in self.streams):
             raise ScriptError("taken", "NS", name=name)
         within("RING", ring, RING_AT_MOST, least=RING_AT_LEAST)

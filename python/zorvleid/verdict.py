@@ -1,21 +1,18 @@
 """The program's verdict on a journal: `verify` runs it, and gives a `Verdict`."""
 
-import os
 import re
-import shutil
-import subprocess
 from dataclasses import dataclass
 from pathlib import Path
 
 from .output import Image, Output, OutputRefused, read_output
+from .program import ProgramFault, Ran, bytes_of, called, fault_of
 from .script import Script
 
 YES, REFUSED, NO, NOT_COMPLETE, NO_JOURNAL = 0, 5, 9, 10, 11
-SAID = re.compile(r"no: event (\d+) rule (\d+)|refused: (?:journal )?line (\d+).*")
-
-
-class ProgramFault(Exception):
-    """The program is not there, or does not answer."""
+SAID = re.compile(
+    r"no: event (?P<event>\d+) rule (?P<rule>\d+)|no: line (?P<off>\d+): (?P<due>\w+)"
+    r"|refused: (?:journal )?line (?P<line>\d+).*"
+)
 
 
 @dataclass(frozen=True)
@@ -26,7 +23,8 @@ class Verdict:
     text: str
     event: int | None = None  # the first that breaks a rule, and the rule
     rule: int | None = None
-    line: int | None = None  # of the whole input, where the script or the journal is refused
+    line: int | None = None  # of the whole input, where one is refused or off
+    due: str | None = None  # what is due in a line that is off, as `image`
     images: tuple[Image, ...] = ()
 
     @property
@@ -37,17 +35,6 @@ class Verdict:
     def __bool__(self) -> bool:
         """As `is_yes`, so that `if verify(..):` asks what it seems to ask."""
         return self.is_yes
-
-
-def program_here() -> Path:
-    """The program: $ZORVLEID, `zorvleid` of this repository, or `zorvleid` on the path."""
-    beside = Path(__file__).resolve().parents[2] / "zorvleid"
-    found = os.environ.get("ZORVLEID") or (
-        str(beside) if beside.is_file() else shutil.which("zorvleid")
-    )
-    if not found:
-        raise ProgramFault("there is no program: set ZORVLEID to it, or put zorvleid on the path")
-    return Path(found)
 
 
 def output_of(written: bytes) -> Output:
@@ -61,30 +48,43 @@ def output_of(written: bytes) -> Output:
     return output
 
 
+def ended(text: bytes) -> bytes:
+    """A text whose last line has a line feed."""
+    return text if not text or text.endswith(b"\n") else text + b"\n"
+
+
+def joined(script: bytes, journal: bytes) -> bytes:
+    """The input of `verify` that a script and a journal are."""
+    return ended(script) + b"journal\n" + ended(journal)
+
+
 def verify(
-    script: Script | str | bytes, journal: str | bytes, program: Path | str | None = None
+    script: Script | str | bytes,
+    journal: Ran | str | bytes,
+    whole: bool = False,
+    program: Path | str | None = None,
 ) -> Verdict:
-    """Has the program judge a journal, or a whole output, by a script."""
-    text = script.text() if isinstance(script, Script) else script
-    before = text.encode("utf-8", "surrogateescape") if isinstance(text, str) else text
-    after = journal.encode("utf-8", "surrogateescape") if isinstance(journal, str) else journal
-    whole = before + (b"" if before.endswith(b"\n") or not before else b"\n") + b"journal\n" + after
-    path = Path(program or program_here()).resolve()
-    try:
-        ran = subprocess.run([path, "verify"], input=whole, capture_output=True, check=False)
-    except OSError as error:
-        raise ProgramFault(f"the program does not start: {path}: {error.strerror}") from None
+    r"""Has the program judge a journal by a script, and every line of an output if it is `whole`.
+
+    >>> script = "gpu-script 1\nstream 1 low 16\nflush 0\n"
+    >>> verify(script, "order 1 1 0\nfinish 1 1\n").text
+    'yes events 2'
+    >>> verify(script, "order 1 1 0\nfinish 1 2\n").rule
+    4
+    """
+    after = journal.text if isinstance(journal, Ran) else bytes_of(journal)
+    data = joined(bytes_of(script), after)
+    ran = called(["verify", *(["--whole"] if whole else [])], data, program)
     lines = ran.stderr.decode("utf-8", "replace").splitlines() or [""]
     said = next((line for line in lines if SAID.fullmatch(line)), lines[0])
     if ran.returncode == YES:
         output = output_of(ran.stdout)
         return Verdict(YES, f"yes events {output.event_count}", images=tuple(output.images))
     if ran.returncode not in (REFUSED, NO, NOT_COMPLETE, NO_JOURNAL):
-        raise ProgramFault(f"the program ends with status {ran.returncode}: {said}")
+        raise fault_of(ran)
     found = SAID.fullmatch(said)
-    event, rule, line = (
-        [int(number) if number else None for number in found.groups()]
-        if found
-        else [None, None, None]
+    parts = found.groupdict() if found else {}
+    event, rule, off, line = (
+        int(parts[name]) if parts.get(name) else None for name in ("event", "rule", "off", "line")
     )
-    return Verdict(ran.returncode, said, event, rule, line)
+    return Verdict(ran.returncode, said, event, rule, off or line, parts.get("due"))

@@ -14,7 +14,7 @@ let colours = {};
 function readColours() {
   const style = getComputedStyle(document.documentElement);
   for (const name of ["text", "faint", "page", "card", "line", "queue", "edge", "run", "step", "dot", "gone", "release", "guard",
-    "closed", "lost", "failed", "dropped", "focus", "match"]) colours[name] = style.getPropertyValue(`--${name}`).trim();
+    "closed", "lost", "failed", "dropped", "race", "focus", "match", "paint", "sync", "store", "other"]) colours[name] = style.getPropertyValue(`--${name}`).trim();
 }
 
 // ---- Places
@@ -59,7 +59,7 @@ const stripScale = { at: place => (place + 0.5) / total * view.width, back: posi
 
 // The spans, marks and arrows of the latest picture of the chart. The width bounds their number,
 // however long the run is.
-const drawn = { count: 0 };
+const drawn = { count: 0, names: [], arrows: [], waits: [] };
 
 // Fills rising spans, each pixel once: a span that ends within the filled part is passed over.
 function fillSpans({ from, to }, { at, back }, fill) {
@@ -181,6 +181,10 @@ function drawLabel(pen, lane, bar, left, right, labelled) {
   pen.fillText(text, at, rowTop(lane, bar.row) - 4);
 }
 
+// The sort of a command, which is the colour of its tick: on images, for waits, on buckets and buffers.
+const sortOf = name => /Image|Rect|^Upload/.test(name) ? "paint" : /Fence|^Wait/.test(name) ? "sync"
+  : /Bucket|Buffer/.test(name) ? "store" : "other";
+
 const SHAPES = {
   step: (pen, cx, cy) => pen.rect(cx - 2, cy - 6, 4, 12),
   order: (pen, cx, cy) => pen.arc(cx, cy, 5, 0, 7),
@@ -191,14 +195,14 @@ const SHAPES = {
   dropped: (pen, cx, cy) => { pen.moveTo(cx, cy - 8); pen.lineTo(cx + 8, cy); pen.lineTo(cx, cy + 8); pen.lineTo(cx - 8, cy); pen.closePath(); },
 };
 
-function drawMark(pen, mark, cx, cy) {
+function drawMark(pen, mark, cx, cy, tick = colours.step) {
   pen.beginPath();
   SHAPES[mark](pen, cx, cy);
   pen.lineWidth = mark === "lost" ? 4 : 2;
   pen.strokeStyle = { order: colours.dot, lost: colours.lost, failed: colours.card, dropped: colours.card, close: colours.card,
     finish: colours.card }[mark] ?? colours.step;
   pen.fillStyle = { order: colours.card, finish: colours.dot, close: colours.closed, failed: colours.failed,
-    dropped: colours.dropped }[mark] ?? colours.step;
+    dropped: colours.dropped }[mark] ?? tick;
   if (mark !== "lost") pen.fill();
   if (mark !== "step") pen.stroke();
 }
@@ -212,7 +216,28 @@ function drawEvents(pen) {
   for (let place = Math.max(0, Math.floor(view.from)); place < last; place += 1) {
     if (markOf.has(place) || !hasShapes(lanes[streamOf(place)])) continue;
     drawn.count += 1;
-    drawMark(pen, kindOf(place), x(place), y(place));
+    drawMark(pen, kindOf(place), x(place), y(place), colours[sortOf(nameOf(place))]);
+  }
+}
+
+// The name of each command on its bar, where it has room up to the next event of its stream.
+const wideOf = new Map();
+function drawNames(pen) {
+  if (view.column < MARK_COLUMN) return;
+  pen.font = "10px system-ui, sans-serif";
+  pen.textBaseline = "alphabetic";
+  Object.assign(pen, { fillStyle: colours.step, strokeStyle: colours.run, lineWidth: 3, lineJoin: "round" });
+  const last = Math.min(total, Math.ceil(until()));
+  for (let place = Math.max(0, Math.floor(view.from)); place < last; place += 1) {
+    const lane = lanes[streamOf(place)], left = x(place) + (markOf.has(place) ? 10 : 5);
+    if (kindOf(place) !== "step" || !hasShapes(lane)) continue;
+    const name = nameOf(place), next = lane.events[lowest(lane.events, place + 1)] ?? total;
+    if (!wideOf.has(name)) wideOf.set(name, pen.measureText(name).width);
+    if (left + wideOf.get(name) + 5 > Math.min(x(next), view.width)) continue;
+    drawn.count += 1;
+    drawn.names.push(place);
+    pen.strokeText(name, left, y(place) + 3.5); // an arrow may be under it
+    pen.fillText(name, left, y(place) + 3.5);
   }
 }
 
@@ -243,16 +268,40 @@ function drawArrows(pen) {
   let count = begun[1] - begun[0];
   for (let at = come[0]; at < come[1]; at += 1) if (endsByLets[at] < left) count += 1;
   if (count > ARROWS_DRAWN) return count;
-  for (const wait of new Set([...arrowsByEnd.slice(...begun), ...waitsBy.lets.slice(...come)])) drawArrow(pen, wait);
+  drawn.arrows = [...new Set([...arrowsByEnd.slice(...begun), ...waitsBy.lets.slice(...come)])];
+  for (const wait of drawn.arrows) drawArrow(pen, wait);
   drawn.count += count;
   return 0;
 }
 
 const DASHES = { release: [], guard: [7, 4], closed: [2, 4] };
 
-function drawArrow(pen, { how, ended, lets }) {
-  const x1 = Math.max(-20, x(ended)), x2 = Math.min(view.width + 20, x(lets) - 3);
-  const down = y(lets) > y(ended) ? 1 : -1, y1 = y(ended) + 8 * down, y2 = y(lets) - 10 * down;
+function endsOf({ ended, lets }) {
+  const down = y(lets) > y(ended) ? 1 : -1;
+  return { down, x1: Math.max(-20, x(ended)), x2: Math.min(view.width + 20, x(lets) - 3), y1: y(ended) + 8 * down, y2: y(lets) - 10 * down };
+}
+
+// How long a wait lasted, at an end of its arrow: where that is drawn, and no other one says it.
+function drawWaited(pen, wait) {
+  const { down, x1, x2, y1, y2 } = endsOf(wait), text = waited(wait);
+  pen.font = "11px system-ui, sans-serif";
+  const wide = pen.measureText(text).width, low1 = y1 + (down > 0 ? 12 : -4), low2 = y2 + (down > 0 ? 2 : 6);
+  const isFree = ([left, low]) => left >= 0 && left + wide <= view.width && drawn.waits.every(other =>
+    Math.abs(other.low - low) > 13 || other.left > left + wide + 4 || other.left + other.wide + 4 < left);
+  const place = [[x1 + 8, low1], [x1 - 8 - wide, low1], [x2 + 8, low2], [x2 - 8 - wide, low2]].find(isFree);
+  if (!place) return;
+  const [left, low] = place;
+  drawn.waits.push({ wait: wait.index, text, left, low, wide });
+  pen.lineWidth = 4;
+  pen.lineJoin = "round";
+  pen.strokeStyle = colours.page;
+  pen.strokeText(text, left, low);
+  pen.fillStyle = colours[wait.how];
+  pen.fillText(text, left, low);
+}
+
+function drawArrow(pen, wait) {
+  const { how } = wait, { down, x1, x2, y1, y2 } = endsOf(wait);
   const bend = Math.max(24, Math.abs(y2 - y1) / 2);
   for (const [colour, wide, dash] of [[colours.card, 5, []], [colours[how], 2, DASHES[how]]]) {
     pen.strokeStyle = colour;
@@ -308,14 +357,17 @@ function penOf(canvas, width, height) {
 
 function drawChart() {
   const pen = penOf(element("chart"), view.width, view.height);
-  drawn.count = 0;
+  Object.assign(drawn, { count: 0, names: [], arrows: [], waits: [] });
   pen.clearRect(0, 0, view.width, view.height);
   for (const lane of lanes) drawGround(pen, lane);
   drawAxis(pen);
   for (const lane of lanes) drawBars(pen, lane);
   const hidden = drawArrows(pen);
   drawEvents(pen);
+  drawNames(pen);
+  for (const wait of drawn.arrows) drawWaited(pen, wait);
   drawMarks(pen);
+  drawRaces(pen);
   drawMatches(pen);
   drawChosen(pen);
   return hidden;

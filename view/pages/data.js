@@ -7,6 +7,7 @@ const KINDS = { o: "order", s: "step", f: "finish", l: "lost", c: "close" };
 
 const element = id => document.getElementById(id);
 const kindOf = place => KINDS[data.kinds[place]];
+const nameOf = place => data.names[data.nameOf[place]];
 const streamOf = place => data.streamOf[place];
 const numberOf = place => data.barOf[place] + 1;
 const shown = number => number.toLocaleString("en");
@@ -175,7 +176,7 @@ function stateAt(stream, place) {
 
 // ---- Search
 
-const FIELDS = /\b(image|stream|order|number|event|command)[ :=]+(\S+)/g;
+const FIELDS = /\b(image|stream|order|number|event|command|release|texel|error)[ :=]+(\S+)/g;
 
 // The text of each event in small letters, made some at a time while the page is idle.
 const LINES_AT_ONCE = 500;
@@ -195,9 +196,10 @@ function search(asked) {
   const wanted = [];
   const rest = asked.toLowerCase().replace(FIELDS, (_, field, value) => { wanted.push([field, value]); return " "; });
   const words = rest.split(/\s+/).filter(word => word);
-  const tests = wanted.map(([field, value]) => testOf(field, value));
-  if (words.length === 1 && !tests.length && /^[0-9,]+$/.test(words[0])) {
-    const number = Number(words[0].replaceAll(",", ""));
+  const image = wanted.find(([field]) => field === "image")?.[1];
+  const tests = wanted.map(([field, value]) => testOf(field, value, image));
+  if (words.length === 1 && !tests.length && /^#?[0-9,]+$/.test(words[0])) {
+    const number = Number(words[0].replaceAll(/[#,]/g, ""));
     if (number >= 1 && number <= total) return [number - 1];
   }
   if (!words.length && !tests.length) return [];
@@ -209,13 +211,44 @@ function search(asked) {
   return found;
 }
 
-function testOf(field, value) {
+// The events that a release names, or that made, ended or let go on a wait for it.
+function releasing(digits) {
+  const found = new Set(data.released[digits] ?? []);
+  for (const wait of waits) if (wait.release === digits) [wait.made, wait.ended, wait.lets].forEach(place => found.add(place));
+  return place => found.has(place);
+}
+
+// The events that wrote a texel by its place, as `2,3`, or that name its value.
+function texelTest(value, image) {
+  const at = /^([0-9]+),([0-9]+)$/.exec(value);
+  if (!at) {
+    const word = `texel ${value.replace(/^(0x|#)/, "")}`;
+    prepareLines(total);
+    return place => lines[place].includes(word);
+  }
+  const [x, y] = [Number(at[1]), Number(at[2])], numbers = image === undefined ? imageNumbers : [Number(image)];
+  const found = new Set(numbers.flatMap(number => writersOf(number, x, y).map(write => write.place)));
+  return place => found.has(place);
+}
+
+// The events that failed or lost their stream with an error, by its number or by its name.
+function errorTest(value) {
+  prepareLines(total);
+  return place => ["failed", "lost"].includes(markOf.get(place))
+    && (lines[place].includes(`failed, ${value}`) || lines[place].includes(`lost by ${value}`)
+      || kindOf(place) === "lost" && data.texts[place].split(" ")[2] === value);
+}
+
+function testOf(field, value, image) {
   const digits = value.replaceAll(",", ""), number = Number(digits); // numbers are shown with commas
   if (field === "image") {
     const named = new Set(data.named[digits] ?? []);
     return place => named.has(place);
   }
   if (field === "stream") return place => streamOf(place) === number - 1;
+  if (field === "release") return releasing(digits);
+  if (field === "texel") return texelTest(value, image);
+  if (field === "error") return errorTest(value);
   if (field === "event") return place => place === number - 1;
   if (field === "command") {
     const which = new Set(data.names.map((name, at) => [name, at]).filter(([name]) => name.toLowerCase().startsWith(value))

@@ -1,6 +1,6 @@
 // The images as they were after an event, from the differences that each event wrote.
 
-const IMAGES_SHOWN = 24, WRITERS_SHOWN = 100, FIGURE = 200;
+const IMAGES_SHOWN = 24, WRITERS_SHOWN = 100, COPIES_TOLD = 50, FIGURE = 200;
 const WROTE = 0, MADE = 1, GONE = 2;
 
 const writes = data.writes.map(([place, image, x, y, w, h, at, size, kind]) => ({ place, image, x, y, w, h, at, size, kind }));
@@ -129,6 +129,15 @@ function writersOf(image, x, y) {
     && x >= write.x && x < write.x + write.w && y >= write.y && y < write.y + write.h);
 }
 
+// Where a copy took a texel from: the image, the texel there, and the latest write of it before.
+const copyOf = new Map(data.copies.map(([place, source, x, y]) => [place, { source, x, y }]));
+function originOf(write, x, y) {
+  const copy = write.kind === WROTE ? copyOf.get(write.place) : undefined;
+  if (!copy) return undefined;
+  const from = { image: copy.source, x: x - write.x + copy.x, y: y - write.y + copy.y };
+  return { ...from, write: writersOf(from.image, from.x, from.y).findLast(one => one.place < write.place) };
+}
+
 // ---- Showing
 
 function scaleOf({ width, height }) {
@@ -148,7 +157,7 @@ function paint(canvas, shown, texel) {
     pen.imageSmoothingEnabled = false;
     pen.drawImage(plain, 0, 0, canvas.width, canvas.height);
   }
-  const thick = Math.max(1, Math.ceil(canvas.width / 200));
+  const thick = Math.max(1, Math.round(canvas.width / (canvas.clientWidth || canvas.width))); // a pixel of the screen
   for (const { x, y, w, h } of wrote) if (w && h) outline(pen, x * scale, y * scale, w * scale, h * scale, thick);
   if (texel) outline(pen, texel.x * scale, texel.y * scale, scale, scale, thick, colours.match);
 }
@@ -222,13 +231,25 @@ function tellTexel() {
   const list = tag(box, "ul");
   const before = lowest(found, view.chosen + 1, write => write.place);
   const first = limited(before - WRITERS_SHOWN / 2, 0, Math.max(0, found.length - WRITERS_SHOWN));
-  for (const { place } of found.slice(first, first + WRITERS_SHOWN)) {
+  for (const write of found.slice(first, first + WRITERS_SHOWN)) {
+    const { place } = write;
     const item = tag(list, "li", undefined, place === view.chosen ? "chosen" : "");
     link(item, place);
     tag(item, "span", ` ${data.notes[place]}`);
+    tellOrigins(item, write, x, y);
   }
   const rest = found.length - Math.min(found.length, WRITERS_SHOWN);
   if (rest) tag(box, "p", `${shown(rest)} more are not listed.`);
+}
+
+// Goes on through copies: from which texel each one took it, and who wrote that one.
+function tellOrigins(parent, write, x, y) {
+  for (let told = 0, from; told < COPIES_TOLD && (from = originOf(write, x, y))?.write; told += 1) {
+    ({ x, y, write } = from);
+    parent = tag(tag(parent, "ul"), "li", `texel ${x}, ${y} of image ${from.image}, by `);
+    link(parent, write.place);
+    tag(parent, "span", ` ${data.notes[write.place]}`);
+  }
 }
 
 function tellImages() {

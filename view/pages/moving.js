@@ -55,24 +55,40 @@ function zoom(factor, position = isDrawn(view.chosen) ? x(view.chosen) : view.wi
 const pan = share => show(view.from + share * view.count);
 const fit = () => show(0, total);
 
-function choose(place, isFocused = false) {
+function choose(place, inSight = true) {
   if (!total || place < 0) return;
   view.chosen = limited(place, 0, total - 1);
   if (!isDrawn(view.chosen)) show(view.chosen - view.count / 2);
   clearTimeout(due.hash);
   due.hash = setTimeout(() => history.replaceState(null, "", `#event=${view.chosen + 1}`), HASH_AFTER);
-  due.sight ||= isFocused;
+  due.sight ||= inSight;
   redraw(true);
 }
 
 // Scrolls where the lane of the chosen event is out of sight, as in a chart that is taller than the
-// window, or where the event's box, which is there by now, lies over it.
+// window, or where the event's box, which is there by now, lies over it. Of a lane of many rows the row counts.
+const WHOLE_LANE = 120;
 function bringIntoSight() {
   due.sight = false;
-  const top = element("chart").getBoundingClientRect().top + y(view.chosen);
-  const box = element("detail").getBoundingClientRect(), beside = box.left > element("chart").getBoundingClientRect().right;
+  const chart = element("chart").getBoundingClientRect(), lane = lanes[streamOf(view.chosen)];
+  const isWhole = lane.height <= WHOLE_LANE;
+  const top = chart.top + (isWhole ? lane.top : y(view.chosen) - 24), low = chart.top + (isWhole ? lane.top + lane.height : y(view.chosen) + 24);
+  const box = element("detail").getBoundingClientRect(), beside = box.left > chart.right;
   const bottom = beside ? innerHeight : Math.min(innerHeight, box.top);
-  if (top < 40) scrollBy(0, top - 80); else if (top > bottom - 24) scrollBy(0, top - bottom + 60);
+  if (top < 16) scrollBy(0, top - 40); else if (low > bottom - 8) scrollBy(0, Math.min(top - 16, low - bottom + 24));
+}
+
+// What the mouse is over, in a box beside it.
+function showTip(place) {
+  const tip = element("tip");
+  tip.hidden = place < 0;
+  if (tip.hidden) return;
+  tip.replaceChildren();
+  tag(tip, "b", `Event ${shown(place + 1)}: ${nameOf(place)}`);
+  tag(tip, "span", data.notes[place].replace(`${nameOf(place)}: `, ""));
+  for (const wait of waitsAt(place).filter(one => one.lets >= 0).slice(0, 3)) tag(tip, "span", `number ${shown(wait.number)} ${waited(wait)}`);
+  tip.style.left = `${limited(x(place) - tip.offsetWidth / 2, 0, Math.max(0, view.width - tip.offsetWidth))}px`;
+  tip.style.top = `${y(place) + 20}px`;
 }
 
 function fromAddress() {
@@ -114,8 +130,7 @@ const apart = () => Math.max(20, Math.max(...pointers.values()) - Math.min(...po
 function dragged(event) {
   const chart = element("chart"), left = chart.getBoundingClientRect().left;
   if (!pointers.has(event.pointerId)) {
-    const place = eventAt(event.offsetX, event.offsetY);
-    chart.title = place < 0 ? "" : `event ${shown(place + 1)}: ${data.notes[place]}`;
+    showTip(event.pointerType === "touch" ? -1 : eventAt(event.offsetX, event.offsetY));
     return;
   }
   const before = middle(), wide = apart();
@@ -147,6 +162,7 @@ function listenToChart() {
   const chart = element("chart");
   chart.addEventListener("wheel", wheeled, { passive: false });
   chart.addEventListener("pointerdown", event => {
+    showTip(-1);
     if (event.button) return;
     chart.setPointerCapture(event.pointerId);
     pointers.set(event.pointerId, event.clientX - chart.getBoundingClientRect().left);
@@ -155,6 +171,7 @@ function listenToChart() {
   chart.addEventListener("pointermove", dragged);
   chart.addEventListener("pointerup", released);
   chart.addEventListener("pointercancel", released);
+  chart.addEventListener("pointerleave", () => showTip(-1));
   const overview = element("overview");
   const goTo = event => show(event.offsetX / view.width * total - view.count / 2);
   overview.addEventListener("pointerdown", event => { overview.setPointerCapture(event.pointerId); goTo(event); });
@@ -175,8 +192,8 @@ const CHOOSING = {
 };
 const MOVING = {
   w: () => zoom(1 / 1.5), s: () => zoom(1.5), a: () => pan(-0.2), d: () => pan(0.2), f: fit,
-  n: () => toMatch(1), N: () => toMatch(-1), e: () => choose(next(marks.failed, view.chosen), true),
-  l: () => choose(next(marks.lost, view.chosen), true), "/": () => element("search").focus(),
+  n: () => toMatch(1), N: () => toMatch(-1), e: () => choose(next(marks.failed, view.chosen)),
+  l: () => choose(next(marks.lost, view.chosen)), "/": () => element("search").focus(),
 };
 
 function pressed(event) {
@@ -186,7 +203,7 @@ function pressed(event) {
   const moving = Object.hasOwn(MOVING, event.key) && MOVING[event.key];
   if (!choosing && !moving) return;
   event.preventDefault();
-  if (choosing) choose(limited(choosing(view.chosen), 0, total - 1), true); else moving();
+  if (choosing) choose(limited(choosing(view.chosen), 0, total - 1)); else moving();
 }
 
 // ---- Search
@@ -251,7 +268,8 @@ function begin() {
   tellLanes();
   tellMarks();
   view.width = Math.max(200, element("stage").clientWidth);
-  show(0, Math.max(8, Math.floor(view.width / FIRST_COLUMN)));
+  view.chosen = Math.max(0, total - 1);
+  show(total, Math.max(8, Math.floor(view.width / FIRST_COLUMN)));
   look();
   fromAddress();
   redraw(true);

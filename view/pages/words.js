@@ -38,23 +38,29 @@ function tellEvent() {
   const told = waitsAt(place);
   for (const wait of told.slice(0, WAITS_TOLD)) tellWait(detail, wait, place);
   if (told.length > WAITS_TOLD) tag(detail, "p", `${shown(told.length - WAITS_TOLD)} more waits are not told here.`);
+  tellRaces(detail, place);
 }
+
+const waited = wait => `waited ${counted(wait.ended - wait.made, "event")}`;
 
 function tellWait(parent, wait, place) {
   if (wait.how === "dropped") return;
   const box = tag(parent, "p"), who = `number ${shown(wait.number)} of stream ${wait.stream + 1}`;
   const on = `stream ${wait.target} to come to release ${wait.release}`;
-  if (wait.made === place) {
+  if (wait.how === "pending") {
+    tag(box, "span", `Its wait for ${on} is pending where the output ends.`);
+  } else if (wait.made === place) {
     tag(box, "span", wait.how === "gone" ? "Its wait is gone at " : `Its wait for ${on} ends (${wait.how}) at `);
     link(box, wait.ended);
+    tag(box, "span", `: it ${waited(wait)}.`);
   } else if (wait.ended === place) {
     tag(box, "span", wait.how === "gone" ? `The wait of ${who} is gone with its stream.`
-      : `It ended the wait of ${who} for ${on} (${wait.how}), which lets `);
-    if (wait.how !== "gone") { link(box, wait.lets); tag(box, "span", " come."); }
+      : `It ended the wait of ${who} for ${on} (${wait.how}), which ${waited(wait)}${wait.lets < 0 ? "." : " and lets "}`);
+    if (wait.lets >= 0) { link(box, wait.lets); tag(box, "span", " come."); }
   } else {
     tag(box, "span", `It could come once `);
     link(box, wait.ended);
-    tag(box, "span", ` had ended its wait for ${on} (${wait.how}).`);
+    tag(box, "span", ` had ended its wait for ${on} (${wait.how}): it ${waited(wait)}.`);
   }
 }
 
