@@ -4,7 +4,8 @@ use Rattle.std.proofs.lemmas.Bool.Decides.{nat_tests}
 use Rattle.std.proofs.lemmas.List.{length-map, get_or-map, length-take-le, map_push, length_push, take_more}
 use Rattle.std.proofs.lemmas.List.Elements.{All-push}
 use Rattle.std.proofs.lemmas.Option.{get_or_from_slice_get, slice_get_within}
-use Rattle.std.specs.Prelude.{nat_lt, slice_get}
+use Rattle.std.specs.Prelude.{nat_lt, slice_get, Vec}
+use Rattle.std.specs.declared.alloc.Global.{Global}
 use Rattle.std.specs.List.{All}
 use Rattle.atomic_table.specs.Seated.{TableId}
 use Rattle.gpu_word.specs.Results.{Written}
@@ -21,9 +22,10 @@ use Rattle.gpu_house.specs.Names.{table_at}
 use Rattle.gpu_house.specs.Making.{AreFreshResults}
 use Rattle.gpu_threads.specs.declared.full_pass.FullPass.{FullPass}
 use Rattle.gpu_threads.specs.declared.parts.Parts.{Parts}
+use Rattle.gpu_threads.specs.declared.parts.Service.{Service}
 use Rattle.thread_parts.specs.Clients.{ThreadClientData}
 use Rattle.gpu_threads.specs.Clients.{AreClientsFrom, AreClientsOf}
-use Rattle.gpu_threads.specs.Making.{AreOfStreamsFrom, AreClients, AreFreshWriters, HaveDoneNothing, AreNamed}
+use Rattle.gpu_threads.specs.Making.{AreOfStreamsFrom, AreClients, AreFreshWriters, IsFreshService, HaveDoneNothing, AreNamed, HasRoom}
 use Rattle.gpu_threads.specs.Rows.{AreShared, shared_in, results_in}
 use Rattle.gpu_threads.specs.Words.{of_tables}
 use Rattle.gpu_threads.proofs.Shared.{shared_words}
@@ -111,59 +113,75 @@ module _ {X Y : Type 0} (f : X → Y) where
   one_longer : (xs more : List X) (ys : List Y) (x : X) (y : Y) → more ≡ xs ++ x ∷ [] → map f xs ≡ ys → f x ≡ y → map f more ≡ ys ++ y ∷ []
   one_longer xs more ys x y longer are is = ap (map f) longer ∙ map_push f xs x ∙ ap (λ (row : List Y). row ++ f x ∷ []) are ∙ ap (λ (z : Y). ys ++ z ∷ []) is
 
--- what is made for one stream, of its plan and with its number
-pub record IsMade (stream : ℕ) (plan : PlanData) (word : TableId × TableId) (queue : TableId) (client : ThreadClientData) (side : FullPass) (writer : ResultWriterData) (taker : EndData) (book : Booked) : Type 0 where
-  pub client_is : client ≡ record { stream = stream; pass = client_at word.0 plan; poster = fresh_end queue word.0 plan; held = None; reader = reader_at word.1 (words_in plan.areas.results); due = None; dumps = [] }
-  pub side_is : side.pass ≡ service_at word.0 plan
-  pub writer_is : writer ≡ writer_at word.1 (words_in plan.areas.results)
-  pub taker_is : taker ≡ fresh_end queue word.0 plan
-  pub blank : IsFresh book
+-- what is made for one stream
+pub record StreamParts : Type 0 where
+  pub words : TableId × TableId
+  pub queue : TableId
+  pub client : ThreadClientData
+  pub side : FullPass
+  pub results : ResultWriterData
+  pub book : Booked
+  pub taker : EndData
+
+-- it is made of its plan and with its number
+pub record IsMade (stream : ℕ) (plan : PlanData) (made : StreamParts) : Type 0 where
+  pub client : made.client ≡ record { stream = stream; pass = client_at made.words.0 plan; poster = fresh_end made.queue made.words.0 plan; held = None; reader = reader_at made.words.1 (words_in plan.areas.results); due = None; dumps = [] }
+  pub side : made.side.pass ≡ service_at made.words.0 plan
+  pub writer : made.results ≡ writer_at made.words.1 (words_in plan.areas.results)
+  pub taker : made.taker ≡ fresh_end made.queue made.words.0 plan
+  pub blank : IsFresh made.book
 
 -- each of it is pushed to its list
-pub record IsPushed (old new : Parts) (word : TableId × TableId) (queue : TableId) (client : ThreadClientData) (side : FullPass) (writer : ResultWriterData) (taker : EndData) (book : Booked) : Type 0 where
-  pub words : new.words.items ≡ old.words.items ++ word ∷ []
-  pub clients : new.clients.items ≡ old.clients.items ++ client ∷ []
-  pub sides : new.sides.items ≡ old.sides.items ++ side ∷ []
-  pub results : new.results.items ≡ old.results.items ++ writer ∷ []
-  pub books : new.books.items ≡ old.books.items ++ book ∷ []
-  pub queues : new.queues.items ≡ old.queues.items ++ queue ∷ []
-  pub takers : new.takers.items ≡ old.takers.items ++ taker ∷ []
+pub record ArePushed (old new : Parts) (made : StreamParts) : Type 0 where
+  pub words : new.words.items ≡ old.words.items ++ made.words ∷ []
+  pub queues : new.queues.items ≡ old.queues.items ++ made.queue ∷ []
+  pub clients : new.clients.items ≡ old.clients.items ++ made.client ∷ []
+  pub sides : new.service.sides.items ≡ old.service.sides.items ++ made.side ∷ []
+  pub results : new.service.results.items ≡ old.service.results.items ++ made.results ∷ []
+  pub books : new.service.books.items ≡ old.service.books.items ++ made.book ∷ []
+  pub takers : new.service.takers.items ≡ old.service.takers.items ++ made.taker ∷ []
 
-pub one_more : (plans : List PlanData) (plan : PlanData) (old new : Parts) (stream : ℕ) (word : TableId × TableId) (queue : TableId) (client : ThreadClientData) (side : FullPass) (writer : ResultWriterData) (taker : EndData) (book : Booked) → stream ≡ length plans + 1
-    → IsMade stream plan word queue client side writer taker book → IsPushed old new word queue client side writer taker book → HaveDoneNothing plans old → HaveDoneNothing (plans ++ plan ∷ []) new
-one_more plans plan old new stream word queue client side writer taker book number made pushed was =
+-- a list that had room has one thing more
+pub room_taken : {X : Type 0} (old mid : Vec X Global) (new : List X) (x : X) → HasRoom old mid → new ≡ mid.items ++ x ∷ [] → new ≡ old.items ++ x ∷ []
+room_taken {X = X} old mid new x room pushed = pushed ∙ ap (λ (l : List X). l ++ x ∷ []) room.items
+
+pub one_more : (plans : List PlanData) (plan : PlanData) (old new : Parts) (stream : ℕ) (made : StreamParts) → stream ≡ length plans + 1 → IsMade stream plan made → ArePushed old new made → HaveDoneNothing plans old → HaveDoneNothing (plans ++ plan ∷ []) new
+one_more plans plan old new stream made number is grown was =
     let longer = length_push plans plan in
-    let b = ap length pushed.books ∙ length_push old.books.items book in
-    let d = was.books in
+    let kept = was.service in
+    let b = ap length grown.books ∙ length_push old.service.books.items made.book in
+    let d = kept.books in
     let many = clients_many plans (shared_in old.words.items) (results_in old.words.items) old.queues.items old.clients.items was.clients in
-    let its_number : client.stream ≡ 1 + length old.clients.items = ap (λ (c : ThreadClientData). c.stream) made.client_is ∙ omega (arith, number, many) in
-    let shared : shared_in new.words.items ≡ shared_in old.words.items ++ word.0 ∷ [] = ap shared_in pushed.words ∙ map_push (λ (own : TableId × TableId). own.0) old.words.items word in
-    let results : results_in new.words.items ≡ results_in old.words.items ++ word.1 ∷ [] = ap results_in pushed.words ∙ map_push (λ (own : TableId × TableId). own.1) old.words.items word in
+    let its_number : made.client.stream ≡ 1 + length old.clients.items = ap (λ (c : ThreadClientData). c.stream) is.client ∙ omega (arith, number, many) in
+    let shared : shared_in new.words.items ≡ shared_in old.words.items ++ made.words.0 ∷ [] = ap shared_in grown.words ∙ map_push (λ (own : TableId × TableId). own.0) old.words.items made.words in
+    let results : results_in new.words.items ≡ results_in old.words.items ++ made.words.1 ∷ [] = ap results_in grown.words ∙ map_push (λ (own : TableId × TableId). own.1) old.words.items made.words in
     record {
       clients = record {
-        numbered = subst (AreOfStreamsFrom 1) (sym pushed.clients) (numbered_push 1 old.clients.items client was.clients.numbered its_number);
-        plans_are = one_longer (λ (c : ThreadClientData). c.pass.plan) old.clients.items new.clients.items plans client plan pushed.clients was.clients.plans_are (ap (λ (c : ThreadClientData). c.pass.plan) made.client_is);
-        words_are = one_longer (λ (c : ThreadClientData). c.pass.table) old.clients.items new.clients.items (shared_in old.words.items) client word.0 pushed.clients was.clients.words_are (ap (λ (c : ThreadClientData). c.pass.table) made.client_is) ∙ sym shared;
-        results_are = one_longer (λ (c : ThreadClientData). c.reader.table) old.clients.items new.clients.items (results_in old.words.items) client word.1 pushed.clients was.clients.results_are (ap (λ (c : ThreadClientData). c.reader.table) made.client_is) ∙ sym results;
-        queues_are = one_longer (λ (c : ThreadClientData). c.poster.queue) old.clients.items new.clients.items old.queues.items client queue pushed.clients was.clients.queues_are (ap (λ (c : ThreadClientData). c.poster.queue) made.client_is) ∙ sym pushed.queues;
+        numbered = subst (AreOfStreamsFrom 1) (sym grown.clients) (numbered_push 1 old.clients.items made.client was.clients.numbered its_number);
+        plans_are = one_longer (λ (c : ThreadClientData). c.pass.plan) old.clients.items new.clients.items plans made.client plan grown.clients was.clients.plans_are (ap (λ (c : ThreadClientData). c.pass.plan) is.client);
+        words_are = one_longer (λ (c : ThreadClientData). c.pass.table) old.clients.items new.clients.items (shared_in old.words.items) made.client made.words.0 grown.clients was.clients.words_are (ap (λ (c : ThreadClientData). c.pass.table) is.client) ∙ sym shared;
+        results_are = one_longer (λ (c : ThreadClientData). c.reader.table) old.clients.items new.clients.items (results_in old.words.items) made.client made.words.1 grown.clients was.clients.results_are (ap (λ (c : ThreadClientData). c.reader.table) is.client) ∙ sym results;
+        queues_are = one_longer (λ (c : ThreadClientData). c.poster.queue) old.clients.items new.clients.items old.queues.items made.client made.queue grown.clients was.clients.queues_are (ap (λ (c : ThreadClientData). c.poster.queue) is.client) ∙ sym grown.queues;
       };
-      sides = (
-        one_longer (λ (s : FullPass). side_of s.pass) old.sides.items new.sides.items (map fresh_side plans) side (fresh_side plan) pushed.sides was.sides.0 (ap side_of made.side_is) ∙ sym (map_push fresh_side plans plan),
-        one_longer (λ (s : FullPass). s.pass.table) old.sides.items new.sides.items (shared_in old.words.items) side word.0 pushed.sides was.sides.1 (ap (λ (s : ServiceData). s.table) made.side_is) ∙ sym shared,
-      );
-      takers = record {
-        plans_are = one_longer (λ (t : EndData). t.plan) old.takers.items new.takers.items plans taker plan pushed.takers was.takers.plans_are (ap (λ (t : EndData). t.plan) made.taker_is);
-        words_are = one_longer (λ (t : EndData). t.words) old.takers.items new.takers.items (shared_in old.words.items) taker word.0 pushed.takers was.takers.words_are (ap (λ (t : EndData). t.words) made.taker_is) ∙ sym shared;
-        queues_are = one_longer (λ (t : EndData). t.queue) old.takers.items new.takers.items old.queues.items taker queue pushed.takers was.takers.queues_are (ap (λ (t : EndData). t.queue) made.taker_is) ∙ sym pushed.queues;
-        none_taken = subst (All (λ (t : EndData). t.count ≡ 0)) (sym pushed.takers) (All-push (λ (t : EndData). t.count ≡ 0) old.takers.items taker was.takers.none_taken (ap (λ (t : EndData). t.count) made.taker_is));
+      service = record {
+        sides = (
+          one_longer (λ (s : FullPass). side_of s.pass) old.service.sides.items new.service.sides.items (map fresh_side plans) made.side (fresh_side plan) grown.sides kept.sides.0 (ap side_of is.side) ∙ sym (map_push fresh_side plans plan),
+          one_longer (λ (s : FullPass). s.pass.table) old.service.sides.items new.service.sides.items (shared_in old.words.items) made.side made.words.0 grown.sides kept.sides.1 (ap (λ (s : ServiceData). s.table) is.side) ∙ sym shared,
+        );
+        takers = record {
+          plans_are = one_longer (λ (t : EndData). t.plan) old.service.takers.items new.service.takers.items plans made.taker plan grown.takers kept.takers.plans_are (ap (λ (t : EndData). t.plan) is.taker);
+          words_are = one_longer (λ (t : EndData). t.words) old.service.takers.items new.service.takers.items (shared_in old.words.items) made.taker made.words.0 grown.takers kept.takers.words_are (ap (λ (t : EndData). t.words) is.taker) ∙ sym shared;
+          queues_are = one_longer (λ (t : EndData). t.queue) old.service.takers.items new.service.takers.items old.queues.items made.taker made.queue grown.takers kept.takers.queues_are (ap (λ (t : EndData). t.queue) is.taker) ∙ sym grown.queues;
+          none_taken = subst (All (λ (t : EndData). t.count ≡ 0)) (sym grown.takers) (All-push (λ (t : EndData). t.count ≡ 0) old.service.takers.items made.taker kept.takers.none_taken (ap (λ (t : EndData). t.count) is.taker));
+        };
+        writers = record {
+          tables_are = one_longer (λ (w : ResultWriterData). w.table) old.service.results.items new.service.results.items (results_in old.words.items) made.results made.words.1 grown.results kept.writers.tables_are (ap (λ (w : ResultWriterData). w.table) is.writer) ∙ sym results;
+          places_are = one_longer (λ (w : ResultWriterData). w.places) old.service.results.items new.service.results.items (map (λ (plan : PlanData). words_in plan.areas.results) plans) made.results (words_in plan.areas.results) grown.results kept.writers.places_are (ap (λ (w : ResultWriterData). w.places) is.writer) ∙ sym (map_push (λ (plan : PlanData). words_in plan.areas.results) plans plan);
+          none_written = subst (All (λ (w : ResultWriterData). w.written ≡ [])) (sym grown.results) (All-push (λ (w : ResultWriterData). w.written ≡ []) old.service.results.items made.results kept.writers.none_written (ap (λ (w : ResultWriterData). w.written) is.writer));
+        };
+        books = omega (arith, b, d, longer);
+        blank = subst (All IsFresh) (sym grown.books) (All-push IsFresh old.service.books.items made.book kept.blank is.blank);
       };
-      writers = record {
-        tables_are = one_longer (λ (w : ResultWriterData). w.table) old.results.items new.results.items (results_in old.words.items) writer word.1 pushed.results was.writers.tables_are (ap (λ (w : ResultWriterData). w.table) made.writer_is) ∙ sym results;
-        places_are = one_longer (λ (w : ResultWriterData). w.places) old.results.items new.results.items (map (λ (plan : PlanData). words_in plan.areas.results) plans) writer (words_in plan.areas.results) pushed.results was.writers.places_are (ap (λ (w : ResultWriterData). w.places) made.writer_is) ∙ sym (map_push (λ (plan : PlanData). words_in plan.areas.results) plans plan);
-        none_written = subst (All (λ (w : ResultWriterData). w.written ≡ [])) (sym pushed.results) (All-push (λ (w : ResultWriterData). w.written ≡ []) old.results.items writer was.writers.none_written (ap (λ (w : ResultWriterData). w.written) made.writer_is));
-      };
-      books = omega (arith, b, d, longer);
-      blank = subst (All IsFresh) (sym pushed.books) (All-push IsFresh old.books.items book was.blank made.blank);
     }
 
 -- its number is that after the plans before it
@@ -174,15 +192,20 @@ take_number plans k plan e =
     let n = length-take-le k plans (omega (arith, few)) in
     omega (arith, n)
 
+-- what the hall has is fresh, and so are its writers
+pub service_writers : (p plans : PlansData) (words results queues : List TableId) (service : Service) → plans ≡ p → IsFreshService p.plans words results queues service
+    → AreFreshResults (λ (w : ResultWriterData) (place : ℕ). nat_lt place w.places) (λ (w : ResultWriterData). Some w.written) (λ (w : ResultWriterData) (table : TableId). w.table ≡ table) (table_at results) 1 plans.plans service.results.items
+service_writers p plans words results queues service plans_are fresh =
+    fresh_writers plans results service.results.items (subst (λ (q : PlansData). AreFreshWriters q.plans results service.results.items) (sym plans_are) fresh.writers)
+
 -- ---- by the names of the words and of the queues
 
 module _ (words results books queues : List TableId) (parts : Parts) (named : AreNamed words results books queues parts) where
-  pub writers_named : (p plans : PlansData) → plans ≡ p → HaveDoneNothing p.plans parts
-      → AreFreshResults (λ (w : ResultWriterData) (place : ℕ). nat_lt place w.places) (λ (w : ResultWriterData). Some w.written) (λ (w : ResultWriterData) (table : TableId). w.table ≡ table) (table_at results) 1 plans.plans parts.results.items
-  writers_named p plans plans_are fresh =
-      fresh_writers plans results parts.results.items
-      (subst (λ (q : PlansData). AreFreshWriters q.plans results parts.results.items) (sym plans_are)
-      (subst (λ (row : List TableId). AreFreshWriters p.plans row parts.results.items) named.results_are fresh.writers))
+  pub service_named : (plans : List PlanData) → HaveDoneNothing plans parts → IsFreshService plans words results queues parts.service
+  service_named plans fresh =
+      subst (λ (row : List TableId). IsFreshService plans words results row parts.service) named.queues_are
+      (subst (λ (row : List TableId). IsFreshService plans words row parts.queues.items parts.service) named.results_are
+      (subst (λ (row : List TableId). IsFreshService plans row (results_in parts.words.items) parts.queues.items parts.service) named.words_are fresh.service))
 
   pub clients_named : (plans : List PlanData) → HaveDoneNothing plans parts → AreClients plans words results queues parts.clients.items
   clients_named plans fresh =

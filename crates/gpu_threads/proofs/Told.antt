@@ -1,11 +1,10 @@
 -- What the clients have read may be told of their dumps.
-use Rattle.std.proofs.Common.{◌≡◌, ℕ, zero, suc, ◌+◌, Bool, true, false, cond, not, ◌&&◌, Some, List, [], ◌∷◌, ◌++◌, map, refl, sym, ap, subst, ◌∙◌, arith}
+use Rattle.std.proofs.Common.{◌≡◌, ℕ, zero, suc, ◌+◌, Bool, true, false, cond, Some, List, [], ◌∷◌, ◌++◌, map, refl, sym, ap, subst, ◌∙◌, arith}
 use Rattle.std.specs.List.{range_with_len}
 use Rattle.std.proofs.lemmas.List.Elements.{All-head, All-tail}
 use Rattle.gpu_word.specs.Results.{Written, WasLast, Settles}
 use Rattle.result_words.specs.Seen.{ResultWriterData}
 use Rattle.gpu_plan.specs.Plans.{PlansData, PlanData, plan_of}
-use Rattle.sync_core.specs.Standing.{Standing, is_open}
 use Rattle.gpu_journal.specs.declared.event.Event.{Event}
 use Rattle.gpu_journal.specs.Waits.{standing_of}
 use Rattle.gpu_journal.specs.Written.{written}
@@ -89,33 +88,3 @@ when_done p h s is = lost_told (standing_of p h s).lost (standing_of p h s).clos
 
 pub when_closed : (p : PlansData) (h : List Event) (s : ℕ) → Closed ≡ doing_of p h s → false ≡ (standing_of p h s).lost
 when_closed p h s is = lost_told (standing_of p h s).lost (standing_of p h s).closed (is_done p h s) Closed is
-
--- ---- and whether it is lost or closed
-
--- whether this is what a lost or a closed stream does
-abbrev is_gone : Doing → Bool
-is_gone Lost = true
-is_gone Open = false
-is_gone AllDone = false
-is_gone Closed = true
-
-gone_told : (x : Standing) (done : Bool) (doing : Doing) → doing ≡ cond x.lost Lost (cond x.closed Closed (cond done AllDone Open)) → is_gone doing ≡ not (is_open x)
-gone_told x done doing is = by x.lost x.closed done is
-  where
-    by : (lost closed done : Bool) → doing ≡ cond lost Lost (cond closed Closed (cond done AllDone Open)) → is_gone doing ≡ not (not lost && not closed)
-    by true closed done is = ap is_gone is
-    by false true done is = ap is_gone is
-    by false false true is = ap is_gone is
-    by false false false is = ap is_gone is
-
-pub gone_lost : (p : PlansData) (h : List Event) (s : ℕ) → Lost ≡ doing_of p h s → true ≡ not (is_open (standing_of p h s))
-gone_lost p h s is = gone_told (standing_of p h s) (is_done p h s) Lost is
-
-pub gone_open : (p : PlansData) (h : List Event) (s : ℕ) → Open ≡ doing_of p h s → false ≡ not (is_open (standing_of p h s))
-gone_open p h s is = gone_told (standing_of p h s) (is_done p h s) Open is
-
-pub gone_done : (p : PlansData) (h : List Event) (s : ℕ) → AllDone ≡ doing_of p h s → false ≡ not (is_open (standing_of p h s))
-gone_done p h s is = gone_told (standing_of p h s) (is_done p h s) AllDone is
-
-pub gone_closed : (p : PlansData) (h : List Event) (s : ℕ) → Closed ≡ doing_of p h s → true ≡ not (is_open (standing_of p h s))
-gone_closed p h s is = gone_told (standing_of p h s) (is_done p h s) Closed is

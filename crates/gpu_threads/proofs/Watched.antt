@@ -8,7 +8,9 @@ use Rattle.std.proofs.lemmas.List.Elements.{All-map, All-weaker}
 use Rattle.std.proofs.lemmas.Option.{slice_get-get_or}
 use lib.Seq.{get_or-append_seam}
 use mathlib.Core.List.{IsPrefix}
+use Rattle.logbook.specs.Pages.{Book}
 use Rattle.live_view.specs.declared.look.Look.{Look}
+use Rattle.live_view.specs.declared.look.TheConstants.{LOOKS}
 use Rattle.live_view.specs.declared.look.Sight.{Sight}
 use Rattle.live_view.specs.Looks.{sight, IsOf}
 use Rattle.live_view.specs.Fronts.{FrontData}
@@ -17,8 +19,15 @@ use Rattle.live_view.proofs.Prefixes.{prefix_length}
 use Rattle.gpu_hall.specs.Views.{ShownData}
 use Rattle.gpu_hall.specs.Looks.{IsLookOf, AreViewerLooks}
 use Rattle.gpu_hall.proofs.Looked.{look_is_of, last_look}
-use Rattle.thread_parts.specs.Watches.{HasLooked}
-use Rattle.gpu_threads.specs.Views.{SawTold}
+use Rattle.thread_parts.specs.Watches.{HasLooked, HasWatched}
+use Rattle.gpu_threads.specs.Views.{IsViewerOf, SawTold}
+
+-- viewers of a view that have looked so often are viewers of what is shown of it
+pub viewers_of : (shown : ShownData) (view : Book) (watches : List ViewerData) → IfSome shown.view (λ (told : FrontData). told.view ≡ view) → All (HasWatched view LOOKS) watches → All (IsViewerOf shown) watches
+viewers_of shown view watches named are k other few = record {
+  view = subst (λ (v : Book). IfSome shown.view (λ (told : FrontData). told.view ≡ v)) (sym (are k other few).view_is) named;
+  watched = (are k other few).count_is;
+}
 
 -- ---- the looks of one viewer
 

@@ -4,7 +4,7 @@ use Rattle.atomic_table.specs.Seated.{TableId}
 use Rattle.gpu_plan.specs.Plans.{PlansData, plan_of}
 use Rattle.sync_core.specs.Standing.{IsKnown}
 use Rattle.gpu_house.specs.Names.{table_at}
-use Rattle.thread_parts.specs.Clients.{ThreadClientData}
+use Rattle.thread_parts.specs.Clients.{ThreadClientData, IsSameClient}
 
 -- the client is one of a run: it is of the plan, the words, the result words and the queue of its stream
 pub record IsClientOf (p : PlansData) (words results queues : List TableId) (client : ThreadClientData) : Type 0 where
@@ -27,3 +27,8 @@ AreClientsFrom p words results queues s clients = (k : ℕ) (other : ThreadClien
 pub record AreClientsOf (p : PlansData) (words results queues : List TableId) (clients : List ThreadClientData) : Type 0 where
   pub many : length clients ≡ length p.plans
   pub each : AreClientsFrom p words results queues 1 clients
+
+-- these are the same clients, in order
+pub record AreSameClients (old new : List ThreadClientData) : Type 0 where
+  pub many : length new ≡ length old
+  pub each : (k : ℕ) (other : ThreadClientData) → k < length old → IsSameClient (slice_index_or old k other) (slice_index_or new k other)

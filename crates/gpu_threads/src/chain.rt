@@ -1,16 +1,29 @@
 //! The turns of a thread that serves, one after the other.
-ghost use Rattle.std.specs.Prelude.{◌≡◌, length, Some, IfSome};
+ghost use Rattle.std.specs.Prelude.{◌≡◌, length, drop, false, Some, IfSome, IfOk};
 ghost use Rattle.sync_core.specs.Standing.{IsKnown};
+ghost use Rattle.gpu_house.specs.Names.{table_at};
+ghost use Rattle.gpu_house.specs.Batches.{batch_words, AreChained};
 ghost use Rattle.gpu_hall.specs.Ready.{IsReadyRun};
 
 use crate::ground::Ground;
 use crate::over::{all_over, is_lost};
+use crate::rows::{queue_of, words_of};
 use gpu_hall::{Hall, NamedSide};
-use gpu_house::{Naming, Run};
+use gpu_house::{Batch, Naming, Run};
 use gpu_io::{Gate, Place};
+use gpu_word::Memory;
 use std::sync::{MutexGuard, Wait};
 use thread_parts::{Leave, Shift};
 use wait_hooks::Hook;
+
+// A run's stream and its order, and how many finishes and which greatest token the stream had before what is entered.
+#[derive(Clone, Copy)]
+struct Before {
+    stream: u32,
+    order: u32,
+    finishes: u32,
+    greatest: u32,
+}
 
 // Orders the flushes that were posted, of each stream whose earlier flushes are finished: later ones could not run yet.
 fn collect<N: Naming, P: NamedSide, H: Hook, R: Wait, G: Gate>(
@@ -24,7 +37,7 @@ fn collect<N: Naming, P: NamedSide, H: Hook, R: Wait, G: Gate>(
     }
     for stream in 1..=hall.count() {
         if shift.may_collect(stream, hall.finishes(stream)) {
-            let count = hall.collect_from(rt, stream, ground.queue_of(stream));
+            let count = hall.collect_from(rt, stream, queue_of(ground.queues, stream));
             shift.note_taken(stream, count);
         }
     }
@@ -70,26 +83,90 @@ fn next<N: Naming, P: NamedSide, H: Hook, R: Wait, G: Gate>(
 fn show_end<N: Naming, P: NamedSide, H: Hook, R: Wait>(
     rt: &R,
     hall: &mut Hall<N, P, H>,
-    stream: u32,
-    before: (u32, u32),
+    before: Before,
     shift: &mut Shift<'_>,
 ) -> bool
-    requires { IsKnown (length N.plans.plans) stream }
+    requires { IsKnown (length N.plans.plans) before.stream }
 {
-    let finishes = hall.finishes(stream);
-    let finished = finishes > before.0;
-    let lost = is_lost(hall, stream);
+    let finishes = hall.finishes(before.stream);
+    let finished = finishes > before.finishes;
+    let lost = is_lost(hall, before.stream);
     if finished || lost {
         let _ = hall.publish(rt);
     }
-    shift.note_end(stream, finishes, hall.greatest(stream) != before.1, lost);
+    let has_token = hall.greatest(before.stream) != before.greatest;
+    shift.note_end(before.stream, finishes, has_token, lost);
     finished
 }
 
 // Tells the gate of a finish, where there was one.
-fn tell_finish<G: Gate>(gate: &G, finished: bool, stream: u32, order: u32) {
+fn tell_finish<G: Gate>(gate: &G, finished: bool, before: Before) {
     if finished {
-        gate.reach(Place::AfterFinish { stream, order });
+        gate.reach(Place::AfterFinish {
+            stream: before.stream,
+            order: before.order,
+        });
+    }
+}
+
+// What a run did is entered: the lock is given back with the next run in hand, and whom it concerns is told.
+fn leave<N: Naming, P: NamedSide, H: Hook, R: Wait, G: Gate>(
+    rt: &R,
+    ground: &Ground<'_, N, P, H, G>,
+    shift: &mut Shift<'_>,
+    hall: MutexGuard<'_, Hall<N, P, H>>,
+    on: Option<Run<N, P>>,
+    before: Before,
+) -> Option<Run<N, P>>
+    requires known { IsKnown (length N.plans.plans) before.stream }
+    requires ready { IfSome on
+        (IsReadyRun P.side P.table P.mark P.note_of N.plans N.words N.books) }
+    ensures { IfSome result (IsReadyRun P.side P.table P.mark P.note_of N.plans N.words N.books) }
+{
+    let mut hall = hall;
+    let finished = show_end(rt, &mut hall, before, shift);
+    let next = next(rt, ground, &mut hall, shift, on);
+    MutexGuard::unlock(hall);
+    shift.ring();
+    tell_finish(ground.gate, finished, before);
+    next
+}
+
+// What a run and its stream are before it does more.
+fn state_before<N: Naming, P: NamedSide, H: Hook>(hall: &Hall<N, P, H>, run: &Run<N, P>) -> Before
+    requires { IsKnown (length N.plans.plans) run.now.run.stream }
+    ensures { result.stream ≡ run.now.run.stream }
+{
+    let stream = run.stream();
+    Before {
+        stream,
+        order: run.order(),
+        finishes: hall.finishes(stream),
+        greatest: hall.greatest(stream),
+    }
+}
+
+// Commits the batch that a run has fetched, or loses its stream where there was no memory for it.
+fn enter<N: Naming, P: NamedSide, H: Hook>(
+    hall: &mut Hall<N, P, H>,
+    run: Run<N, P>,
+    own: &P::Words,
+    fetched: Result<Batch, Memory>,
+) -> Option<Run<N, P>>
+    requires going { run.run.paused ≡ false }
+    requires chained { IfOk fetched (AreChained run.run.facts) }
+    requires list { IfOk fetched
+        (λ batch. drop run.run.facts.fetched (P.side run.side).fetched ≡ batch_words batch) }
+    requires words { P.words_of own.now (table_at N.words run.run.stream)
+        (table_at N.result_words run.run.stream) }
+    ensures { IfSome result (IsReadyRun P.side P.table P.mark P.note_of N.plans N.words N.books) }
+{
+    match fetched {
+        Ok(batch) => hall.commit(run, own, batch),
+        Err(memory) => {
+            hall.lose(run, memory);
+            None
+        }
     }
 }
 
@@ -107,37 +184,20 @@ fn advance<N: Naming, P: NamedSide, H: Hook, R: Wait, G: Gate>(
     let mut run = run;
     run.shows_fit();
     let stream = run.stream();
-    let order = run.order();
-    let own = ground.words_of(stream);
+    let own = words_of::<N, P>(ground.words, stream);
     if run.at_end() {
         let mut hall = ground.hall.lock(rt);
-        let before = (hall.finishes(stream), hall.greatest(stream));
+        let before = state_before(&hall, &run);
         hall.finish(run, own);
-        let finished = show_end(rt, &mut hall, stream, before, shift);
-        let next = next(rt, ground, &mut hall, shift, None);
-        MutexGuard::unlock(hall);
-        shift.ring();
-        tell_finish(ground.gate, finished, stream, order);
-        return next;
+        return leave(rt, ground, shift, hall, None, before);
     }
     ground.gate.reach(Place::BeforeFetch { stream });
     let fetched = run.fetch_batch(own);
     ground.gate.reach(Place::AfterFetch { stream });
     let mut hall = ground.hall.lock(rt);
-    let before = (hall.finishes(stream), hall.greatest(stream));
-    let on = match fetched {
-        Ok(batch) => hall.commit(run, own, batch),
-        Err(memory) => {
-            hall.lose(run, memory);
-            None
-        }
-    };
-    let finished = show_end(rt, &mut hall, stream, before, shift);
-    let next = next(rt, ground, &mut hall, shift, on);
-    MutexGuard::unlock(hall);
-    shift.ring();
-    tell_finish(ground.gate, finished, stream, order);
-    next
+    let before = state_before(&hall, &run);
+    let on = enter(&mut hall, run, own, fetched);
+    leave(rt, ground, shift, hall, on, before)
 }
 
 /// Serves turns, one after the other, until the thread has enough or nothing is runnable:

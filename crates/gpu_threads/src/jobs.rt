@@ -1,30 +1,21 @@
 //! What each thread of a run does.
+ghost use Rattle.std.specs.List.{All};
 ghost use Rattle.thread_parts.specs.Clients.{IsSameClient};
-ghost use Rattle.gpu_threads.specs.Clients.{IsClientOf, AreClientsOf};
+ghost use Rattle.gpu_threads.specs.Clients.{AreSameClients};
 
-use crate::chain::serve_on;
-use crate::full_pass::FullPass;
-use crate::ground::Ground;
-use crate::turns::{is_ended, turn};
-use gpu_house::Naming;
-use gpu_io::Gate;
+use crate::workplace::Workplace;
 use gpu_word::Memory;
 use std::alloc::Global;
 use std::sync::Wait;
 use std::thread;
 use std::thread::Threads;
 use thread_parts::{Act, Client, Leave, OR_TOKEN, Pace, ROOM, Signals};
-use wait_hooks::Hook;
 
 // A thread that waits serves where fewer threads do than are wanted, or where it has waited for long. Then it sleeps until its bell is
 // rung, which it was where it got what it waits for.
-fn wait<N: Naming, H: Hook, R: Wait, G: Gate>(
-    rt: &R,
-    ground: &Ground<'_, N, FullPass, H, G>,
-    pace: &mut Pace<'_>,
-) -> Leave {
+fn wait<S: Workplace, R: Wait>(rt: &R, place: &S, pace: &mut Pace<'_>) -> Leave {
     let leave = if pace.may_serve() {
-        serve_on(rt, ground, pace.shift())
+        place.serve(rt, pace.shift())
     } else {
         Leave::NothingRunnable
     };
@@ -46,22 +37,15 @@ fn needs_of(client: &Client, act: Act) -> u64 {
 /// - where it could not go on, it says what it needs and tries again
 /// - where it still cannot go on then, its stream may be lost or closed
 /// - else it waits, and meanwhile it serves, so that it comes to its end alone
-pub(crate) fn play<N: Naming, H: Hook, R: Wait, G: Gate>(
-    rt: &R,
-    ground: &Ground<'_, N, FullPass, H, G>,
-    signals: &Signals,
-    client: &mut Client,
-)
-    requires { IsClientOf N.plans N.words N.result_words N.queues client.old }
+pub(crate) fn play<S: Workplace, R: Wait>(rt: &R, place: &S, signals: &Signals, client: &mut Client)
+    requires { S.has client.old }
     ensures { IsSameClient client.old client.new }
 {
-    let stream = client.stream();
-    let own = ground.words_of(stream);
-    let mut pace = Pace::of_client(signals, stream);
+    let mut pace = Pace::of_client(signals, client.stream());
     for _ in rt.forever() {
         pace.listen();
         let posted = client.posted();
-        match turn(rt, ground, own, client) {
+        match place.turn(rt, client) {
             Act::Went => pace.go(client.posted() != posted),
             Act::End => {
                 pace.end();
@@ -71,40 +55,35 @@ pub(crate) fn play<N: Naming, H: Hook, R: Wait, G: Gate>(
                 if pace.asks(needs_of(client, act)) {
                     continue;
                 }
-                if pace.may_be_over() && is_ended(rt, ground, stream) {
+                if pace.may_be_over() && place.is_ended(rt, client) {
                     return;
                 }
-                wait(rt, ground, &mut pace);
+                wait(rt, place, &mut pace);
             }
         }
     }
 }
 
 // A worker serves until nothing is left to do for any stream.
-fn serve<N: Naming, H: Hook, R: Wait, G: Gate>(
-    rt: &R,
-    ground: &Ground<'_, N, FullPass, H, G>,
-    signals: &Signals,
-    worker: usize,
-) {
+fn serve<S: Workplace, R: Wait>(rt: &R, place: &S, signals: &Signals, worker: usize) {
     let mut pace = Pace::of_worker(signals, worker);
     for _ in rt.forever() {
         pace.listen();
-        if wait(rt, ground, &mut pace) == Leave::AllOver {
+        if wait(rt, place, &mut pace) == Leave::AllOver {
             return;
         }
     }
 }
 
 /// Plays the clients, each on a thread of its own where there is one.
-pub(crate) fn play_all<
-    N: Naming + Send + Sync,
-    H: Hook + Send,
-    G: Gate + Sync,
-    R: Threads + Wait + Sync,
->(rt: &R, ground: &Ground<'_, N, FullPass, H, G>, signals: &Signals, clients: &mut [Client])
-    requires { AreClientsOf N.plans N.words N.result_words N.queues clients.old }
-    ensures { AreClientsOf N.plans N.words N.result_words N.queues clients.new }
+pub(crate) fn play_all<S: Workplace + Sync, R: Threads + Wait + Sync>(
+    rt: &R,
+    place: &S,
+    signals: &Signals,
+    clients: &mut [Client],
+)
+    requires { All S.has clients.old }
+    ensures { AreSameClients clients.old clients.new }
 {
     let threads = clients.len().max(1);
     thread::for_each_mut(
@@ -112,9 +91,9 @@ pub(crate) fn play_all<
         clients,
         threads,
         &|_, client: &mut Client|
-            requires { IsClientOf N.plans N.words N.result_words N.queues client.now }
+            requires { S.has client.now }
             ensures { IsSameClient client.entry.now client.exit.now }
-        { play(rt, ground, signals, client) },
+        { play(rt, place, signals, client) },
     );
 }
 
@@ -123,22 +102,17 @@ pub(crate) fn play_all<
 /// # Errors
 ///
 /// `Memory`: for the list of the workers. Some of them may not have served; the clients serve too.
-pub(crate) fn serve_all<
-    N: Naming + Send + Sync,
-    H: Hook + Send,
-    G: Gate + Sync,
-    R: Threads + Wait + Sync,
->(
+pub(crate) fn serve_all<S: Workplace + Sync, R: Threads + Wait + Sync>(
     rt: &R,
     alloc: Global,
-    ground: &Ground<'_, N, FullPass, H, G>,
+    place: &S,
     signals: &Signals,
 ) -> Result<(), Memory> {
     thread::map_indices(
         rt,
         alloc,
         signals.workers(),
-        &|worker: usize| { serve(rt, ground, signals, worker) },
+        &|worker: usize| { serve(rt, place, signals, worker) },
     )?;
     Ok(())
 }

@@ -63,6 +63,7 @@ mod threaded_run;
 mod threads;
 mod turns;
 mod views;
+mod workplace;
 
 pub use full_pass::FullPass;
 pub use ground::Ground;

@@ -1,6 +1,6 @@
 //! Whether something is left to do.
-ghost use Rattle.std.specs.Prelude.{◌≡◌, ◌≢◌, length, false, not, IsTrue};
-ghost use Rattle.sync_core.specs.Standing.{IsKnown, is_open};
+ghost use Rattle.std.specs.Prelude.{◌≡◌, ◌≢◌, length, false, IsTrue};
+ghost use Rattle.sync_core.specs.Standing.{IsKnown};
 ghost use Rattle.gpu_journal.specs.Waits.{standing_of};
 ghost use Rattle.gpu_journal.specs.Complete.{IsComplete};
 ghost use Rattle.gpu_house.specs.Ending.{doing_of};
@@ -35,20 +35,6 @@ pub(crate) fn all_over<N: Naming, P: NamedSide, H: Hook>(hall: &Hall<N, P, H>) -
         }
     }
     true
-}
-
-/// Whether a stream is lost or closed.
-#[tactic(auto, using(crate::proofs::Told::gone_lost, crate::proofs::Told::gone_open, crate::proofs::Told::gone_done, crate::proofs::Told::gone_closed))]
-pub(crate) fn is_gone<N: Naming, P: NamedSide, H: Hook>(hall: &Hall<N, P, H>, stream: u32) -> bool
-    requires { IsKnown (length N.plans.plans) stream }
-    ensures { result ≡ not (is_open (standing_of N.plans hall.now.past stream)) }
-{
-    match hall.state(stream) {
-        Doing::Open => false,
-        Doing::AllDone => false,
-        Doing::Lost => true,
-        Doing::Closed => true,
-    }
 }
 
 /// Whether a stream is lost.

@@ -1,7 +1,7 @@
 ghost use Rattle.std.specs.Prelude.{◌≡◌, ◌+◌, [], ◌∷◌, ◌++◌, length, List, IfOk, OnOk};
 ghost use Rattle.gpu_cmd.specs.Spans.{words_in};
 ghost use Rattle.gpu_plan.specs.Plans.{PlanData};
-ghost use Rattle.gpu_threads.specs.Making.{HaveDoneNothing};
+ghost use Rattle.gpu_threads.specs.Making.{HaveRoom, HaveDoneNothing};
 
 use crate::full_pass::FullPass;
 use flush_queue::{FlushQueue, Taker};
@@ -15,17 +15,24 @@ use std::alloc::Global;
 use std::sync::Wait;
 use thread_parts::Client;
 
-/// What a run on threads is made of. Of each stream, in order: the words and the result words that it shares with its client, the client,
-/// the service's side of the words, the writer of its results, its book, the queue of its flushes, and the end at which they are taken.
+/// What the hall of a run on threads is made of. Of each stream, in order: the service's side of its words, the writer of its results, its
+/// book, and the end of its queue at which flushes are taken.
 #[derive(Drop)]
-pub(crate) struct Parts {
-    pub(crate) words: Vec<(SharedWords, ResultWords)>,
-    pub(crate) clients: Vec<Client>,
+pub(crate) struct Service {
     pub(crate) sides: Vec<FullPass>,
     pub(crate) results: Vec<ResultWriter>,
     pub(crate) books: Vec<(Book, Half, Half)>,
-    pub(crate) queues: Vec<FlushQueue>,
     pub(crate) takers: Vec<Taker>,
+}
+
+/// What a run on threads is made of. Of each stream, in order: the words and the result words that it shares with its client, the queue of
+/// its flushes, the client, and what the hall has of it.
+#[derive(Drop)]
+pub(crate) struct Parts {
+    pub(crate) words: Vec<(SharedWords, ResultWords)>,
+    pub(crate) queues: Vec<FlushQueue>,
+    pub(crate) clients: Vec<Client>,
+    pub(crate) service: Service,
 }
 
 // How many result places a plan has.
@@ -36,19 +43,35 @@ fn result_places(plan: &Plan) -> u32
 }
 
 impl Parts {
-    // Those of no stream, with room for a given number.
-    fn none(alloc: Global, streams: usize) -> Result<Parts, Memory>
-        ensures { IfOk result (HaveDoneNothing []) }
+    // Those of no stream.
+    fn none(alloc: Global) -> Parts
+        ensures { HaveDoneNothing [] result }
     {
-        Ok(Parts {
-            words: Vec::with_capacity(alloc, streams)?,
-            clients: Vec::with_capacity(alloc, streams)?,
-            sides: Vec::with_capacity(alloc, streams)?,
-            results: Vec::with_capacity(alloc, streams)?,
-            books: Vec::with_capacity(alloc, streams)?,
-            queues: Vec::with_capacity(alloc, streams)?,
-            takers: Vec::with_capacity(alloc, streams)?,
-        })
+        Parts {
+            words: Vec::new(alloc),
+            queues: Vec::new(alloc),
+            clients: Vec::new(alloc),
+            service: Service {
+                sides: Vec::new(alloc),
+                results: Vec::new(alloc),
+                books: Vec::new(alloc),
+                takers: Vec::new(alloc),
+            },
+        }
+    }
+
+    // Takes room for one stream more.
+    fn reserve(&mut self) -> Result<(), Memory>
+        ensures { OnOk result (HaveRoom self.old self.new) }
+    {
+        self.words.reserve(1)?;
+        self.queues.reserve(1)?;
+        self.clients.reserve(1)?;
+        self.service.sides.reserve(1)?;
+        self.service.results.reserve(1)?;
+        self.service.books.reserve(1)?;
+        self.service.takers.reserve(1)?;
+        Ok(())
     }
 
     // Those of one stream more, which has this number.
@@ -64,18 +87,19 @@ impl Parts {
             → HaveDoneNothing (plans ++ plan.now ∷ []) self.new) }
     {
         // What is pushed at once does not end at the further `?`, and so takes no check there.
+        self.reserve()?;
         let book = gpu_books::make(alloc)?;
-        self.books.push(book)?;
+        self.service.books.push_reserved(book);
         let (words, pass, side) = shm_words::make(alloc, plan)?;
-        self.sides.push(FullPass { pass: side })?;
+        self.service.sides.push_reserved(FullPass { pass: side });
         let (queue, poster, taker, pass) = flush_queue::make(rt, alloc, pass)?;
-        self.queues.push(queue)?;
-        self.takers.push(taker)?;
+        self.queues.push_reserved(queue);
+        self.service.takers.push_reserved(taker);
         let (results, writer, reader) = result_words::make(alloc, result_places(plan))?;
-        self.results.push(writer)?;
-        self.words.push((words, results))?;
+        self.service.results.push_reserved(writer);
+        self.words.push_reserved((words, results));
         let client = Client::make(alloc, stream, plan, pass, poster, reader)?;
-        self.clients.push(client)?;
+        self.clients.push_reserved(client);
         Ok(())
     }
 
@@ -83,7 +107,7 @@ impl Parts {
     pub(crate) fn make<R: Wait>(rt: &R, alloc: Global, plans: &Plans) -> Result<Parts, Memory>
         ensures { IfOk result (HaveDoneNothing plans.now.plans) }
     {
-        let mut parts = Parts::none(alloc, plans.count() as usize)?;
+        let mut parts = Parts::none(alloc);
         for done in 0..plans.count() {
             parts.push(rt, alloc, done + 1, plans.plan(done + 1))?;
         }

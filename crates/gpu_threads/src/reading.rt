@@ -2,6 +2,7 @@
 ghost use Rattle.std.specs.Prelude.{◌≡◌, ◌↔◌, length, IfOk, IsTrue};
 ghost use Rattle.std.specs.List.{All};
 ghost use Rattle.sync_core.specs.Standing.{IsKnown};
+ghost use Rattle.gpu_journal.specs.Complete.{IsComplete};
 ghost use Rattle.gpu_journal.specs.Dumps.{dumps_of};
 ghost use Rattle.gpu_journal.specs.Ended.{streams_of};
 ghost use Rattle.gpu_threads.specs.Clients.{IsClientOf, AreClientsOf};
@@ -10,7 +11,7 @@ ghost use Rattle.gpu_threads.specs.Rows.{AreWordsOf};
 ghost use Rattle.gpu_threads.specs.Words.{of_tables};
 
 use crate::full_pass::FullPass;
-use crate::over::is_lost;
+use crate::over::{all_over, is_lost};
 use crate::rows::words_of;
 use gpu_hall::Hall;
 use gpu_house::Naming;
@@ -32,14 +33,15 @@ fn is_through<N: Naming, H: Hook>(hall: &Hall<N, FullPass, H>, client: &Client) 
     client.is_whole()
 }
 
-/// Whether this holds of each client.
-pub(crate) fn all_through<N: Naming, H: Hook>(
-    hall: &Hall<N, FullPass, H>,
-    clients: &[Client],
-) -> bool
+/// Whether nothing is left to do: no stream is open, and each client is through.
+pub(crate) fn all_done<N: Naming, H: Hook>(hall: &Hall<N, FullPass, H>, clients: &[Client]) -> bool
     requires { AreClientsOf N.plans N.words N.result_words N.queues clients.now }
-    ensures { IsTrue result ↔ All (IsThrough N.plans hall.now.past) clients.now }
+    ensures over { IsTrue result → IsComplete N.plans hall.now.past }
+    ensures through { IsTrue result → All (IsThrough N.plans hall.now.past) clients.now }
 {
+    if !all_over(hall) {
+        return false;
+    }
     for client in clients {
         if !is_through(hall, client) {
             return false;

@@ -1,12 +1,15 @@
 //! The threads of a run.
-ghost use Rattle.std.specs.Prelude.{◌≡◌, ◌≤◌, length, IfOk, IfSome, IsTrue};
+ghost use Rattle.std.specs.Prelude.{◌≡◌, ◌≤◌, length, IfOk, IfSome};
 ghost use Rattle.std.specs.List.{All};
 ghost use Rattle.gpu_journal.specs.Complete.{IsComplete};
+ghost use Rattle.house_core.specs.Core.{names_of};
 ghost use Rattle.gpu_hall.specs.Views.{IsFreshView};
 ghost use Rattle.gpu_threads.specs.Dumps.{IsThrough};
-ghost use Rattle.gpu_threads.specs.Clients.{AreClientsOf};
-ghost use Rattle.gpu_threads.specs.Making.{HaveDoneNothing, AreNamed};
+ghost use Rattle.gpu_threads.specs.Clients.{AreClientsOf, AreSameClients};
+ghost use Rattle.gpu_threads.specs.Making.{IsFreshService, HaveDoneNothing, AreNamed};
+ghost use Rattle.gpu_threads.specs.Rows.{AreShared};
 ghost use Rattle.gpu_threads.specs.Runs.{IsThreadedRun};
+ghost use Rattle.gpu_threads.specs.Words.{of_tables};
 ghost use Rattle.thread_parts.specs.Watches.{HasNotLooked, HasWatched, HaveWatched};
 ghost use Rattle.live_view.specs.declared.look.TheConstants.{LOOKS};
 ghost use Rattle.live_view.specs.declared.making.TheConstants.{MOST_VIEWERS};
@@ -14,21 +17,26 @@ ghost use Rattle.live_view.specs.declared.making.TheConstants.{MOST_VIEWERS};
 use crate::full_pass::FullPass;
 use crate::ground::Ground;
 use crate::jobs::{play_all, serve_all};
-use crate::over::all_over;
-use crate::parts::Parts;
-use crate::reading::{all_read, all_through};
+use crate::parts::{Parts, Service};
+use crate::reading::{all_done, all_read};
+use crate::rows::words_of;
 use crate::serving::serve_turn;
 use crate::threaded_run::ThreadedRun;
 use crate::turns::turn;
 use crate::views::{Views, end_writer, show_all, watch_all};
+use crate::workplace::Workplace;
+use flush_queue::FlushQueue;
 use gpu_hall::Hall;
 use gpu_house::{House, Naming};
 use gpu_io::Gate;
 use gpu_plan::Plans;
 use gpu_word::Memory;
+use live_view::ViewWriter;
+use result_words::ResultWords;
+use shm_words::SharedWords;
 use std::alloc::Global;
 use std::marker::Brand;
-use std::sync::Wait;
+use std::sync::{Mutex, Wait};
 use std::thread;
 use std::thread::Threads;
 use thread_parts::{Client, Signals, Watch};
@@ -60,6 +68,15 @@ struct Crew {
     watches: Vec<Watch>,
 }
 
+// What a run has beside its hall and its crew.
+#[derive(Drop)]
+struct Beside<'a, G: Gate> {
+    words: &'a [(SharedWords, ResultWords)],
+    queues: &'a [FlushQueue],
+    gate: &'a G,
+    signals: &'a Signals,
+}
+
 // Each client has a turn.
 fn turn_each<N: Naming, H: Hook, R: Wait, G: Gate>(
     rt: &R,
@@ -70,85 +87,76 @@ fn turn_each<N: Naming, H: Hook, R: Wait, G: Gate>(
     ensures { AreClientsOf N.plans N.words N.result_words N.queues clients.new }
 {
     for client in clients.iter_mut() {
-        let own = ground.words_of(client.stream());
+        let own = words_of::<N, FullPass>(ground.words, client.stream());
         turn(rt, ground, own, client);
     }
-}
-
-// Whether nothing is left to do: no stream is open, and each client is through.
-fn all_done<N: Naming, H: Hook>(hall: &Hall<N, FullPass, H>, clients: &[Client]) -> bool
-    requires { AreClientsOf N.plans N.words N.result_words N.queues clients.now }
-    ensures over { IsTrue result → IsComplete N.plans hall.now.past }
-    ensures through { IsTrue result → All (IsThrough N.plans hall.now.past) clients.now }
-{
-    if !all_over(hall) {
-        return false;
-    }
-    all_through(hall, clients)
 }
 
 // Plays and serves what is left, and gives the hall back once nothing is left to do: what the clients saw under a lock is not
 // known here. Each round every client has a turn, and a run is served.
 fn play_left<N: Naming, H: Hook, R: Wait, G: Gate>(
     rt: &R,
-    ground: Ground<'_, N, FullPass, H, G>,
+    hall: Hall<N, FullPass, H>,
+    beside: &Beside<'_, G>,
     clients: &mut [Client],
 ) -> Hall<N, FullPass, H>
-    requires { AreClientsOf N.plans N.words N.result_words N.queues clients.old }
+    requires shared { AreShared of_tables N.plans N.words N.result_words N.queues
+        beside.now.words.now beside.now.queues.now }
+    requires clients { AreClientsOf N.plans N.words N.result_words N.queues clients.old }
     ensures complete { IsComplete N.plans result.past }
     ensures clients { AreClientsOf N.plans N.words N.result_words N.queues clients.new }
     ensures through { All (IsThrough N.plans result.past) clients.new }
 {
-    let (words, queues, gate) = (ground.words, ground.queues, ground.gate);
-    let mut ground = ground;
+    let mut hall = hall;
     for _ in rt.forever() {
-        let hall = ground.into_hall();
         if all_done(&hall, clients) {
             return hall;
         }
-        ground = Ground::new(hall, words, queues, gate);
+        let lock = Mutex::new(hall);
+        let ground = Ground::new(&lock, beside.words, beside.queues, beside.gate);
         turn_each(rt, &ground, clients);
         serve_turn(rt, &ground);
+        hall = lock.into_inner();
     }
     unreachable!()
 }
 
 // The clients are played beside the workers. Where there is no thread for the first of two calls, the library does the second one
 // before it: so the clients stand there, who come to their end without a worker, and a worker does not without the clients.
-fn run_clients<N: Naming + Send + Sync, H: Hook + Send, G: Gate + Sync, R: Threads + Wait + Sync>(
+fn run_clients<S: Workplace + Sync, R: Threads + Wait + Sync>(
     rt: &R,
     alloc: Global,
-    ground: &Ground<'_, N, FullPass, H, G>,
+    place: &S,
     signals: &Signals,
     clients: &mut [Client],
 ) -> Result<(), Memory>
-    requires { AreClientsOf N.plans N.words N.result_words N.queues clients.old }
-    ensures { AreClientsOf N.plans N.words N.result_words N.queues clients.new }
+    requires { All S.has clients.old }
+    ensures { AreSameClients clients.old clients.new }
 {
     let (served, _) = thread::join_mut(
         rt,
-        &mut || serve_all(rt, alloc, ground, signals),
+        &mut || serve_all(rt, alloc, place, signals),
         &mut ||
-            requires { AreClientsOf N.plans N.words N.result_words N.queues clients.now }
-            ensures { AreClientsOf N.plans N.words N.result_words N.queues clients.exit.now }
-        { play_all(rt, ground, signals, clients) },
+            requires { All S.has clients.now }
+            ensures { AreSameClients clients.entry.now clients.exit.now }
+        { play_all(rt, place, signals, clients) },
     );
     served
 }
 
 // The clients are played beside the workers, and beside both the viewers look.
-fn run_all<N: Naming + Send + Sync, H: Hook + Send, G: Gate + Sync, R: Threads + Wait + Sync>(
+fn run_all<S: Workplace + Sync, G: Gate + Sync, R: Threads + Wait + Sync>(
     rt: &R,
     alloc: Global,
-    ground: &Ground<'_, N, FullPass, H, G>,
+    place: &S,
+    gate: &G,
     signals: &Signals,
     crew: &mut Crew,
 ) -> Result<(), Memory>
-    requires clients { AreClientsOf N.plans N.words N.result_words N.queues crew.old.clients.items }
-    requires watches { All (HasWatched N.view 0) crew.old.watches.items }
-    ensures clients { AreClientsOf N.plans N.words N.result_words N.queues crew.new.clients.items }
-    ensures watched { All (HasWatched N.view LOOKS) crew.new.watches.items }
-    ensures many { length crew.new.watches.items ≡ length crew.old.watches.items }
+    requires clients { All S.has crew.old.clients.items }
+    requires watches { All HasNotLooked crew.old.watches.items }
+    ensures clients { AreSameClients crew.old.clients.items crew.new.clients.items }
+    ensures watched { HaveWatched LOOKS crew.old.watches.items crew.new.watches.items }
 {
     let clients = crew.clients.as_mut_slice();
     let watches = crew.watches.as_mut_slice();
@@ -157,11 +165,11 @@ fn run_all<N: Naming + Send + Sync, H: Hook + Send, G: Gate + Sync, R: Threads +
         &mut ||
             requires { All HasNotLooked watches.now }
             ensures { HaveWatched LOOKS watches.entry.now watches.exit.now }
-        { watch_all(rt, ground.gate, watches) },
+        { watch_all(rt, gate, watches) },
         &mut ||
-            requires { AreClientsOf N.plans N.words N.result_words N.queues clients.now }
-            ensures { AreClientsOf N.plans N.words N.result_words N.queues clients.exit.now }
-        { run_clients(rt, alloc, ground, signals, clients) },
+            requires { All S.has clients.now }
+            ensures { AreSameClients clients.entry.now clients.exit.now }
+        { run_clients(rt, alloc, place, signals, clients) },
     );
     served
 }
@@ -170,19 +178,21 @@ fn run_all<N: Naming + Send + Sync, H: Hook + Send, G: Gate + Sync, R: Threads +
 fn finish<N: Naming, H: Hook, R: Wait, G: Gate>(
     rt: &R,
     alloc: Global,
-    ground: Ground<'_, N, FullPass, H, G>,
+    hall: Hall<N, FullPass, H>,
+    beside: &Beside<'_, G>,
     crew: Crew,
 ) -> Result<ThreadedRun, Memory>
+    requires shared { AreShared of_tables N.plans N.words N.result_words N.queues
+        beside.now.words.now beside.now.queues.now }
     requires clients { AreClientsOf N.plans N.words N.result_words N.queues crew.clients.items }
     requires watches { All (HasWatched N.view LOOKS) crew.watches.items }
     ensures { IfOk result (IsThreadedRun N.plans N.base (length crew.watches.items)) }
 {
-    let words = ground.words;
     let Crew { clients, watches } = crew;
     let mut clients = clients;
-    let mut hall = play_left(rt, ground, &mut clients);
+    let mut hall = play_left(rt, hall, beside, &mut clients);
     hall.shows_laws();
-    let dumps = match all_read(alloc, &mut hall, words, clients) {
+    let dumps = match all_read(alloc, &mut hall, beside.words, clients) {
         Ok(dumps) => dumps,
         Err(memory) => {
             hall.end(rt);
@@ -197,8 +207,63 @@ fn finish<N: Naming, H: Hook, R: Wait, G: Gate>(
     })
 }
 
-// Runs the hall over a setup of which N names the plans, the base, the tables and the view: the clients, the workers and the viewers on
-// threads, and then what these left.
+// Runs a hall over what it has beside it: the clients, the workers and the viewers on threads, and then what these left.
+fn run_hall<N: Naming + Send + Sync, H: Hook + Send, G: Gate + Sync, R: Threads + Wait + Sync>(
+    rt: &R,
+    alloc: Global,
+    hall: Hall<N, FullPass, H>,
+    beside: &Beside<'_, G>,
+    crew: Crew,
+) -> Result<ThreadedRun, Memory>
+    requires shared { AreShared of_tables N.plans N.words N.result_words N.queues
+        beside.now.words.now beside.now.queues.now }
+    requires clients { AreClientsOf N.plans N.words N.result_words N.queues crew.clients.items }
+    requires watches { All (HasWatched N.view 0) crew.watches.items }
+    ensures { IfOk result (IsThreadedRun N.plans N.base (length crew.watches.items)) }
+{
+    let mut crew = crew;
+    let lock = Mutex::new(hall);
+    let ground = Ground::new(&lock, beside.words, beside.queues, beside.gate);
+    let served = run_all(rt, alloc, &ground, beside.gate, beside.signals, &mut crew);
+    let hall = lock.into_inner();
+    if let Err(memory) = served {
+        hall.end(rt);
+        return Err(memory);
+    }
+    finish(rt, alloc, hall, beside, crew)
+}
+
+// The hall of a run. Where there is no memory for it, the writer of the view is given up.
+fn hall_of<N: Naming, H: Hook, R: Wait>(
+    rt: &R,
+    alloc: Global,
+    plans: Plans,
+    hook: H,
+    service: Service,
+    writer: Option<ViewWriter>,
+) -> Result<Hall<N, FullPass, H>, Memory>
+    requires plans { plans ≡ N.plans }
+    requires base { H.base hook ≡ N.base }
+    requires fresh { IsFreshService N.plans.plans N.words N.result_words N.queues service }
+    requires books { names_of service.books.items ≡ N.books }
+    requires writer { IfSome writer (IsFreshView N.view) }
+{
+    let Service {
+        sides,
+        results,
+        books,
+        takers,
+    } = service;
+    match House::<N, FullPass, H>::make(alloc, plans, hook, sides, results, books) {
+        Ok(house) => Ok(Hall::make(house, takers, writer)),
+        Err(memory) => {
+            end_writer(rt, writer);
+            Err(memory)
+        }
+    }
+}
+
+// Runs a setup of which N names the plans, the base, the tables and the view.
 fn run_named<N: Naming + Send + Sync, H: Hook + Send, G: Gate + Sync, R: Threads + Wait + Sync>(
     rt: &R,
     alloc: Global,
@@ -222,28 +287,19 @@ fn run_named<N: Naming + Send + Sync, H: Hook + Send, G: Gate + Sync, R: Threads
     } = setup;
     let Parts {
         words,
-        clients,
-        sides,
-        results,
-        books,
         queues,
-        takers,
+        clients,
+        service,
     } = parts;
     let Views { writer, watches } = views;
-    let house = match House::<N, FullPass, H>::make(alloc, plans, hook, sides, results, books) {
-        Ok(house) => house,
-        Err(memory) => {
-            end_writer(rt, writer);
-            return Err(memory);
-        }
+    let hall = hall_of::<N, H, R>(rt, alloc, plans, hook, service, writer)?;
+    let beside = Beside {
+        words: words.as_slice(),
+        queues: queues.as_slice(),
+        gate,
+        signals,
     };
-    let ground = Ground::new(Hall::make(house, takers, writer), &words, &queues, gate);
-    let mut crew = Crew { clients, watches };
-    if let Err(memory) = run_all(rt, alloc, &ground, signals, &mut crew) {
-        ground.into_hall().end(rt);
-        return Err(memory);
-    }
-    finish(rt, alloc, ground, crew)
+    run_hall(rt, alloc, hall, &beside, Crew { clients, watches })
 }
 
 /// Runs a script on threads: one for the client of each stream, one for each of 1 to 8 workers, and one for each of up to 4

@@ -9,9 +9,9 @@ ghost use Rattle.gpu_threads.specs.Turns.{Turns, TurnsSo};
 ghost use Rattle.gpu_threads.specs.Words.{of_tables};
 
 use crate::ground::Ground;
-use crate::over::is_gone;
+use crate::rows::queue_of;
 use gpu_hall::NamedSide;
-use gpu_house::{Closing, Naming};
+use gpu_house::{Closing, Doing, Naming};
 use gpu_io::Gate;
 use result_words::ResultWords;
 use shm_words::SharedWords;
@@ -40,9 +40,9 @@ pub(crate) fn is_ended<N: Naming, P: NamedSide, H: Hook, R: Wait, G: Gate>(
     requires { IsKnown (length N.plans.plans) stream }
 {
     let hall = ground.hall.lock(rt);
-    let gone = is_gone(&hall, stream);
+    let doing = hall.state(stream);
     MutexGuard::unlock(hall);
-    gone
+    matches!(doing, Doing::Lost | Doing::Closed)
 }
 
 // Closes a stream whose client stands at its Close, once all its flushes are collected. False where it is too early.
@@ -76,7 +76,7 @@ pub(crate) fn turn<N: Naming, P: NamedSide, H: Hook, R: Wait, G: Gate>(
     ensures acts { TurnsSo client.old client.new result }
 {
     let stream = client.stream();
-    let act = client.act(rt, own, ground.queue_of(stream), ground.gate);
+    let act = client.act(rt, own, queue_of(ground.queues, stream), ground.gate);
     match act {
         Act::AtClose => {
             if close(rt, ground, stream) {

@@ -1,11 +1,11 @@
 //! The viewers of a run: they look at its view beside the clients and the workers, and once more when it is over.
-ghost use Rattle.std.specs.Prelude.{◌≡◌, ◌≤◌, [], length, IfOk, IfSome};
+ghost use Rattle.std.specs.Prelude.{◌≡◌, ◌≤◌, [], length, vec_capacity, IfOk, IfSome};
 ghost use Rattle.std.specs.List.{All};
 ghost use mathlib.Core.List.{IsPrefix};
 ghost use Rattle.gpu_threads.specs.Viewers.{AreFreshViews};
 ghost use Rattle.gpu_hall.specs.Looks.{AreViewerLooks};
 ghost use Rattle.thread_parts.specs.Watches.{HasNotLooked, HasWatched, HaveWatched};
-ghost use Rattle.gpu_threads.specs.Views.{AreAllLooks, IsViewTold, SawTold};
+ghost use Rattle.gpu_threads.specs.Views.{AreAllLooks, IsViewerOf, IsViewTold, SawTold};
 
 use gpu_hall::{Hall, NamedSide, Shown};
 use gpu_house::{Naming, Report};
@@ -143,8 +143,7 @@ fn confirm<R: Wait>(rt: &R, shown: &mut Shown, watch: &mut Watch)
 
 // The last look of a viewer, and then all that it saw.
 fn look_last<R: Wait>(rt: &R, shown: &mut Shown, watch: Watch) -> Vec<Look>
-    requires view { IfSome shown.old.view (λ told. told.view ≡ watch.view) }
-    requires watched { length watch.looks ≡ LOOKS }
+    requires { IsViewerOf shown.old watch }
     ensures looks { AreViewerLooks shown.old.plans shown.old.past result.items }
     ensures same { shown.new ≡ shown.old }
 {
@@ -153,6 +152,26 @@ fn look_last<R: Wait>(rt: &R, shown: &mut Shown, watch: Watch) -> Vec<Look>
     watch.look(rt);
     confirm(rt, shown, &mut watch);
     watch.into_seen()
+}
+
+// The same of each viewer, in a list that has room.
+fn look_all<R: Wait>(
+    rt: &R,
+    shown: &mut Shown,
+    watches: Vec<Watch>,
+    seen: Vec<Vec<Look>>,
+) -> Vec<Vec<Look>>
+    requires viewers { All (IsViewerOf shown.old) watches.items }
+    requires room { length watches.items ≤ vec_capacity seen }
+    requires none { seen.items ≡ [] }
+    ensures looks { AreAllLooks shown.old.plans shown.old.past (length watches.items) result.items }
+    ensures same { shown.new ≡ shown.old }
+{
+    let mut seen = seen;
+    for watch in watches {
+        seen.push_reserved(look_last(rt, shown, watch));
+    }
+    seen
 }
 
 /// Shows the viewers the whole journal of a hall that is done with, and gives what it leaves, and what each viewer saw.
@@ -173,7 +192,7 @@ pub(crate) fn show_all<N: Naming, P: NamedSide, H: Hook, R: Wait>(
     ensures looks { IfOk result
         (λ ended. AreAllLooks N.plans hall.past (length watches.items) ended.1.items) }
 {
-    let mut seen = match Vec::with_capacity(alloc, watches.len()) {
+    let seen = match Vec::with_capacity(alloc, watches.len()) {
         Ok(seen) => seen,
         Err(error) => {
             hall.end(rt);
@@ -181,8 +200,6 @@ pub(crate) fn show_all<N: Naming, P: NamedSide, H: Hook, R: Wait>(
         }
     };
     let mut shown = hall.show(rt)?;
-    for watch in watches {
-        seen.push_reserved(look_last(rt, &mut shown, watch));
-    }
+    let seen = look_all(rt, &mut shown, watches, seen);
     Ok((shown.end(rt), seen))
 }

@@ -4,6 +4,9 @@ use Rattle.gpu_threads.proofs.threads.play_left.Goals as goal
 pub all_done-requires : goal.all_done-requires
 all_done-requires g c = c.loop.invariant.clients
 
+pub new-ground-requires : goal.new-ground-requires
+new-ground-requires g c = c.requires.shared
+
 pub turn_each-requires : goal.turn_each-requires
 turn_each-requires g c = c.loop.invariant.clients
 

@@ -8,6 +8,9 @@ use Rattle.gpu_threads.specs.Views.{IsViewTold, SawTold}
 use Rattle.gpu_threads.proofs.Watched.{all_seen}
 use Rattle.gpu_threads.proofs.views.look_last.Goals as goal
 
+pub inform-requires : goal.inform-requires
+inform-requires g c = c.requires.view
+
 -- what was reported after the last look is what was reported before it, and no look came after it
 pub returns-clause-looks : goal.returns-clause-looks
 returns-clause-looks g c =

@@ -1,7 +1,7 @@
 use Rattle.std.proofs.Common.{length, sym, subst, arith}
 use Rattle.sync_core.specs.Standing.{IsKnown}
 use Rattle.thread_parts.specs.Clients.{ThreadClientData}
-use Rattle.gpu_threads.proofs.reading.all_through.Goals as goal
+use Rattle.gpu_threads.proofs.reading.all_done.Goals as goal
 
 pub is_through-requires : goal.is_through-requires
 is_through-requires g c =
