@@ -1,8 +1,7 @@
 //! Runs that a gate leads.
 
-use super::scripts::{LOST, RACE, TWO_AND_ONE, TWO_FLUSHES, TWO_TEXELS, led, lines_of};
+use super::scripts::{LOST, RACE, TWO_AND_ONE, TWO_FLUSHES, TWO_TEXELS, led};
 use gpu_io::{Gate, Place};
-use gpu_journal::Event;
 use std::sync::atomic::{AtomicU64, Ordering};
 use std::test::Fail;
 use std::thread;
@@ -61,22 +60,25 @@ impl Gate for Counts {
     }
 }
 
+/// Scripts, and how often a place before a fetch, one before a flush and one after a finish is reached.
+const REACHED: [(&str, u64, u64, u64); 4] = [
+    (TWO_TEXELS, 1, 1, 1),
+    (TWO_FLUSHES, 2, 2, 2),
+    (TWO_AND_ONE, 0, 3, 3),
+    (LOST, 1, 1, 0),
+];
+
 // Both commands of the two texels are fetched in one batch, a batch ends with its flush, an empty flush has no batch, and a
 // lost stream no finish.
 #[test]
 fn each_place_is_reached_once(rt: HostRuntime) -> Result<(), Fail> {
-    for (script, fetches, flushes, finishes) in [
-        (TWO_TEXELS, 1, 1, 1),
-        (TWO_FLUSHES, 2, 2, 2),
-        (TWO_AND_ONE, 0, 3, 3),
-        (LOST, 1, 1, 0),
-    ] {
+    for (script, fetches, flushes, finishes) in REACHED {
         let counts = Counts::none();
-        let _ = led(&rt, rt.alloc(), script, 1, &counts)?;
-        assert_eq!(rt; value_of(&counts.before_fetch), fetches, "{script}");
-        assert_eq!(rt; value_of(&counts.after_fetch), fetches, "{script}");
-        assert_eq!(rt; value_of(&counts.before_flush), flushes, "{script}");
-        assert_eq!(rt; value_of(&counts.after_finish), finishes, "{script}");
+        let _ = led(&rt, rt.alloc(), script, &counts)?;
+        assert_eq!(rt; value_of(&counts.before_fetch), fetches);
+        assert_eq!(rt; value_of(&counts.after_fetch), fetches);
+        assert_eq!(rt; value_of(&counts.before_flush), flushes);
+        assert_eq!(rt; value_of(&counts.after_finish), finishes);
     }
     Ok(())
 }
@@ -123,8 +125,7 @@ fn race(rt: HostRuntime) -> Result<(), Fail> {
         finished: AtomicU64::new(0),
         late: AtomicU64::new(0),
     };
-    let report = led(&rt, rt.alloc(), RACE, 1, &gate)?;
-    let lines = lines_of(rt.alloc(), &report)?;
+    let lines = led(&rt, rt.alloc(), RACE, &gate)?;
     assert_eq!(rt; value_of(&gate.late), 0);
     assert!(rt; value_of(&gate.fetching) > 0);
     assert_eq!(rt; value_of(&gate.flushing), 1);
@@ -153,26 +154,15 @@ impl Gate for Beside {
     }
 }
 
+// The last order is that of the flush that was held.
 #[test]
 fn workers_beside_clients(rt: HostRuntime) -> Result<(), Fail> {
     let gate = Beside {
         finished: AtomicU64::new(0),
         late: AtomicU64::new(0),
     };
-    let report = led(&rt, rt.alloc(), TWO_AND_ONE, 1, &gate)?;
+    let lines = led(&rt, rt.alloc(), TWO_AND_ONE, &gate)?;
     assert_eq!(rt; value_of(&gate.late), 0);
-    let journal = report.journal();
-    let mut last = 0;
-    for index in 0..journal.count() {
-        if let Event::Order {
-            stream: 1,
-            order,
-            ..
-        } = journal.event(index)
-        {
-            last = order;
-        }
-    }
-    assert_eq!(rt; last, 3);
+    assert!(rt; lines.ends_with(b"finish 1 3\n"));
     Ok(())
 }

@@ -79,40 +79,35 @@ pub(crate) fn plans_of(alloc: Global, script: &str) -> Result<Plans, Fail> {
     Ok(parse(alloc, script.as_bytes()).ok().ok_or("a script")?)
 }
 
-// What a run of a script with a given number of workers leaves, where a gate leads it.
-pub(crate) fn led<G: Gate + Sync, R: Threads + Wait + Sync>(
-    rt: &R,
-    alloc: Global,
-    script: &str,
-    workers: u32,
-    gate: &G,
-) -> Result<Report, Fail> {
-    let (report, _) = viewed(rt, alloc, script, workers, 0, gate)?;
-    Ok(report)
-}
-
-// The same with a given number of viewers, and what each of them saw.
+// What a run of a script with one worker leaves, where a gate leads it, and what each of a number of viewers saw.
 pub(crate) fn viewed<G: Gate + Sync, R: Threads + Wait + Sync>(
     rt: &R,
     alloc: Global,
     script: &str,
-    workers: u32,
-    views: u32,
+    viewers: u32,
     gate: &G,
 ) -> Result<(Report, Vec<Vec<Look>>), Fail>
-    requires { views ≤ MOST_VIEWERS }
+    requires { viewers ≤ MOST_VIEWERS }
 {
-    if workers < 1 || workers > 8 {
-        return Err("a number of workers".into());
-    }
     let plans = plans_of(alloc, script)?;
     let team = Team {
-        workers,
-        viewers: views,
+        workers: 1,
+        viewers,
     };
     let ran = run_threads(rt, alloc, plans, team, Marker::make(1000), gate).ok();
     let ThreadedRun { report, looks, .. } = ran.ok_or("memory is ample")?;
     Ok((report, looks))
+}
+
+// The lines of the journal of such a run without viewers.
+pub(crate) fn led<G: Gate + Sync, R: Threads + Wait + Sync>(
+    rt: &R,
+    alloc: Global,
+    script: &str,
+    gate: &G,
+) -> Result<Vec<u8>, Fail> {
+    let (report, _) = viewed(rt, alloc, script, 0, gate)?;
+    lines_of(alloc, &report)
 }
 
 // The lines of a report's journal.

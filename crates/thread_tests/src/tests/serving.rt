@@ -11,14 +11,14 @@ use super::scripts::{lines_of, plans_of};
 use flush_queue::{FlushQueue, Poster, Taker};
 use gpu_books::{Book, Half};
 use gpu_hall::{Hall, NamedSide};
-use gpu_house::{House, Naming, Report};
+use gpu_house::{House, Naming};
 use gpu_io::OpenGate;
 use gpu_plan::{Plan, Plans};
 use gpu_threads::{Ground, Turn, serve_turn};
 use shm_words::{Acted, ClientPass, ServicePass, SharedWords};
 use std::alloc::Global;
 use std::marker::Brand;
-use std::sync::Wait;
+use std::sync::{Mutex, Wait};
 use std::test::Fail;
 use wait_hooks::{Hook, Marker};
 
@@ -86,6 +86,23 @@ fn post_next<R: Wait>(
     }
 }
 
+// The client posts both its flushes.
+fn post_both<R: Wait>(
+    rt: &R,
+    words: &SharedWords,
+    queue: &FlushQueue,
+    client: ClientPass,
+    poster: Poster,
+) -> Result<(), Fail>
+    requires words { words.now ≡ client.table }
+    requires queue { queue.now ≡ poster.queue }
+    requires all { HasPostedAll client poster }
+{
+    let (mut client, mut poster) = (client, poster);
+    post_next(rt, words, queue, &mut client, &mut poster)?;
+    post_next(rt, words, queue, &mut client, &mut poster)
+}
+
 // What the service has of a client that begins with two flushes and has posted them.
 fn both_posted<R: Wait>(rt: &R, alloc: Global, plan: &Plan) -> Result<Posted, Fail>
     ensures side { IfOk result (λ made. made.side ≡ service_at made.words plan.now) }
@@ -93,11 +110,10 @@ fn both_posted<R: Wait>(rt: &R, alloc: Global, plan: &Plan) -> Result<Posted, Fa
         (λ made. made.taker ≡ fresh_end made.queue made.words plan.now) }
     ensures book { IfOk result (λ made. IsFresh made.book) }
 {
-    let (words, pass, side) = shm_words::make(alloc, plan)?;
-    let (queue, mut poster, taker, mut pass) = flush_queue::make(rt, alloc, pass)?;
-    post_next(rt, &words, &queue, &mut pass, &mut poster)?;
-    post_next(rt, &words, &queue, &mut pass, &mut poster)?;
     let book = gpu_books::make(alloc)?;
+    let (words, pass, side) = shm_words::make(alloc, plan)?;
+    let (queue, poster, taker, pass) = flush_queue::make(rt, alloc, pass)?;
+    post_both(rt, &words, &queue, pass, poster)?;
     Ok(Posted {
         words,
         side,
@@ -105,6 +121,15 @@ fn both_posted<R: Wait>(rt: &R, alloc: Global, plan: &Plan) -> Result<Posted, Fa
         taker,
         book,
     })
+}
+
+// A list of one thing.
+fn one<T: Drop>(alloc: Global, thing: T) -> Result<Vec<T>, Fail>
+    ensures { IfOk result (λ list. list.items ≡ thing ∷ []) }
+{
+    let mut list = Vec::new(alloc);
+    list.push(thing)?;
+    Ok(list)
 }
 
 // A hall without events over the one stream.
@@ -123,34 +148,43 @@ fn hall_over<N: Naming>(
     requires side { side ≡ service_at side.table (plan_of plans 1) }
     requires taker { taker ≡ fresh_end taker.queue side.table (plan_of plans 1) }
 {
-    let mut sides = Vec::new(alloc);
-    sides.push(side)?;
-    let mut results = Vec::new(alloc);
-    results.push(())?;
-    let mut books = Vec::new(alloc);
-    books.push(book)?;
-    let mut takers = Vec::new(alloc);
-    takers.push(taker)?;
+    let takers = one(alloc, taker)?;
+    let results = one(alloc, ())?;
+    let sides = one(alloc, side)?;
+    let books = one(alloc, book)?;
     let house = House::make(alloc, plans, Marker::make(0), sides, results, books)?;
     Ok(Hall::make(house, takers, None))
 }
 
-// What a number of turns leave, and what the last of them came to.
+// The lines that a hall leaves.
+fn lines_left<N: Naming, P: NamedSide, H: Hook, R: Wait>(
+    rt: &R,
+    alloc: Global,
+    hall: Hall<N, P, H>,
+) -> Result<Vec<u8>, Fail> {
+    let report = hall.end(rt);
+    lines_of(alloc, &report)
+}
+
+// What the last of a number of turns came to, and the lines that they leave.
 fn turns<N: Naming, P: NamedSide, H: Hook, R: Wait>(
     rt: &R,
+    alloc: Global,
     hall: Hall<N, P, H>,
     words: &[P::Words],
     queues: &[FlushQueue],
     count: u32,
-) -> (Option<Turn>, Report)
+) -> Result<(Option<Turn>, Vec<u8>), Fail>
     requires shared { AreShared P.words_of N.plans N.words N.result_words N.queues words.now queues.now }
 {
-    let ground = Ground::new(hall, words, queues, &OpenGate);
+    let lock = Mutex::new(hall);
+    let ground = Ground::new(&lock, words, queues, &OpenGate);
     let mut last = None;
     for _ in 0..count {
         last = Some(serve_turn(rt, &ground));
     }
-    (last, ground.into_hall().end(rt))
+    let lines = lines_left(rt, alloc, lock.into_inner())?;
+    Ok((last, lines))
 }
 
 // The same over the one stream.
@@ -160,7 +194,7 @@ fn served<N: Naming, R: Wait>(
     plans: Plans,
     posted: Posted,
     count: u32,
-) -> Result<(Option<Turn>, Report), Fail>
+) -> Result<(Option<Turn>, Vec<u8>), Fail>
     requires plans { plans ≡ N.plans }
     requires one { length plans.plans ≡ 1 }
     requires base { N.base ≡ 0 }
@@ -177,11 +211,11 @@ fn served<N: Naming, R: Wait>(
         book,
     } = posted;
     let hall = hall_over::<N>(alloc, plans, side, taker, book)?;
-    Ok(turns(rt, hall, &[words], &[queue], count))
+    turns(rt, alloc, hall, &[words], &[queue], count)
 }
 
-// What a number of turns leave of a client with two empty flushes that are posted.
-fn served_two<R: Wait>(rt: &R, alloc: Global, count: u32) -> Result<(Option<Turn>, Report), Fail> {
+// The same of a client with two empty flushes that are posted.
+fn served_two<R: Wait>(rt: &R, alloc: Global, count: u32) -> Result<(Option<Turn>, Vec<u8>), Fail> {
     let plans = plans_of(alloc, TWO_EMPTY)?;
     if plans.count() != 1 {
         return Err("one stream".into());
@@ -202,9 +236,9 @@ fn is_turn(turn: Option<Turn>, wanted: Turn) -> bool {
 #[test]
 fn a_turn_ends_after_one_run(rt: HostRuntime) -> Result<(), Fail> {
     for (count, wanted, lines) in TURNS {
-        let (turn, report) = served_two(&rt, rt.alloc(), count)?;
+        let (turn, told) = served_two(&rt, rt.alloc(), count)?;
         assert!(rt; is_turn(turn, wanted));
-        assert_eq!(rt; lines_of(rt.alloc(), &report)?.as_slice(), lines.as_bytes());
+        assert_eq!(rt; told.as_slice(), lines.as_bytes());
     }
     Ok(())
 }

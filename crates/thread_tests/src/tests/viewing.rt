@@ -4,8 +4,11 @@ use super::gates::{hold_until, one_more, value_of};
 use super::scripts::{READ_BACK, viewed};
 use gpu_io::{Gate, Place};
 use live_view::Look;
+use std::alloc::Global;
+use std::sync::Wait;
 use std::sync::atomic::AtomicU64;
 use std::test::Fail;
+use std::thread::Threads;
 
 /// Holds the viewer before its second look until the first order is finished, and the client before its second flush until the viewer
 /// stands before its third look. Counts the looks.
@@ -35,6 +38,21 @@ impl Gate for ReadBack {
     }
 }
 
+// How many events a run with one viewer leaves, and the viewer's second look and its last.
+fn looked<G: Gate + Sync, R: Threads + Wait + Sync>(
+    rt: &R,
+    alloc: Global,
+    gate: &G,
+) -> Result<(usize, Look, Look), Fail> {
+    let (report, all) = viewed(rt, alloc, READ_BACK, 1, gate)?;
+    let events = report.journal().count();
+    drop(report);
+    let looks = all.first().ok_or("one viewer")?;
+    let second = looks.get(1).ok_or("a second look")?;
+    let last = looks.last().ok_or("a last look")?;
+    Ok((events, *second, *last))
+}
+
 // The second look is one of the first upload: what was finished is published before the gate hears of it. The look after the
 // run has no place of its own.
 #[test]
@@ -45,28 +63,11 @@ fn a_finished_order_is_seen_during_the_run(rt: HostRuntime) -> Result<(), Fail> 
         looked: AtomicU64::new(0),
         late: AtomicU64::new(0),
     };
-    let (report, all) = viewed(&rt, rt.alloc(), READ_BACK, 1, 1, &gate)?;
+    let (events, second, last) = looked(&rt, rt.alloc(), &gate)?;
     assert_eq!(rt; value_of(&gate.late), 0);
     assert_eq!(rt; value_of(&gate.looks), 16);
-    assert_eq!(rt; report.journal().count(), 7);
-    let looks = all.first().ok_or("one viewer")?;
-    assert!(rt;
-        matches!(
-            looks.get(1),
-            Some(Look {
-                events: 4,
-                sum: 0x1122_3344
-            })
-        )
-    );
-    assert!(rt;
-        matches!(
-            looks.last(),
-            Some(Look {
-                events: 7,
-                sum: 0x5566_7788
-            })
-        )
-    );
+    assert_eq!(rt; events, 7);
+    assert_eq!(rt; (second.events, second.sum), (4, 0x1122_3344));
+    assert_eq!(rt; (last.events, last.sum), (7, 0x5566_7788));
     Ok(())
 }

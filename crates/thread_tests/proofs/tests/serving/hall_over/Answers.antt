@@ -1,6 +1,5 @@
-use Rattle.std.proofs.Common.{◌≡◌, [], ◌∷◌, ◌++◌, List, ap, sym, subst, ◌∙◌}
+use Rattle.std.proofs.Common.{sym, subst}
 use Rattle.gpu_plan.specs.Plans.{PlansData}
-use Rattle.flush_queue.specs.Seen.{EndData}
 use Rattle.gpu_hall.specs.Takers.{AreFreshTakers}
 use Rattle.thread_tests.proofs.Serving.{fresh_takers}
 use Rattle.thread_tests.proofs.tests.serving.hall_over.Goals as goal
@@ -8,7 +7,6 @@ use Rattle.thread_tests.proofs.tests.serving.hall_over.Goals as goal
 pub make-requires-3-clause-takers : goal.make-requires-3-clause-takers
 make-requires-3-clause-takers g c =
     let N = g.N.Naming in
-    let listed : c.push-4.new.self.items ≡ c.args.taker ∷ [] = c.in_ok-push-4.ensures.items ∙ ap (λ (l : List EndData). l ++ c.args.taker ∷ []) c.new-takers.ensures.items in
-    subst (λ (p : PlansData). AreFreshTakers p.plans N.words N.queues c.push-4.new.self.items) c.requires.plans
-    (subst (AreFreshTakers c.args.plans.plans N.words N.queues) (sym listed)
+    subst (λ (p : PlansData). AreFreshTakers p.plans N.words N.queues c.in_ok-takers.takers.items) c.requires.plans
+    (subst (AreFreshTakers c.args.plans.plans N.words N.queues) (sym c.in_ok-takers.ensures)
     (fresh_takers c.args.plans N.words N.queues c.args.side.table c.args.taker c.requires.one c.requires.tables.0 c.requires.tables.1 c.requires.taker))
