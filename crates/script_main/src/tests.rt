@@ -1,3 +1,4 @@
+mod calls;
 mod on_threads;
 mod plain;
 mod promises;

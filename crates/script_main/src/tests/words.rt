@@ -1,86 +1,83 @@
 //! What words ask for.
 
-use super::plain::given;
+use super::calls::given;
 use script_answers::{Command, command_of, is_plain};
-use std::alloc::Global;
 use std::test::Fail;
 
-// What some words ask for, and whether they are plain.
-fn asked(alloc: Global, words: &[&str]) -> Result<(Option<Command>, bool), Fail> {
-    let words = given(alloc, words)?;
-    Ok((command_of(&words), is_plain(&words)))
-}
+/// Words of a command, with its numbers of workers and of viewers.
+const COMMANDS: [(&[&str], (u32, u32)); 16] = [
+    (&["run"], (0, 0)),
+    (&["run", "--workers", "0"], (0, 0)),
+    (&["run", "--workers=0"], (0, 0)),
+    (&["run", "--workers", "1"], (1, 0)),
+    (&["run", "--workers=1"], (1, 0)),
+    (&["run", "--workers", "5"], (5, 0)),
+    (&["run", "--workers=5"], (5, 0)),
+    (&["run", "--workers", "8"], (8, 0)),
+    (&["run", "--workers=8"], (8, 0)),
+    (&["run", "--workers", "1", "--views", "1"], (1, 1)),
+    (&["run", "--workers", "8", "--views", "4"], (8, 4)),
+    (&["check"], (0, 0)),
+    (&["verify"], (0, 0)),
+    (&["verify", "--whole"], (0, 0)),
+    (&["generate", "1", "0"], (0, 0)),
+    (&["trial", "1", "0"], (0, 0)),
+];
 
-// How many workers the words ask for, where they are not plain and ask for no viewer.
-fn workers_of(alloc: Global, words: &[&str]) -> Result<Option<u32>, Fail> {
-    match asked(alloc, words)? {
-        (Some(Command::RunOnThreads { workers, views: 0 }), false) => Ok(Some(workers)),
-        _ => Ok(None),
+/// Words of no command.
+const NO_COMMANDS: [&[&str]; 26] = [
+    &[],
+    &["run", "--workers"],
+    &["run", "--workers", "00"],
+    &["run", "--workers", "9"],
+    &["run", "--workers="],
+    &["run", "--workers=01"],
+    &["run", "--workers=9"],
+    &["run", "--worker=1"],
+    &["run", "--views", "1"],
+    &["run", "--workers", "0", "--views", "1"],
+    &["run", "--workers", "1", "--views", "0"],
+    &["run", "--workers", "1", "--views", "5"],
+    &["run", "--workers=1", "--views", "1"],
+    &["run", "--views", "1", "--workers", "1"],
+    &["check", "--workers", "1"],
+    &["0"],
+    &["check", "check"],
+    &["generate", "0", "1"],
+    &["generate", "2001", "1"],
+    &["generate", "1", "4294967296"],
+    &["trial"],
+    &["trial", "1"],
+    &["trial", "0", "1"],
+    &["trial", "2001", "1"],
+    &["trial", "1", "+1"],
+    &["verify", "run"],
+];
+
+// The numbers of workers and of viewers that a command asks for.
+fn threads_of(command: Command) -> (u32, u32) {
+    match command {
+        Command::RunOnThreads { workers, views } => (workers, views),
+        _ => (0, 0),
     }
 }
 
 #[test]
-fn one_to_eight_workers_are_on_threads(rt: HostRuntime) -> Result<(), Fail> {
-    for (word, other, workers) in [
-        ("1", "--workers=1", 1),
-        ("5", "--workers=5", 5),
-        ("8", "--workers=8", 8),
-    ] {
-        for words in [["run", "--workers", word].as_slice(), &["run", other]] {
-            assert_eq!(rt; workers_of(rt.alloc(), words)?, Some(workers));
-        }
+fn a_run_with_workers_alone_is_on_threads(rt: HostRuntime) -> Result<(), Fail> {
+    for (words, threads) in COMMANDS {
+        let words = given(rt.alloc(), words)?;
+        assert_eq!(rt; command_of(&words).map(threads_of), Some(threads));
+        assert_eq!(rt; is_plain(&words), threads.0 == 0);
     }
     Ok(())
 }
 
 #[test]
-fn one_to_four_viewers_are_for_runs_with_workers(rt: HostRuntime) -> Result<(), Fail> {
-    for (workers, views) in [("1", "1"), ("8", "4")] {
-        let words = ["run", "--workers", workers, "--views", views];
-        let (command, plain) = asked(rt.alloc(), &words)?;
-        assert!(rt; matches!(command, Some(Command::RunOnThreads { views: 1..=4, .. })));
-        assert!(rt; !plain);
-    }
-    let lists: [&[&str]; 6] = [
-        &["run", "--views", "1"],
-        &["run", "--workers", "0", "--views", "1"],
-        &["run", "--workers", "1", "--views", "0"],
-        &["run", "--workers", "1", "--views", "5"],
-        &["run", "--workers=1", "--views", "1"],
-        &["run", "--views", "1", "--workers", "1"],
-    ];
-    for words in lists {
-        assert!(rt; matches!(asked(rt.alloc(), words)?, (None, true)));
-    }
-    Ok(())
-}
-
-#[test]
-fn a_run_without_workers_is_plain(rt: HostRuntime) -> Result<(), Fail> {
-    let lists: [&[&str]; 3] = [
-        &["run"],
-        &["run", "--workers", "0"],
-        &["run", "--workers=0"],
-    ];
-    for words in lists {
-        assert!(rt; matches!(asked(rt.alloc(), words)?, (Some(Command::Run), true)));
-    }
-    Ok(())
-}
-
-#[test]
-fn all_other_words_are_plain(rt: HostRuntime) -> Result<(), Fail> {
-    let lists: [&[&str]; 7] = [
-        &["check"],
-        &["verify"],
-        &["verify", "--whole"],
-        &["generate", "1", "0"],
-        &["trial", "1", "0"],
-        &["run", "--workers", "9"],
-        &[],
-    ];
-    for words in lists {
-        assert!(rt; is_plain(&given(rt.alloc(), words)?));
+fn other_words_ask_for_nothing(rt: HostRuntime) -> Result<(), Fail> {
+    for words in NO_COMMANDS {
+        let words = given(rt.alloc(), words)?;
+        assert!(rt; command_of(&words).is_none());
+        assert!(rt; is_plain(&words));
     }
     Ok(())
 }
