@@ -8,3 +8,5 @@ pub mod Fitting
 pub mod Batched
 pub mod Looked
 pub mod Grown
+pub mod Onward
+mod Applied

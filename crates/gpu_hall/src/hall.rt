@@ -8,13 +8,14 @@ ghost use Rattle.gpu_house.specs.Ending.{doing_of};
 ghost use Rattle.gpu_house.specs.Waiting.{AreWaitsOf, HaveTargets, FormNoCycle};
 ghost use Rattle.gpu_house.specs.Stuck.{IsNotStuck};
 ghost use Rattle.gpu_hall.specs.Takers.{AreFreshTakers};
-ghost use Rattle.gpu_hall.specs.Outs.{NoneIsPaused};
+ghost use Rattle.gpu_hall.specs.Outs.{NoneIsPaused, IsDoneOrGoesOn};
 ghost use Rattle.gpu_hall.specs.Views.{IsFreshView, view_front};
 
 use crate::side::NamedSide;
 use flush_queue::Taker;
 use gpu_house::{Doing, House, Naming, WaitsKept};
 use live_view::ViewWriter;
+use serial_laws::plans_are_lawful;
 use std::marker::Model;
 use wait_hooks::Hook;
 
@@ -109,13 +110,17 @@ impl<N: Naming, P: NamedSide, H: Hook> Hall<N, P, H> {
     /// - `no_cycle`: no waits form a cycle
     /// - `stuck`: where a number is unprocessed, the stream with the least one can run, and is at home or has its run out
     /// - `going`: no run that is out is paused
+    /// - `further`: so all is done, or a client can come to its next flush or to its Close, or the stream with the least number runs
+    ///   on: it can run and is at home, or its run is out and not paused
     pub fn shows_laws(&self)
         ensures legal { IsLegal N.plans self.now.past }
         ensures targets { HaveTargets N.plans self.now.past }
         ensures no_cycle { FormNoCycle N.plans self.now.past }
         ensures stuck { IsNotStuck N.plans self.now.past self.now.outs }
         ensures going { NoneIsPaused self.now.outs }
+        ensures further { IsDoneOrGoesOn N.plans self.now.past self.now.outs }
     {
+        plans_are_lawful(self.house.plans());
         self.house.shows_legal();
         self.house.shows_laws();
     }

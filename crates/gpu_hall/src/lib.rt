@@ -11,7 +11,8 @@
 //!   - its journal is legal;
 //!   - each pending wait names a live stream with a lower unprocessed number, and no waits form a cycle;
 //!   - where a number is unprocessed, the stream with the least one can run, and is at home or has its run out;
-//!   - no run that is out is paused.
+//!   - no run that is out is paused;
+//!   - so all is done, or a client can come to its next flush or to its Close, or the stream with the least number runs on.
 //! - `waits` tells what the service keeps of waits, and that is what the journal says.
 //! - `collect` takes flushes from the queues and appends nothing but orders and losses as out of memory.
 //! - `take` gives a run that may go on, of the stream that the scheduler chooses among those at home. It gives none exactly

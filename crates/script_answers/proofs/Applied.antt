@@ -10,6 +10,7 @@ use Rattle.gpu_plan.specs.Plans.{PlansData}
 use Rattle.gpu_plan.specs.Script.{script_of, from_head}
 use Rattle.wait_hooks.specs.Marks.{mark}
 use Rattle.gpu_journal.specs.declared.event.Event.{Event}
+use Rattle.gpu_journal.specs.World.{state_of}
 use Rattle.gpu_journal.specs.Legal.{IsLegal}
 use Rattle.gpu_journal.specs.Past.{event_words}
 use Rattle.journal_text.specs.Output.{output}
@@ -27,16 +28,28 @@ use Rattle.script_answers.specs.Laws.{SameViewedRunIsSameHistory, RunIsJudgedWho
 use Rattle.script_answers.specs.Limits.{LimitsHaveTheirValues}
 use Rattle.gpu_cmd.specs.declared.facts.TheConstants.{MOST_FETCHED}
 use Rattle.journal_text.specs.declared.sheet.TheConstants.{MOST_EVENT_WORDS}
+use Rattle.live_view.specs.declared.making.TheConstants.{MOST_VIEWERS}
 
 -- a run without viewers and one with four that print the same have the same history
 same_seen : SameViewedRunIsSameHistory → (p : PlansData) (base : ℕ) (g h : List Event) (x : List ℕ) → AreLawfulPlans p
     → IsViewedRun 0 p g x → IsViewedRun 4 p h x → output p (mark base) g ++ x ≡ output p (mark base) h ++ x → g ≡ h
 same_seen law p base g h x lawful none four same = law p p 0 4 base base g h x x lawful lawful none four same
 
+-- nor does the history hang on the scripts, on how many viewers look, on the marks, or on what is printed after it: all that it says
+-- of a stream is the same
+same_states : SameViewedRunIsSameHistory → (p q : PlansData) (viewers others base other : ℕ) (g h : List Event) (x y : List ℕ) (s : ℕ) → AreLawfulPlans p → AreLawfulPlans q
+    → IsViewedRun viewers p g x → IsViewedRun others q h y → output p (mark base) g ++ x ≡ output q (mark other) h ++ y → state_of p g s ≡ state_of p h s
+same_states law p q viewers others base other g h x y s lawful also one two same = ap (λ (past : List Event). state_of p past s) (law p q viewers others base other g h x y lawful also one two same)
+
 -- what a run on one thread prints is found to be right after its script
 serial_right : RunIsJudgedWhole → (p : PlansData) (base : ℕ) (ending : Status) (input written : List ℕ) → script_in input ≡ Ok p → output_in input ≡ Some written → IsOutput IsSerialRun p base ending written
     → (images : Pictures) × (events : ℕ) × IsRightWhole input base images events
 serial_right law p base ending input written script there out = law p 0 base ending input written script there (omega arith) (inr out)
+
+-- and so is what a run on threads prints, with as many viewers as there may be
+viewed_right : RunIsJudgedWhole → (p : PlansData) (base : ℕ) (ending : Status) (input written : List ℕ) → script_in input ≡ Ok p → output_in input ≡ Some written → IsOutput (IsViewedRun MOST_VIEWERS) p base ending written
+    → (images : Pictures) × (events : ℕ) × IsRightWhole input base images events
+viewed_right law p base ending input written script there out = law p MOST_VIEWERS base ending input written script there (omega arith) (inl out)
 
 -- where the whole output of an input is right, so is the journal of one that lacks the lines after it
 right_without : WholeYesIsYes → (base : ℕ) (input short text : List ℕ) → script_part short ≡ script_part input → journal_part short ≡ journal_part input → IsJudgedWhole base input text → IsYesText short text

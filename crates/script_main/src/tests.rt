@@ -1,4 +1,5 @@
 mod calls;
+mod edges;
 mod on_threads;
 mod plain;
 mod promises;

@@ -1,15 +1,17 @@
 //! What the calls of a hall promise, in the words of a caller. These functions are proved and not run.
-ghost use Rattle.std.specs.Prelude.{◌≡◌, ◌+◌, ◌⊎◌, ◌↔◌, drop, length, true, false, IsTrue, IfSome, IfNone};
+ghost use Rattle.std.specs.Prelude.{◌≡◌, ◌+◌, ◌⊎◌, ◌↔◌, drop, length, [], true, false, IsTrue, IfSome, IfNone};
 ghost use Rattle.shm_words.specs.declared.client.Acted.TheVariants.{End};
 ghost use Rattle.gpu_plan.specs.Plans.{plan_of, is_closed};
 ghost use Rattle.sync_core.specs.Standing.{IsKnown, is_open};
-ghost use Rattle.gpu_journal.specs.Waits.{standing_of};
+ghost use Rattle.gpu_journal.specs.Waits.{standing_of, pending_in};
 ghost use Rattle.gpu_journal.specs.Legal.{IsLegal, MayClose};
+ghost use Rattle.gpu_journal.specs.Serial.{is_runnable};
 ghost use Rattle.gpu_house.specs.Names.{table_at};
 ghost use Rattle.gpu_house.specs.Batches.{member_words, batch_words, AreChained};
 ghost use Rattle.gpu_house.specs.Waiting.{HaveTargets, FormNoCycle};
 ghost use Rattle.gpu_house.specs.Stuck.{IsNotStuck};
-ghost use Rattle.gpu_hall.specs.Outs.{NoneIsPaused};
+ghost use Rattle.gpu_hall.specs.Outs.{NoneIsPaused, IsDoneOrGoesOn};
+ghost use Rattle.gpu_hall.specs.Commits.{Return, HasSteps, CameHome};
 ghost use Rattle.gpu_hall.specs.Laws.{GrowsBy};
 ghost use Rattle.gpu_hall.specs.Ready.{IsReadyRun};
 ghost use Rattle.thread_parts.specs.Clients.{ThreadClientData, IsSameClient};
@@ -34,6 +36,7 @@ fn wants_the_headline<N: Naming, P: NamedSide, H: Hook>(hall: &Hall<N, P, H>) ->
     requires no_cycle { FormNoCycle N.plans hall.now.past }
     requires stuck { IsNotStuck N.plans hall.now.past hall.now.outs }
     requires going { NoneIsPaused hall.now.outs }
+    requires further { IsDoneOrGoesOn N.plans hall.now.past hall.now.outs }
 {
     hall.count()
 }
@@ -47,6 +50,20 @@ fn look<N: Naming, P: NamedSide, H: Hook, R: Wait>(rt: &R, hall: &Mutex<Hall<N, 
     count
 }
 
+// Where the service keeps no wait, none is pending.
+fn none_waits<N: Naming, P: NamedSide, H: Hook>(hall: &Hall<N, P, H>) -> bool
+    ensures { IsTrue result → pending_in N.plans hall.now.past ≡ [] }
+{
+    hall.waits(1).pending == 0
+}
+
+// A stream cannot run of whose first number the service keeps a wait.
+fn is_held<N: Naming, P: NamedSide, H: Hook>(hall: &Hall<N, P, H>, stream: u32) -> bool
+    ensures { IsTrue result → is_runnable N.plans hall.now.past stream ≡ false }
+{
+    hall.waits(stream).blocked
+}
+
 // The run that is taken is of the first number of its stream, by what the service keeps of waits.
 fn take_first<N: Naming, P: NamedSide, H: Hook>(hall: &mut Hall<N, P, H>) -> Option<Run<N, P>>
     ensures { IfSome result (IsReadyRun P.side P.table P.mark P.note_of N.plans N.words N.books) }
@@ -57,7 +74,8 @@ fn take_first<N: Naming, P: NamedSide, H: Hook>(hall: &mut Hall<N, P, H>) -> Opt
     Some(run)
 }
 
-// A commit takes nothing from the journal, and adds at most an event for each command, and one more where the run comes home.
+// A commit takes nothing from the journal, and adds at most an event for each command, and one more where the run comes home. It
+// tells of what it adds that the commands are valid, that no wait of a run that goes on was kept, and by which error a stream is lost.
 #[tactic(auto, using(gpu_hall::proofs::Grown::steps_grow, gpu_hall::proofs::Grown::returns_grow))]
 fn commit_more<N: Naming, P: NamedSide, H: Hook>(
     hall: &mut Hall<N, P, H>,
@@ -74,6 +92,10 @@ fn commit_more<N: Naming, P: NamedSide, H: Hook>(
         hall.old.past hall.new.past) }
     ensures ends { IfNone result (GrowsBy (length (member_words batch) + 1)
         hall.old.past hall.new.past) }
+    ensures steps { IfSome result (λ on. HasSteps N.plans hall.old.past hall.new.past
+        run.run.stream (member_words batch) false) }
+    ensures home { IfNone result ((how : Return) × CameHome N.plans hall.old.past hall.new.past
+        run.run.stream run.run.order (member_words batch) how) }
 {
     hall.commit(run, words, batch)
 }

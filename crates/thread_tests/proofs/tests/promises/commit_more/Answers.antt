@@ -19,3 +19,9 @@ returns-clause-goes g c =
     let s = c.args.run.run.stream in
     let members = member_words c.args.batch in
     follows (HasSteps p old new s members false) (GrowsBy (length members) old new) c.commit.result (steps_grow p old new s members false) c.commit.ensures.more
+
+pub returns-clause-steps : goal.returns-clause-steps
+returns-clause-steps g c = c.commit.ensures.more
+
+pub returns-clause-home : goal.returns-clause-home
+returns-clause-home g c = c.commit.ensures.home
