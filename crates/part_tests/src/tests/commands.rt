@@ -30,7 +30,7 @@ fn areas_lie_end_to_end(rt: HostRuntime) {
     }
     let areas = areas_with(16, 16, 65_536);
     assert!(rt; areas.is_lawful());
-    assert_eq!(rt; areas.places(), 65_552);
+    assert!(rt; areas.places() == 65_552);
 }
 
 #[test]

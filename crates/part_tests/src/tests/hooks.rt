@@ -53,17 +53,17 @@ fn each_ending_calls_once_and_marks_wrap(rt: HostRuntime) -> Result<(), Fail> {
     let mut hooks = Hooks::make(rt.alloc(), counting);
     assert!(rt; hooks.reserve(2).is_ok());
     assert!(rt; hooks.reserve(1).is_ok());
-    assert_eq!(rt; hooks.spare(), 3);
-    assert_eq!(rt; hooks.ended(ending(1, How::Guard)), 4);
-    assert_eq!(rt; calls.load(Ordering::SeqCst), 1);
-    assert_eq!(rt; hooks.ended(ending(1, How::Release)), 3);
-    assert_eq!(rt; hooks.ended(ending(u32::MAX, How::Closed)), 4294967293);
-    assert_eq!(rt; calls.load(Ordering::SeqCst), 3);
-    assert_eq!(rt; hooks.marks(), [4, 3, 4294967293].as_slice());
+    assert!(rt; hooks.spare() == 3);
+    assert!(rt; hooks.ended(ending(1, How::Guard)) == 4);
+    assert!(rt; calls.load(Ordering::SeqCst) == 1);
+    assert!(rt; hooks.ended(ending(1, How::Release)) == 3);
+    assert!(rt; hooks.ended(ending(u32::MAX, How::Closed)) == 4294967293);
+    assert!(rt; calls.load(Ordering::SeqCst) == 3);
+    assert!(rt; hooks.marks() == [4, 3, 4294967293].as_slice());
     let (counting, marks) = hooks.into_marks();
-    assert_eq!(rt; calls.load(Ordering::SeqCst), 3);
-    assert_eq!(rt; counting.base(), 4294967295);
-    assert_eq!(rt; marks.as_slice(), [4, 3, 4294967293].as_slice());
+    assert!(rt; calls.load(Ordering::SeqCst) == 3);
+    assert!(rt; counting.base() == 4294967295);
+    assert!(rt; marks.as_slice() == [4, 3, 4294967293].as_slice());
     Ok(())
 }
 
@@ -71,10 +71,10 @@ fn each_ending_calls_once_and_marks_wrap(rt: HostRuntime) -> Result<(), Fail> {
 fn the_plain_callback_answers_the_mark(rt: HostRuntime) -> Result<(), Fail> {
     let mut hooks = Hooks::make(rt.alloc(), Marker::make(1000));
     assert!(rt; hooks.reserve(1).is_ok());
-    assert_eq!(rt; hooks.ended(ending(7, How::Guard)), 1029);
-    assert_eq!(rt; hooks.marks(), [1029].as_slice());
+    assert!(rt; hooks.ended(ending(7, How::Guard)) == 1029);
+    assert!(rt; hooks.marks() == [1029].as_slice());
     let (marker, marks) = hooks.into_marks();
-    assert_eq!(rt; marker.base(), 1000);
-    assert_eq!(rt; marks.as_slice(), [1029].as_slice());
+    assert!(rt; marker.base() == 1000);
+    assert!(rt; marks.as_slice() == [1029].as_slice());
     Ok(())
 }

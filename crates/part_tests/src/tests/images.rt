@@ -4,7 +4,7 @@ use std::test::Fail;
 #[test]
 fn all_texels_count_modulo_2_to_32(rt: HostRuntime) -> Result<(), Fail> {
     let mut images = Images::make(rt.alloc());
-    assert_eq!(rt; texel_sum(&images), 0);
+    assert!(rt; texel_sum(&images) == 0);
     for image in [3, 7] {
         let op = Op::Create {
             image,
@@ -21,6 +21,6 @@ fn all_texels_count_modulo_2_to_32(rt: HostRuntime) -> Result<(), Fail> {
     };
     images.clear(3, corner, 0xffff_fff0);
     images.clear(7, corner, 0x20);
-    assert_eq!(rt; texel_sum(&images), 0x10);
+    assert!(rt; texel_sum(&images) == 0x10);
     Ok(())
 }

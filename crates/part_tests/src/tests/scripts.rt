@@ -101,9 +101,9 @@ fn streams_have_their_names(rt: HostRuntime) -> Result<(), Fail> {
         let name = Name { namespace, id };
         assert!(rt; plans.count() == 2);
         assert!(rt; plans.name(1) == name);
-        assert_eq!(rt; plans.number(name), 1);
+        assert!(rt; plans.number(name) == 1);
         let nobody = Name { namespace: 1, id };
-        assert_eq!(rt; plans.number(nobody), 0);
+        assert!(rt; plans.number(nobody) == 0);
     }
     Ok(())
 }
@@ -134,10 +134,10 @@ close";
     assert!(rt; plans.count() == 1);
     let plan = plans.plan(1);
     assert!(rt; matches!(plan.priority(), Priority::Normal));
-    assert_eq!(rt; plan.areas().places(), 65_552);
+    assert!(rt; plan.areas().places() == 65_552);
     assert!(rt; plan.dumps() == [(4, 65_535)].as_slice());
     let actions = plan.actions();
-    assert_eq!(rt; actions.len(), 6);
+    assert!(rt; actions.len() == 6);
     assert!(rt; puts(actions, 0, 0, 0x2040_0004));
     assert!(rt; puts(actions, 1, 1, 10));
     assert!(rt; puts(actions, 2, 65_551, u32::MAX));

@@ -99,7 +99,7 @@ fn real_source_passes_on_what_the_system_gives(rt: HostRuntime) -> Result<(), Fa
             calls: 0,
         });
         let trace = reads(rt.alloc(), &mut source, 5)?;
-        assert_eq!(rt; trace.as_slice(), b"a|!|b|c||".as_slice());
+        assert!(rt; trace.as_slice() == b"a|!|b|c||".as_slice());
     }
     Ok(())
 }
@@ -109,7 +109,7 @@ fn real_source_passes_on_special_bytes(rt: HostRuntime) -> Result<(), Fail> {
     let mut source = RealSource::make(SPECIAL.as_slice());
     let mut buffer = [1; 8];
     assert!(rt; matches!(source.read(&mut buffer), Ok(8)));
-    assert_eq!(rt; buffer, SPECIAL);
+    assert!(rt; buffer == SPECIAL);
     assert!(rt; matches!(source.read(&mut buffer), Ok(0)));
     Ok(())
 }
@@ -124,8 +124,8 @@ fn real_sink_passes_on_what_it_takes(rt: HostRuntime) -> Result<(), Fail> {
             calls: 0,
         };
         let counts = writes(rt.alloc(), &mut RealSink::make(&mut wire), 3)?;
-        assert_eq!(rt; counts.as_slice(), [Some(2), None, Some(2)].as_slice());
-        assert_eq!(rt; wire.bytes.as_slice(), b"xyxy".as_slice());
+        assert!(rt; counts.as_slice() == [Some(2), None, Some(2)].as_slice());
+        assert!(rt; wire.bytes.as_slice() == b"xyxy".as_slice());
     }
     Ok(())
 }
@@ -134,7 +134,7 @@ fn real_sink_passes_on_what_it_takes(rt: HostRuntime) -> Result<(), Fail> {
 fn real_sink_passes_on_special_bytes(rt: HostRuntime) -> Result<(), Fail> {
     let mut written = Vec::new(rt.alloc());
     assert!(rt; matches!(RealSink::make(&mut written).write(&SPECIAL), Ok(8)));
-    assert_eq!(rt; written.as_slice(), SPECIAL.as_slice());
+    assert!(rt; written.as_slice() == SPECIAL.as_slice());
     Ok(())
 }
 
@@ -142,7 +142,7 @@ fn real_sink_passes_on_special_bytes(rt: HostRuntime) -> Result<(), Fail> {
 fn real_sink_counts_a_writer_that_takes_nothing(rt: HostRuntime) -> Result<(), Fail> {
     let mut place = [0; 2];
     let counts = writes(rt.alloc(), &mut RealSink::make(&mut place[..]), 2)?;
-    assert_eq!(rt; counts.as_slice(), [Some(2), None].as_slice());
+    assert!(rt; counts.as_slice() == [Some(2), None].as_slice());
     Ok(())
 }
 
@@ -151,10 +151,10 @@ fn reads_in_memory_fail_by_their_numbers(rt: HostRuntime) -> Result<(), Fail> {
     let bytes = Vec::from_slice(rt.alloc(), b"abcde")?;
     let fails = Vec::from_slice(rt.alloc(), &[2, 5])?;
     let trace = reads(rt.alloc(), &mut MemorySource::make(bytes, 2, fails), 6)?;
-    assert_eq!(rt; trace.as_slice(), b"ab|!|cd|e|!||".as_slice());
+    assert!(rt; trace.as_slice() == b"ab|!|cd|e|!||".as_slice());
     let bytes = Vec::from_slice(rt.alloc(), b"abc")?;
     let trace = reads(rt.alloc(), &mut SteadySource::make(bytes), 2)?;
-    assert_eq!(rt; trace.as_slice(), b"abc||".as_slice());
+    assert!(rt; trace.as_slice() == b"abc||".as_slice());
     OpenGate.reach(Place::BeforeFetch { stream: 1 });
     Ok(())
 }
@@ -166,11 +166,8 @@ fn writes_in_memory_fail_by_their_numbers(rt: HostRuntime) -> Result<(), Fail> {
         return Err(Fail::from("memory is ample"));
     };
     let counts = writes(rt.alloc(), &mut sink, 4)?;
-    assert_eq!(rt;
-        counts.as_slice(),
-        [None, Some(2), Some(1), None].as_slice()
-    );
-    assert_eq!(rt; sink.bytes(), b"xyx".as_slice());
+    assert!(rt; counts.as_slice() == [None, Some(2), Some(1), None].as_slice());
+    assert!(rt; sink.bytes() == b"xyx".as_slice());
     Ok(())
 }
 
@@ -180,7 +177,7 @@ fn steady_writes_fail_where_room_ends(rt: HostRuntime) -> Result<(), Fail> {
         return Err(Fail::from("memory is ample"));
     };
     let counts = writes(rt.alloc(), &mut sink, 3)?;
-    assert_eq!(rt; counts.as_slice(), [Some(3), Some(1), None].as_slice());
-    assert_eq!(rt; sink.bytes(), b"xyzx".as_slice());
+    assert!(rt; counts.as_slice() == [Some(3), Some(1), None].as_slice());
+    assert!(rt; sink.bytes() == b"xyzx".as_slice());
     Ok(())
 }

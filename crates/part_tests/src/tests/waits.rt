@@ -59,18 +59,21 @@ fn play(rt: &impl Abort, core: &mut SyncCore, step: Step)
     }
 }
 
-fn is_ending(ending: &Ending, wanted: &Ending) -> bool {
+/// The stream, order number, target and release of a wait that ends, and how it ends.
+type Wanted = (u32, u32, u32, u64, How);
+
+fn is_ending(ending: &Ending, wanted: &Wanted) -> bool {
     let is_how = match ending.how {
-        How::Release => matches!(wanted.how, How::Release),
-        How::Guard => matches!(wanted.how, How::Guard),
-        How::Closed => matches!(wanted.how, How::Closed),
+        How::Release => matches!(wanted.4, How::Release),
+        How::Guard => matches!(wanted.4, How::Guard),
+        How::Closed => matches!(wanted.4, How::Closed),
     };
     is_how
-        && (ending.stream, ending.order) == (wanted.stream, wanted.order)
-        && (ending.target, ending.release) == (wanted.target, wanted.release)
+        && (ending.stream, ending.order) == (wanted.0, wanted.1)
+        && (ending.target, ending.release) == (wanted.2, wanted.3)
 }
 
-fn are_endings(endings: &[Ending], wanted: &[Ending]) -> bool {
+fn are_endings(endings: &[Ending], wanted: &[Wanted]) -> bool {
     let mut same = endings.len() == wanted.len();
     for (ending, wanted) in endings.iter().zip(wanted) {
         same = same && is_ending(ending, wanted);
@@ -78,117 +81,130 @@ fn are_endings(endings: &[Ending], wanted: &[Ending]) -> bool {
     same
 }
 
-/// Plays the steps on a new core of three streams, and compares its endings.
-fn check(rt: &impl Abort, alloc: Global, steps: &[Step], wanted: &[Ending]) -> Result<(), Memory>
-    requires { length steps.now < 100 }
-{
+/// Plays the steps on a new core of three streams, and says whether its endings are those wanted.
+fn ends_so(
+    rt: &impl Abort,
+    alloc: Global,
+    steps: &[Step],
+    wanted: &[Wanted],
+) -> Result<bool, Memory> {
+    assert!(rt; steps.len() < 100);
     let mut core = SyncCore::make(alloc, 3)?;
     for step in steps {
         play(rt, &mut core, *step);
     }
-    assert!(rt; are_endings(core.endings(), wanted));
-    Ok(())
+    Ok(are_endings(core.endings(), wanted))
 }
 
-fn ending(stream: u32, order: u32, target: u32, release: u64, how: How) -> Ending {
-    Ending {
-        stream,
-        order,
-        target,
-        release,
-        how,
-    }
-}
+// Steps, and the endings that they give.
+const CASES: [(&[Step], &[Wanted]); 7] = [
+    // A guard ends without a release: the later wait on release 4 is kept, and ends by release.
+    (
+        &[
+            Step::Order(1, &[]),
+            Step::Order(2, &[(1, 5)]),
+            Step::Order(3, &[]),
+            Step::Release(1, 3),
+            Step::Finish(1),
+            Step::Finish(2),
+            Step::Finish(3),
+            Step::Order(1, &[]),
+            Step::Order(3, &[(1, 4)]),
+            Step::Release(1, 4),
+            Step::Finish(1),
+            Step::Finish(3),
+        ],
+        &[(2, 2, 1, 5, How::Guard), (3, 5, 1, 4, How::Release)],
+    ),
+    // On oneself, on an unknown stream, on a release already reached, on higher numbers alone.
+    (
+        &[
+            Step::Order(1, &[(1, 1), (9, 1), (0, 1)]),
+            Step::Order(2, &[(1, 0)]),
+            Step::Wait(1, 2, 1, Judged::Dropped),
+            Step::Finish(1),
+            Step::Finish(2),
+        ],
+        &[],
+    ),
+    // Waits of two streams on each other.
+    (
+        &[
+            Step::Order(1, &[]),
+            Step::Order(2, &[]),
+            Step::Wait(2, 1, 1, Judged::Kept),
+            Step::Wait(1, 2, 1, Judged::Dropped),
+            Step::Release(1, 1),
+            Step::Finish(1),
+            Step::Release(2, 1),
+            Step::Finish(2),
+        ],
+        &[(2, 2, 1, 1, How::Release)],
+    ),
+    // A close ends a wait of a fence.
+    (
+        &[
+            Step::Order(1, &[]),
+            Step::Order(2, &[]),
+            Step::Release(1, 3),
+            Step::Finish(1),
+            Step::Finish(2),
+            Step::Order(1, &[]),
+            Step::Order(2, &[(1, 9)]),
+            Step::Close(1),
+            Step::Finish(2),
+        ],
+        &[(2, 4, 1, 9, How::Closed)],
+    ),
+    // A close ends a wait of a command.
+    (
+        &[
+            Step::Order(1, &[]),
+            Step::Order(2, &[]),
+            Step::Wait(2, 1, 5, Judged::Kept),
+            Step::Close(1),
+            Step::Finish(2),
+        ],
+        &[(2, 2, 1, 5, How::Closed)],
+    ),
+    // A loss ends all waits on the stream by their guards, by number and then by position.
+    (
+        &[
+            Step::Order(1, &[]),
+            Step::Order(2, &[(1, 9), (2, 9), (1, 8)]),
+            Step::Order(3, &[(1, 7)]),
+            Step::Wait(2, 1, 5, Judged::Kept),
+            Step::Lose(1),
+            Step::Finish(2),
+            Step::Finish(3),
+        ],
+        &[
+            (2, 2, 1, 9, How::Guard),
+            (2, 2, 1, 8, How::Guard),
+            (2, 2, 1, 5, How::Guard),
+            (3, 3, 1, 7, How::Guard),
+        ],
+    ),
+    // A lost or closed stream's own waits go silently.
+    (
+        &[
+            Step::Order(1, &[]),
+            Step::Order(2, &[(1, 5)]),
+            Step::Order(3, &[(1, 5)]),
+            Step::Lose(2),
+            Step::Close(3),
+            Step::Release(1, 5),
+            Step::Finish(1),
+        ],
+        &[],
+    ),
+];
 
 #[test]
 fn waits_are_kept_and_end_as_worked_by_hand(rt: HostRuntime) -> Result<(), Fail> {
-    // A guard ends without a release: the later wait on release 4 is kept, and ends by release.
-    let guard_and_release = [
-        Step::Order(1, &[]),
-        Step::Order(2, &[(1, 5)]),
-        Step::Order(3, &[]),
-        Step::Release(1, 3),
-        Step::Finish(1),
-        Step::Finish(2),
-        Step::Finish(3),
-        Step::Order(1, &[]),
-        Step::Order(3, &[(1, 4)]),
-        Step::Release(1, 4),
-        Step::Finish(1),
-        Step::Finish(3),
-    ];
-    let ends = [
-        ending(2, 2, 1, 5, How::Guard),
-        ending(3, 5, 1, 4, How::Release),
-    ];
-    assert!(rt; check(&rt, rt.alloc(), &guard_and_release, &ends).is_ok());
-
-    // On oneself, on an unknown stream, on a release already reached, on higher numbers alone.
-    let dropped_waits = [
-        Step::Order(1, &[(1, 1), (9, 1), (0, 1)]),
-        Step::Order(2, &[(1, 0)]),
-        Step::Wait(1, 2, 1, Judged::Dropped),
-        Step::Finish(1),
-        Step::Finish(2),
-    ];
-    assert!(rt; check(&rt, rt.alloc(), &dropped_waits, &[]).is_ok());
-
-    let crossed_waits = [
-        Step::Order(1, &[]),
-        Step::Order(2, &[]),
-        Step::Wait(2, 1, 1, Judged::Kept),
-        Step::Wait(1, 2, 1, Judged::Dropped),
-        Step::Release(1, 1),
-        Step::Finish(1),
-        Step::Release(2, 1),
-        Step::Finish(2),
-    ];
-    let ends = [ending(2, 2, 1, 1, How::Release)];
-    assert!(rt; check(&rt, rt.alloc(), &crossed_waits, &ends).is_ok());
-
-    let close = [
-        Step::Order(1, &[]),
-        Step::Order(2, &[]),
-        Step::Release(1, 3),
-        Step::Finish(1),
-        Step::Finish(2),
-        Step::Order(1, &[]),
-        Step::Order(2, &[(1, 9)]),
-        Step::Close(1),
-        Step::Finish(2),
-    ];
-    let ends = [ending(2, 4, 1, 9, How::Closed)];
-    assert!(rt; check(&rt, rt.alloc(), &close, &ends).is_ok());
-
-    // A loss ends all waits on the stream by their guards, by number and then by position.
-    let lost_target = [
-        Step::Order(1, &[]),
-        Step::Order(2, &[(1, 9), (2, 9), (1, 8)]),
-        Step::Order(3, &[(1, 7)]),
-        Step::Wait(2, 1, 5, Judged::Kept),
-        Step::Lose(1),
-        Step::Finish(2),
-        Step::Finish(3),
-    ];
-    let ends = [
-        ending(2, 2, 1, 9, How::Guard),
-        ending(2, 2, 1, 8, How::Guard),
-        ending(2, 2, 1, 5, How::Guard),
-        ending(3, 3, 1, 7, How::Guard),
-    ];
-    assert!(rt; check(&rt, rt.alloc(), &lost_target, &ends).is_ok());
-
-    // A lost or closed stream's own waits go silently.
-    let lost_waiter = [
-        Step::Order(1, &[]),
-        Step::Order(2, &[(1, 5)]),
-        Step::Order(3, &[(1, 5)]),
-        Step::Lose(2),
-        Step::Close(3),
-        Step::Release(1, 5),
-        Step::Finish(1),
-    ];
-    assert!(rt; check(&rt, rt.alloc(), &lost_waiter, &[]).is_ok());
+    for (i, (steps, wanted)) in CASES.iter().enumerate() {
+        assert!(rt; ends_so(&rt, rt.alloc(), steps, wanted)?, "case {i}");
+    }
     Ok(())
 }
 
@@ -197,27 +213,13 @@ fn a_lost_stream_draws_no_number(rt: HostRuntime) -> Result<(), Fail> {
     let core = SyncCore::make(rt.alloc(), 2);
     assert!(rt; core.is_ok());
     if let Ok(mut core) = core {
-        assert_eq!(rt; core.front(1), None);
+        assert!(rt; core.front(1) == None);
         assert!(rt; !core.blocked(1));
         assert!(rt; matches!(core.order(1, &[]), Ok(1)));
-        assert_eq!(rt; core.front(1), Some(1));
+        assert!(rt; core.front(1) == Some(1));
         core.lose(1);
-        assert_eq!(rt; core.front(1), None);
+        assert!(rt; core.front(1) == None);
         assert!(rt; matches!(core.order(1, &[]), Err(OrderFault::Lost)));
     }
-    Ok(())
-}
-
-#[test]
-fn a_wait_of_a_command_ends_by_close(rt: HostRuntime) -> Result<(), Fail> {
-    let steps = [
-        Step::Order(1, &[]),
-        Step::Order(2, &[]),
-        Step::Wait(2, 1, 5, Judged::Kept),
-        Step::Close(1),
-        Step::Finish(2),
-    ];
-    let ends = [ending(2, 2, 1, 5, How::Closed)];
-    assert!(rt; check(&rt, rt.alloc(), &steps, &ends).is_ok());
     Ok(())
 }

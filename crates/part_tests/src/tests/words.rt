@@ -74,40 +74,72 @@ fn flush(client: &mut ClientPass, words: &SharedWords) -> Option<Note>
     }
 }
 
+// Plays the client of two uploads and its service. Whether each flush came.
+fn upload_twice(
+    rt: &impl Abort,
+    words: &SharedWords,
+    client: &mut ClientPass,
+    service: &mut ServicePass,
+) -> bool
+    requires client { words.now ≡ client.old.table }
+    requires service { service.old ≡ service_at words.now service.old.plan }
+    requires place { 32 < places_of service.old.plan.areas }
+{
+    assert!(rt; all_are(client, words, 14, Acted::Stored));
+    let Some(note) = flush(client, words) else {
+        return false;
+    };
+    assert!(rt; client.act(words) == Acted::NotYet);
+    service.meet(words, note);
+    assert!(rt; service.fetch(words, 32) == 0x4433_2211);
+    service.publish_finish(words);
+    assert!(rt; client.act(words) == Acted::Passed);
+    assert!(rt; client.act(words) == Acted::Stored);
+    assert!(rt; service.fetch(words, 32) == 0x8877_6655);
+    assert!(rt; all_are(client, words, 9, Acted::Stored));
+    flush(client, words).is_some() && client.act(words) == Acted::End
+}
+
 #[test]
 fn a_write_is_read_back(rt: HostRuntime) -> Result<(), Fail> {
     let (words, mut client, mut service) = made(rt.alloc(), TWO_UPLOADS, 32)?;
-    assert!(rt; all_are(&mut client, &words, 14, Acted::Stored));
-    let note = flush(&mut client, &words).ok_or("a flush")?;
-    assert!(rt; client.act(&words) == Acted::NotYet);
-    service.meet(&words, note);
-    assert_eq!(rt; service.fetch(&words, 32), 0x4433_2211);
-    service.publish_finish(&words);
-    assert!(rt; client.act(&words) == Acted::Passed);
-    assert!(rt; client.act(&words) == Acted::Stored);
-    assert_eq!(rt; service.fetch(&words, 32), 0x8877_6655);
-    assert!(rt; all_are(&mut client, &words, 9, Acted::Stored));
-    assert!(rt; flush(&mut client, &words).is_some());
-    assert!(rt; client.act(&words) == Acted::End);
+    let ended = upload_twice(&rt, &words, &mut client, &mut service);
+    assert!(rt; ended);
     Ok(())
+}
+
+// Plays the client that awaits tokens and its service. Whether the flush came.
+fn await_tokens(
+    rt: &impl Abort,
+    words: &SharedWords,
+    client: &mut ClientPass,
+    service: &mut ServicePass,
+) -> bool
+    requires client { words.now ≡ client.old.table }
+    requires service { service.old ≡ service_at words.now service.old.plan }
+{
+    let blank = client.blank(words);
+    let Some(note) = flush(client, words) else {
+        return false;
+    };
+    assert!(rt; client.act(words) == Acted::Passed);
+    assert!(rt; client.act(words) == Acted::NotYet);
+    service.publish_token(words, 3);
+    service.publish_token(words, 1);
+    assert!(rt; all_are(client, words, 2, Acted::Passed));
+    assert!(rt; all_are(client, words, 2, Acted::NotYet));
+    service.meet(words, note);
+    service.meet(words, blank);
+    service.publish_finish(words);
+    assert!(rt; client.act(words) == Acted::Passed);
+    all_are(client, words, 2, Acted::AtClose)
 }
 
 #[test]
 fn a_token_that_was_told_does_not_fall(rt: HostRuntime) -> Result<(), Fail> {
     let (words, mut client, mut service) = made(rt.alloc(), TOKENS, 0)?;
-    let blank = client.blank(&words);
-    let note = flush(&mut client, &words).ok_or("a flush")?;
-    assert!(rt; client.act(&words) == Acted::Passed);
-    assert!(rt; client.act(&words) == Acted::NotYet);
-    service.publish_token(&words, 3);
-    service.publish_token(&words, 1);
-    assert!(rt; all_are(&mut client, &words, 2, Acted::Passed));
-    assert!(rt; all_are(&mut client, &words, 2, Acted::NotYet));
-    service.meet(&words, note);
-    service.meet(&words, blank);
-    service.publish_finish(&words);
-    assert!(rt; client.act(&words) == Acted::Passed);
-    assert!(rt; all_are(&mut client, &words, 2, Acted::AtClose));
+    let ended = await_tokens(&rt, &words, &mut client, &mut service);
+    assert!(rt; ended);
     Ok(())
 }
 

@@ -9,6 +9,7 @@ use flush_queue::{FlushQueue, Poster, Taker, make};
 use gpu_plan::parse;
 use shm_words::{Acted, ClientPass, Note, ServicePass, SharedWords};
 use std::alloc::Global;
+use std::process::Abort;
 use std::sync::Wait;
 use std::test::Fail;
 use std::thread;
@@ -126,23 +127,46 @@ fn take_each<R: Wait>(rt: &R, queue: &FlushQueue, taker: &mut Taker, count: u32)
     true
 }
 
+// Fills a queue, and takes all notes out of it. Whether all flushes came:
+// - it is empty at first, and gives the seventeenth note back
+// - once a note was taken it takes that note, and then sixteen notes are there
+fn fill<R: Wait + Abort>(
+    rt: &R,
+    words: &SharedWords,
+    queue: &FlushQueue,
+    client: &mut ClientPass,
+    poster: &mut Poster,
+    taker: &mut Taker,
+) -> bool
+    requires words { words.now ≡ client.old.table }
+    requires queue { queue.now ≡ poster.old.queue }
+    requires taker { queue.now ≡ taker.old.queue }
+    requires all { HasPostedAll client.old poster.old }
+    requires fresh { poster.old.count ≡ 0 }
+{
+    assert!(rt; !take_each(rt, queue, taker, 1));
+    if !post_each(rt, words, queue, client, poster, ROOM) {
+        return false;
+    }
+    let Some(note) = next_note(words, client, poster) else {
+        return false;
+    };
+    let Err(full) = queue.post(rt, poster, note) else {
+        return false;
+    };
+    assert!(rt; take_each(rt, queue, taker, 1));
+    assert!(rt; queue.post(rt, poster, full.note).is_ok());
+    assert!(rt; take_each(rt, queue, taker, ROOM));
+    !take_each(rt, queue, taker, 1)
+}
+
 #[test]
 fn a_full_queue_gives_the_note_back(rt: HostRuntime) -> Result<(), Fail> {
     let (words, client, _) = made(rt.alloc(), ROOM + 4)?;
     let made = make(&rt, rt.alloc(), client).ok();
     let (queue, mut poster, mut taker, mut client) = made.ok_or("memory is ample")?;
-    assert!(rt; !take_each(&rt, &queue, &mut taker, 1));
-    if !post_each(&rt, &words, &queue, &mut client, &mut poster, ROOM) {
-        return Err("sixteen flushes".into());
-    }
-    let note = next_note(&words, &mut client, &poster).ok_or("a flush")?;
-    let Err(full) = queue.post(&rt, &mut poster, note) else {
-        return Err("a full queue".into());
-    };
-    assert!(rt; take_each(&rt, &queue, &mut taker, 1));
-    assert!(rt; queue.post(&rt, &mut poster, full.note).is_ok());
-    assert!(rt; take_each(&rt, &queue, &mut taker, ROOM));
-    assert!(rt; !take_each(&rt, &queue, &mut taker, 1));
+    let filled = fill(&rt, &words, &queue, &mut client, &mut poster, &mut taker);
+    assert!(rt; filled);
     Ok(())
 }
 
@@ -286,8 +310,8 @@ fn each_flush_comes_to_the_other_thread(rt: HostRuntime) -> Result<(), Fail> {
         (client, poster),
         (service, taker),
     );
-    assert_eq!(rt; posted, FLUSHES);
-    assert_eq!(rt; taken, FLUSHES);
+    assert!(rt; posted == FLUSHES);
+    assert!(rt; taken == FLUSHES);
     assert!(rt; queue.take_next(&rt, &mut taker).is_none());
     Ok(())
 }
