@@ -22,12 +22,6 @@ DEFAULT = re.compile(r"\s*=\s*\{")
 LAST = re.compile(r"[\w']+$")
 PART = r"(?<![\w'])%s(?![\w'])"
 TRAITS = ("Abort", "ByteOrder", "Gate")
-# Names without a use, in files whose change proves all crates above again: they go with the next
-# change of these crates.
-LEFT = {
-    "crates/gpu_plan/src/script.rt": ["◌≤◌"],
-    "crates/verify_input/proofs/Yeses.antt": ["journal_text", "whole_lines"],
-}
 
 
 def ghost_part(text: str) -> str:
@@ -89,6 +83,6 @@ def check(top: Path, _program: Path, tally: Tally) -> None:
         ):
             if fault is None and path.suffix in USE:
                 place = str(path.relative_to(top))
-                found = [name for name in unused(path) if name not in LEFT.get(place, [])]
+                found = unused(path)
                 fault = f"{place} does not use {found[0]}" if found else None
         tally.tell(f"use lines of {crate.name}", fault)

@@ -1,4 +1,4 @@
-ghost use Rattle.std.specs.Prelude.{◌≡◌, ◌+◌, ◌<◌, ◌≤◌, ◌^◌, length, map, IfSome, OnOk};
+ghost use Rattle.std.specs.Prelude.{◌≡◌, ◌+◌, ◌<◌, ◌^◌, length, map, IfSome, OnOk};
 ghost use Rattle.script_lines.specs.Text.{lines_of, words_of};
 ghost use Rattle.script_lines.specs.Outcome.{GivesScript};
 ghost use Rattle.script_lines.specs.Naming.{fence_names};

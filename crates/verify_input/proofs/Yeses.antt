@@ -1,5 +1,5 @@
 -- An input whose whole output is right has a right journal.
-use Rattle.verify_input.proofs.Names.{◌≡◌, ℕ, Bool, true, false, cond, List, [], ◌∷◌, ◌++◌, map, refl, ap, ◌∙◌, ◌==◌, All, concat, All-nil, All-cons, All-head, All-tail, Pictures, PlansData, plan_of, streams_of, script_of, journal_text, journal_head, name_text, whole_lines, before, journal_from, journal_part, script_part, head_of, IsRight, IsRightWhole, Journal}
+use Rattle.verify_input.proofs.Names.{◌≡◌, ℕ, Bool, true, false, cond, List, [], ◌∷◌, ◌++◌, map, refl, ap, ◌∙◌, ◌==◌, All, concat, All-nil, All-cons, All-head, All-tail, Pictures, PlansData, plan_of, streams_of, script_of, journal_head, name_text, before, journal_from, journal_part, script_part, head_of, IsRight, IsRightWhole, Journal}
 use Rattle.verify_input.proofs.Labels.{Goes, head_goes, name_goes, all_lines}
 
 heads_go : (p : PlansData) → All Goes (head_of p)

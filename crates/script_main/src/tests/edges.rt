@@ -6,7 +6,7 @@ ghost use Rattle.script_answers.specs.Says.{reads, Says};
 ghost use Rattle.script_answers.specs.Statuses.{speaks};
 ghost use Rattle.script_answers.specs.Tells.{held};
 
-use super::plain::given;
+use super::calls::given;
 use crate::run_on;
 use gpu_io::{RealSink, RealSource};
 use script_answers::Status;

@@ -79,15 +79,7 @@ fn two_workers_are_at_work_at_once(rt: HostRuntime) -> Result<(), Fail> {
     let mut source = source_of(rt.alloc(), ONE_EACH, &steady())?;
     let mut sink = sink_of(rt.alloc(), &steady())?;
     let hook = Marker::make(1000);
-    let status = top(
-        &rt,
-        rt.alloc(),
-        &words,
-        &mut source,
-        &mut sink,
-        &both,
-        hook,
-    );
+    let status = top(&rt, rt.alloc(), &words, &mut source, &mut sink, &both, hook);
     assert!(rt; matches!(status, Status::Ok));
     assert_eq!(rt; both.late.load(Ordering::SeqCst), 0);
     Ok(())

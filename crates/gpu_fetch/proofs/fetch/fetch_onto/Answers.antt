@@ -191,6 +191,11 @@ slice_bounds-decode-count g c =
     let r = (goal.at.slice_bounds-decode-count g c).In_ok-fetch_row in
     longer_than (were g r) (own g r) c.deref.result.now c.len-from.result (c.len-from.ensures ∙ c.args.list.now.ok.0) (c.deref.ensures.value ∙ behind g r)
 
+pub slice_bounds-decode-start : goal.slice_bounds-decode-start
+slice_bounds-decode-start g c =
+    let r = (goal.at.slice_bounds-decode-start g c).In_ok-fetch_row in
+    longer_than (were g r) (own g r) c.deref.result.now c.len-from.result (c.len-from.ensures ∙ c.args.list.now.ok.0) (c.deref.ensures.value ∙ behind g r)
+
 pub decode-requires : goal.decode-requires
 decode-requires g c =
     let path = goal.at.decode-requires g c in

@@ -1,5 +1,5 @@
 use Rattle.std.proofs.Common.{◌≡◌, ℕ, ◌+◌, ◌-◌, [], inl, inr, refl, ap, ◌∙◌, subst, arith}
-use Rattle.std.proofs.lemmas.Result.{MatchResult-from_err}
+use Rattle.std.proofs.lemmas.Result.{IfOk-from_err, MatchResult-from_err}
 use Rattle.gpu_cmd.specs.Lawful.{places_of}
 use Rattle.gpu_fetch.specs.Side.{SideData}
 use Rattle.gpu_fetch.specs.Fetched.{FetchesRow}
@@ -65,3 +65,30 @@ pub returns-clause-row : goal.returns-clause-row
 returns-clause-row g c =
     let all : c.loop-place.place - c.args.from ≡ c.args.count = omega arith in
     subst (λ (n : ℕ). FetchesRow (g.P.ServiceSide.shows c.args.words.now) (g.P.ServiceSide.side c.args.side.now) (g.P.ServiceSide.side c.loop-place.side) c.args.from n c.args.list.now.items c.loop-place.list.items) all c.loop-place.invariant.row
+
+pub returns-in_err-reserve-clause-row : goal.returns-in_err-reserve-clause-row
+returns-in_err-reserve-clause-row g c = IfOk-from_err c.from_residual.result _ c.from_residual.ensures.0
+
+pub returns-in_err-reserve-clause-still : goal.returns-in_err-reserve-clause-still
+returns-in_err-reserve-clause-still g c = record { beside = c.requires.belongs; notes = λ n h. h }
+
+pub returns-in_err-reserve-clause-table : goal.returns-in_err-reserve-clause-table
+returns-in_err-reserve-clause-table g c = refl
+
+pub fetch-requires-clause-belongs : goal.fetch-requires-clause-belongs
+fetch-requires-clause-belongs g c = c.loop-place.invariant.still.beside
+
+pub returns-in_err-value-clause-row : goal.returns-in_err-value-clause-row
+returns-in_err-value-clause-row g c = IfOk-from_err c.from_residual-in_err-value.result _ c.from_residual-in_err-value.ensures.0
+
+pub returns-in_err-value-clause-still : goal.returns-in_err-value-clause-still
+returns-in_err-value-clause-still g c = record { beside = c.in_err-value.ensures.belongs; notes = λ n h. c.in_err-value.ensures.notes n (c.loop-place.invariant.still.notes n h) }
+
+pub returns-in_err-value-clause-table : goal.returns-in_err-value-clause-table
+returns-in_err-value-clause-table g c = c.in_err-value.ensures.table ∙ c.loop-place.invariant.table
+
+pub returns-clause-still : goal.returns-clause-still
+returns-clause-still g c = c.loop-place.invariant.still
+
+pub returns-clause-table : goal.returns-clause-table
+returns-clause-table g c = c.loop-place.invariant.table
