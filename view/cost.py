@@ -2,13 +2,14 @@
 
 Each client goes as far as its awaits let it, and then its flushes are run, as in a real run. Only
 the order among streams is not followed, so a wait only counts, and an image may be there too early.
-The costs were measured on one machine. How fast this one is, a short run of the program says.
+The costs were measured on one machine. How fast this one is, two short runs of the program say: one
+of plain work, and one that moves texels.
 """
 
 import resource
 import subprocess
-
 from collections import Counter, deque
+from collections.abc import Sequence
 from dataclasses import dataclass, field
 from pathlib import Path
 
@@ -29,8 +30,26 @@ COSTS = {
     "texels": (22, 0), "drawn": (0, 4), "cleared": (0.6, 0), "copied": (1.3, 0), "moved": (2.2, 0),
     "zeroed": (0.042, 0),
 }
+OF_TEXELS = ("cleared", "copied", "moved")  # what writes much memory
 FAR, FAR_TEXELS = 3, 2**20  # how many times slower texels are that no cache holds
 TRIAL, TRIAL_SECONDS, TRIALS = ("trial", "2000", "1"), 0.032, 3
+# The commands of a script that moves texels and writes none, each with how often it stands.
+SIDE, SLICE = 1024, 64
+MOVING: tuple[tuple[int, str, list[int]], ...] = (
+    (1, "CreateImage", [1, SIDE, SIDE]), (1, "CreateImage", [2, SIDE, SIDE]),
+    (1, "SetBucketSize", [1, 4 * SIDE * SLICE]),
+    (64, "UploadBucket", [1, 0, 0, SIDE, SLICE, 1, 1]),
+    (16, "CopyRect", [1, 0, 0, 2, 0, 0, SIDE, SIDE]),
+    (1, "DeleteImage", [1]), (1, "DeleteImage", [2]),
+)
+
+
+@dataclass(frozen=True)
+class Slowness:
+    """How many times slower a machine is than the one of the costs."""
+
+    plain: float
+    texels: float
 
 
 class Lost(Exception):
@@ -250,8 +269,8 @@ class Cost:
                 f"memory, {seconds} seconds")
 
 
-def cost_of(script: Script, size: int, slowness: float) -> Cost:
-    """The cost of a script of some bytes, on a machine that is so much slower than the measured."""
+def cost_of(script: Script, size: int, slowness: Slowness) -> Cost:
+    """The cost of a script of some bytes, on a machine that is so slow."""
     sketch = sketch_of(script)
     counts = {
         "start": 1, "read": size, "actions": sum(plan.size for plan in script.plans),
@@ -260,17 +279,38 @@ def cost_of(script: Script, size: int, slowness: float) -> Cost:
         "drawn": sketch.drawn, "cleared": sketch.set_by("ClearRect"),
         "copied": sketch.set_by("CopyRect"), "moved": sketch.moved, "zeroed": sketch.zeroed,
     }
-    time = sum(counts[name] * nanoseconds for name, (nanoseconds, _) in COSTS.items())
+    time = sum(counts[name] * nanoseconds * (
+        slowness.texels if name in OF_TEXELS else slowness.plain
+    ) for name, (nanoseconds, _) in COSTS.items())
     memory = sum(counts[name] * taken for name, (_, taken) in COSTS.items())
-    return Cost(sketch.events, memory / 2**20, time / 10**9 * slowness)
+    return Cost(sketch.events, memory / 2**20, time / 10**9)
 
 
-def slowness_here(program: Path) -> float:
-    """How many times slower this machine is than the one of the costs, by a short run."""
+def slowness_here(program: Path) -> Slowness:
+    """How slow this machine is, by short runs."""
+    plain = seconds_of(program, TRIAL, "") / TRIAL_SECONDS
+    text = moving_text()
+    script = Script(text.split("\n"))
+    rest, whole = (cost_of(script, len(text), Slowness(plain, texels)).seconds for texels in (0, 1))
+    took = seconds_of(program, ("run",), text)
+    return Slowness(plain, max(took - rest, took / 2) / (whole - rest))
+
+
+def moving_text() -> str:
+    """The script of the commands of MOVING."""
+    words = [word for count, name, arguments in MOVING
+             for word in (NAMED[name].header(NAMED[name].size), *arguments) * count]
+    put = " ".join(f"{word:x}" for word in words)
+    return f"gpu-script 1\nstream 1 normal {len(words) + 1}\nput 0 {put}\nflush {len(words)}\n"
+
+
+def seconds_of(program: Path, words: Sequence[str], text: str) -> float:
+    """The least seconds of a processor of some runs on a text."""
     took = []
     for _ in range(TRIALS):
         before = resource.getrusage(resource.RUSAGE_CHILDREN)
-        subprocess.run([program.resolve(), *TRIAL], capture_output=True, check=False)
+        subprocess.run([program.resolve(), *words], input=text.encode(), capture_output=True,
+                       check=False)
         after = resource.getrusage(resource.RUSAGE_CHILDREN)
         took.append(after.ru_utime + after.ru_stime - before.ru_utime - before.ru_stime)
-    return min(took) / TRIAL_SECONDS
+    return min(took)

@@ -63,7 +63,7 @@ def scripts_of() -> Iterator[tuple[str, str]]:
     yield "flushes that wait for each other", crossing_waits(2)
     yield "clears, copies and uploads", drawing(2, 12)
     yield "put lines", put_lines(200_000)
-    yield "lines of values", value_lines(60)
+    yield "lines of values", value_lines(200)
 
 
 def fault_of(top: Path, program: Path, text: str, folder: Path) -> str | None:

@@ -83,6 +83,6 @@ def check(top: Path, _program: Path, tally: Tally) -> None:
         ):
             if fault is None and path.suffix in USE:
                 place = str(path.relative_to(top))
-                found = unused(path)
-                fault = f"{place} does not use {found[0]}" if found else None
+                name = next(unused(path), None)
+                fault = f"{place} does not use {name}" if name else None
         tally.tell(f"use lines of {crate.name}", fault)
