@@ -17,15 +17,14 @@ from tools.checks.tally import Tally
 MOST = 5_000
 CODE = "crates/*/out/rlib/*.rlib/toolchain/mir.json"  # from the top
 LARGE = {
-    "gpu_threads::parts::Parts::push": 18_800,
-    "gpu_threads::threads::run_named": 6_600,
+    "gpu_threads::parts::Parts::push": 5_400,
     "house_core::core_of::Core::make": 6_300,
     "journal_verify::ruling::follow": 14_720,
     "journal_verify::verifying::verify": 5_200,
     "script_answers::fault::FaultDisplay::fmt": 10_600,
     "script_laws::line::trial_text": 5_200,
     "script_lines::keyword::keyword_of": 5_200,
-    "verify_input::whole::judge_all": 12_600,
+    "verify_input::whole::judge_all": 9_900,
 }
 
 
