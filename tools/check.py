@@ -13,14 +13,16 @@
 Each part is a module of tools/checks/, which says at its head what it checks. The parts run side by
 side, one for each processor, those that take longest first. A line tells what came of a part as it
 ends: how many items passed and failed, the seconds by the clock, and those of a processor, which do
-not count what else this machine does. On a terminal one line tells how far the check is.
+not count what else this machine does. On a terminal one line tells how far the check is. A part
+that fails beside others is tried once more by itself after all others, and only that counts.
 
 Most cases of `run` are run with 1, 2, 4 and 8 workers too, and 200 random ones with 1 and 4, some
 of them with viewers. Such a run may print one of many histories. tools/checks/workers.py checks it
 by `verify`, by tests/model_history.py, and by what is fixed for the case.
 
 A check whose own tool is missing, as Chromium or a C compiler, is skipped with a line that says so.
-The last line is 'N passed, N failed', and the status is 1 where anything failed.
+The last lines name each item that failed once more, and then come 'N passed, N failed'. The status
+is 1 where anything failed.
 """
 
 import argparse

@@ -25,13 +25,13 @@ PLAIN = (NOOP, NAMED["InsertFence"].id, *WAITS)
 
 # The nanoseconds and the bytes of memory of each thing that is counted, and of a run of nothing.
 COSTS = {
-    "start": (1_000_000, 1_400_000), "read": (7, 1), "actions": (20, 8), "events": (180, 20),
+    "start": (1_000_000, 1_400_000), "read": (4.5, 1), "actions": (12, 8), "events": (180, 20),
     "words": (73, 10.4), "fences": (20, 21), "kept": (320, 80), "dumps": (150, 20),
-    "texels": (22, 0), "drawn": (0, 4), "cleared": (0.6, 0), "copied": (1.3, 0), "moved": (2.2, 0),
+    "texels": (27, 0), "drawn": (0, 4), "cleared": (0.7, 0), "copied": (0.9, 0), "moved": (1.6, 0),
     "zeroed": (0.042, 0),
 }
-OF_TEXELS = ("cleared", "copied", "moved")  # what writes much memory
-FAR, FAR_TEXELS = 3, 2**20  # how many times slower texels are that no cache holds
+OF_TEXELS = ("texels", "cleared", "copied", "moved")  # what reads or writes much memory
+FAR, FAR_TEXELS = 4, 2**20  # how many times slower texels are that no cache holds
 TRIAL, TRIAL_SECONDS, TRIALS = ("trial", "2000", "1"), 0.032, 3
 # The commands of a script that moves texels and writes none, each with how often it stands.
 SIDE, SLICE = 1024, 64

@@ -1,17 +1,22 @@
 """tools/check itself: parts side by side, a line for each, one line on a terminal, and the list.
 
-Stubs stand for the parts: two that wait for each other, one with a fault, and one that stops.
+Stubs stand for the parts: two that wait for each other, one with a fault, one that stops, and one
+that fails only the first time. Such stubs stand for trials of the selftest too.
 """
 
+import contextlib
+import io
 import os
 import pty
 import re
 import subprocess
 import sys
 import tempfile
+from collections.abc import Mapping
 from pathlib import Path
 
 from tools import checks
+from tools.checks import whole
 from tools.checks.tally import Tally
 
 MOST = 4 * 60 * 4  # seconds of a processor that all parts may take: four minutes on four
@@ -27,8 +32,13 @@ sys.exit(tally.end())
 STUB = """#!/bin/sh
 echo $1 >> begun
 case $1 in
-bad) echo failed: a thing: it is off; echo 1 passed, 1 failed; exit 1 ;;
+bad) echo failed: a thing: it is off; echo and so on; echo 1 passed, 1 failed; exit 1 ;;
 stops) echo oh no >&2; exit 3 ;;
+shy)
+    if [ "$(grep -c shy begun)" = 1 ]; then
+        echo failed: shy: it is busy; echo 1 passed, 1 failed; exit 1
+    fi
+    echo 2 passed, 0 failed ;;
 left | right)
     for tick in $(seq 150); do
         if grep -q left begun && grep -q right begun; then
@@ -41,14 +51,26 @@ left | right)
 *) echo 2 passed, 0 failed ;;
 esac
 """
+PARTS = ("left=9", "right=9", "bad=1", "stops=1", "shy=1")
 SECONDS = r"\d+ s \(\d+ s of a processor\)"
-LINES = (
-    "failed: a thing: it is off", "oh no", "failed: stops: it ended with 3",
-    rf"bad: 1 passed, 1 failed, {SECONDS}", rf"stops: 0 passed, 1 failed, {SECONDS}",
-    rf"left: 2 passed, 0 failed, {SECONDS}", rf"right: 2 passed, 0 failed, {SECONDS}",
-    r"4 parts in \d+ s; most seconds of a processor: (\w+ \d+, ){3}\w+ \d+",
-)
-ON_A_TERMINAL = 1, 2, 0, 7  # the lines that stay there
+BESIDE, AGAIN = "beside others: ", f"{SECONDS}, which is tried again by itself"
+LAST = ["failed: a thing: it is off", "failed: stops: it ended with 3", "7 passed, 2 failed"]
+# How often each line comes. On a terminal those stay that have no seconds of one part.
+LINES = {
+    f"{BESIDE}failed: a thing: it is off": 1, f"{BESIDE}and so on": 1, f"{BESIDE}oh no": 1,
+    f"{BESIDE}failed: stops: it ended with 3": 1, f"{BESIDE}failed: shy: it is busy": 1,
+    "failed: a thing: it is off": 2, "and so on": 1, "oh no": 1,
+    "failed: stops: it ended with 3": 2,
+    r"5 parts in \d+ s; most seconds of a processor: (\w+ \d+, ){4}\w+ \d+": 1,
+    "7 passed, 2 failed": 1,
+}
+SUMS = dict.fromkeys((
+    f"{BESIDE}bad: 1 passed, 1 failed, {AGAIN}", f"{BESIDE}stops: 0 passed, 1 failed, {AGAIN}",
+    f"{BESIDE}shy: 1 passed, 1 failed, {AGAIN}",
+    f"left: 2 passed, 0 failed, {SECONDS}", f"right: 2 passed, 0 failed, {SECONDS}",
+    f"bad: 1 passed, 1 failed, {SECONDS}, by itself",
+    f"stops: 0 passed, 1 failed, {SECONDS}, by itself",
+    f"shy: 2 passed, 0 failed, {SECONDS}, by itself"), 1)
 
 
 def run(top: Path, folder: Path, *words: str) -> "subprocess.CompletedProcess[str]":
@@ -88,34 +110,64 @@ def check(top: Path, program: Path, tally: Tally) -> None:
         begun = (folder / "begun").read_text().split()
         tally.tell("the parts that take longest come first",
                    None if begun == ["long", "middle", "short"] else f"{begun}, and {ran}")
+    check_trials(tally)
     check_list(top, tally)
     check_some(top, program, tally)
 
 
+def tell_lines(tally: Tally, what: str, lines: list[str], wanted: Mapping[str, int]) -> None:
+    """Reports each line that does not come as often as it should, and lines too many."""
+    for line, often in wanted.items():
+        count = sum(re.fullmatch(line, got) is not None for got in lines)
+        tally.tell(f"{what}, {line}", None if count == often else f"{count} in {lines}")
+    tally.tell(f"{what}, the lines", None if len(lines) == sum(wanted.values()) else str(lines))
+
+
 def check_lines(top: Path, folder: Path, tally: Tally) -> None:
-    """Two parts run at once, each has its line, and a fault or a stop counts as one."""
-    ran = run(top, folder, "2", "left=9", "right=9", "bad=1", "stops=1")
+    """Two parts run at once, each has its line, and a fault or a stop counts as one.
+
+    What fails beside others counts if it fails by itself too, and is named in the last lines.
+    """
+    ran = run(top, folder, "2", *PARTS)
     lines = ran.stdout.splitlines()
-    is_so = (ran.returncode, ran.stderr, lines[-1:]) == (1, "", ["5 passed, 2 failed"])
-    tally.tell("parts side by side, the last line", None if is_so else str(ran))
-    for wanted in LINES:
-        count = sum(re.fullmatch(wanted, line) is not None for line in lines)
-        tally.tell(f"parts side by side, {wanted}", None if count == 1 else f"{count} in {lines}")
-    tally.tell("parts side by side, the lines",
-               None if len(lines) == len(LINES) + 1 else str(lines))
+    is_so = (ran.returncode, ran.stderr, sorted(lines[-3:])) == (1, "", sorted(LAST))
+    tally.tell("parts side by side, the last lines", None if is_so else str(ran))
+    tell_lines(tally, "parts side by side", lines, LINES | SUMS)
 
 
 def check_terminal(top: Path, folder: Path, tally: Tally) -> None:
     """A terminal has one line, written anew; faults and the last lines stay."""
-    told = on_a_terminal(top, folder, "2", "left=9", "right=9", "bad=1", "stops=1")
-    is_so = "\r0 of 4 parts, 0 passed, 0 failed, 0:00; now: left, right" in told
+    told = on_a_terminal(top, folder, "2", *PARTS)
+    is_so = "\r0 of 5 parts, 0 passed, 0 failed, 0:00; now: left, right" in told
     tally.tell("a terminal, far on", None if is_so else repr(told))
     lines = [line.rpartition("\r")[2] for line in told.replace("\r\n", "\n").split("\n")[:-1]]
-    wanted = [LINES[at] for at in ON_A_TERMINAL]
-    fits = [any(re.fullmatch(one, line) for one in (*wanted, "5 passed, 2 failed"))
-            for line in lines]
-    tally.tell("a terminal, the lines that stay",
-               None if len(lines) == len(wanted) + 1 and all(fits) else repr(told))
+    tell_lines(tally, "a terminal", lines, LINES)
+
+
+def trial(what: str, *faults: str | None) -> whole.Trial:
+    """A trial that fails so, or not, each time that it is tried."""
+    left = list(faults)
+    return whole.Trial("", what, lambda _copy, _program: left.pop(0))
+
+
+def check_trials(tally: Tally) -> None:
+    """A trial that fails beside others counts if it fails by itself too."""
+    for lanes, trials, wanted in (
+            (2, [trial("shy", "busy", None), trial("bad", "off", "off\nstill"),
+                 trial("good", None)],
+             ["shy (0 s), which fails beside others: busy",
+              "bad (0 s), which fails beside others: off", "good (0 s)", "shy, by itself (0 s)",
+              "failed: bad: off", "still", "bad, by itself (0 s)", "failed: bad: off",
+              "2 passed, 1 failed"]),
+            (1, [trial("bad", "off")],
+             ["failed: bad: off", "bad (0 s)", "failed: bad: off", "0 passed, 1 failed"])):
+        own, said = Tally(talkative=True), io.StringIO()
+        with contextlib.redirect_stdout(said):
+            whole.try_all(trials, [Path(str(lane)) for lane in range(lanes)], Path(), own)
+            own.tell_again()
+            own.end()
+        got = said.getvalue().splitlines()
+        tally.tell(f"trials on {lanes} copies", None if got == wanted else f"they say {got}")
 
 
 def check_list(top: Path, tally: Tally) -> None:

@@ -5,9 +5,11 @@ that are listed here, as texts and as scripts.
 """
 
 import subprocess
+import tempfile
 from pathlib import Path
 
 from tests import hostile
+from tools.checks.command_lines import Tree
 from tools.checks.tally import Tally
 from zorvleid import Script, assemble, lint, read_output, read_script
 
@@ -83,7 +85,10 @@ def check(top: Path, program: Path, tally: Tally) -> None:
     quota = LOSES + "with it the stream has fetched above 1048576 words"
     tally.tell("the notes on too many words", unlike([quota], whys))
     check_losses(program, tally)
-    check_calls(top, tally)
+    with tempfile.TemporaryDirectory() as folder:
+        tree = Tree(top, Path(folder))
+        tree.build(program)
+        check_calls(tree.top, tally)
 
 
 def unlike(wanted: object, got: object) -> str | None:

@@ -1,6 +1,7 @@
 """How the commands behave at the edges: a reader that leaves, a terminal, a full disk, odd names.
 
-The tools and the program end alike, and say the same in the same words.
+The tools and the program end alike, and say the same in the same words. They stand in a tree with
+the program at hand, so nothing is built.
 """
 
 import os
@@ -11,6 +12,7 @@ import tempfile
 from collections.abc import Sequence
 from pathlib import Path
 
+from tools.checks.command_lines import Tree
 from tools.checks.tally import Tally
 
 SCRIPT, OUTPUT = "examples/names.script", "examples/names.stdout"
@@ -24,15 +26,27 @@ SECONDS = 120
 
 def check(top: Path, program: Path, tally: Tally) -> None:
     """Reports each command that behaves otherwise."""
-    script = subprocess.run([program, "generate", "800", "1"], capture_output=True, check=True)
     with tempfile.TemporaryDirectory() as name:
-        large = Path(name) / "large.script"
-        large.write_bytes(script.stdout)
-        lines: tuple[list[str | Path], ...] = (
-            ["run", large], ["generate", "2000", "1"], ["disassemble", large])
-        for line in lines:
-            tally.tell(f"{line[0]} | head -1", fault_of_unread(top, line))
-        tally.tell("pictures onto a full disk", fault_of_full_disk(top, Path(name)))
+        tree = Tree(top, Path(name))
+        tree.build(program)
+        check_commands(tree.top, program, Path(name), tally)
+    ran = called(top, ["--help"], ".ci/run")
+    is_help = ran.returncode == 0 and b".ci/run --help" in ran.stdout
+    tally.tell(".ci/run --help", None if is_help else str(ran))
+    ran = called(top, ["-x"], ".ci/run")
+    tally.tell(".ci/run -x", None if (ran.returncode, ran.stdout) == (2, b"") else str(ran))
+
+
+def check_commands(top: Path, program: Path, folder: Path, tally: Tally) -> None:
+    """Reports each command of a tree that behaves otherwise."""
+    script = subprocess.run([program, "generate", "800", "1"], capture_output=True, check=True)
+    large = folder / "large.script"
+    large.write_bytes(script.stdout)
+    lines: tuple[list[str | Path], ...] = (
+        ["run", large], ["generate", "2000", "1"], ["disassemble", large])
+    for line in lines:
+        tally.tell(f"{line[0]} | head -1", fault_of_unread(top, line))
+    tally.tell("pictures onto a full disk", fault_of_full_disk(top, folder))
     for words, given in ((["check"], SCRIPT), (["log"], OUTPUT), (["disassemble"], SCRIPT)):
         tally.tell(f"{words[0]} at a terminal", fault_of_terminal(top, words, top / given))
     for words in NAMING:
@@ -40,11 +54,6 @@ def check(top: Path, program: Path, tally: Tally) -> None:
         wanted = (3, b"", f"read fault: {SHOWN}: no such file\n")
         got = (ran.returncode, ran.stdout, ran.stderr.decode())
         tally.tell(f"{words[0]} of an odd name", None if got == wanted else f"it ends with {got}")
-    ran = called(top, ["--help"], ".ci/run")
-    is_help = ran.returncode == 0 and b".ci/run --help" in ran.stdout
-    tally.tell(".ci/run --help", None if is_help else str(ran))
-    ran = called(top, ["-x"], ".ci/run")
-    tally.tell(".ci/run -x", None if (ran.returncode, ran.stdout) == (2, b"") else str(ran))
 
 
 def called(

@@ -17,7 +17,7 @@ from tools.checks.looker import Looker, complaints, write_page
 from tools.checks.pages import journal_of
 from tools.checks.tally import Tally
 
-PHONE, LAPTOP, LARGE = (390, 600), (1280, 900), (1920, 1080)
+PHONE, TALL_PHONE, LAPTOP, LARGE = (390, 600), (390, 800), (1280, 900), (1920, 1080)
 EXAMPLE, LOST = "examples/compositor.stdout", "examples/lost_stream.stdout"
 LONG = "tests/cases/waits/rounds_of_guards.stdout"  # more events than fit into a window
 # A bucket, a token, three images with copies from one to the next, a large image with a rectangle,
@@ -86,6 +86,8 @@ def check_opening(look: Looker, paths: dict[str, Path], texts: dict[str, str]) -
             look.tell(f"the first line of {name}", look.line(), journal_of(texts[name])[-1])
             look.tell(f"the last event of {name} is drawn",
                       look.value("[isDrawn(total - 1), scrollY]"), [True, 0])
+    opened(look, paths[EXAMPLE], TALL_PHONE)
+    look.tell("the last lane at once on a phone", look.value(f"[{IN_SIGHT}, scrollY]"), [True, 0])
 
 
 def check_sight(look: Looker, path: Path) -> None:

@@ -99,6 +99,7 @@ def check(top: Path, program: Path, tally: Tally) -> None:
         check_lines(tree, Path(name), tally)
         check_forbidden(tree.top, Path(name), tally)
         check_parts(Path(name), tally)
+        check_held(tree, Path(name), tally)
         check_interrupts(top, tree, tally)
 
 
@@ -201,6 +202,24 @@ def said_of(made: Sequence[tuple[Path, bytes]]) -> str:
 
 
 # --- Ctrl-C ---
+
+
+def check_held(tree: Tree, folder: Path, tally: Tally) -> None:
+    """Ctrl-C waits while Python starts, by the mask that a script in its place reads."""
+    if subprocess.run(["env", "--block-signal=INT", "true"], check=False).returncode:
+        tally.skip("Ctrl-C while Python starts", "this env holds no signals back")
+        return
+    stub = folder / "stub/python3"
+    stub.parent.mkdir()
+    stub.write_text("#!/bin/sh\nwhile read -r name mask; do\n    "
+                    '[ "$name" != SigBlk: ] || echo "$mask"\ndone </proc/self/status\n')
+    stub.chmod(0o755)
+    ran = subprocess.run([tree.top / "zorvleid", "log"], stdin=subprocess.DEVNULL, text=True,
+                         capture_output=True, check=False,
+                         env={"PATH": f"{stub.parent}:{tree.path}"})
+    last = (ran.stdout.split() or ["0"])[-1]  # the first Python only shows that it starts
+    is_held = ran.returncode == 0 and int(last, 16) >> (signal.SIGINT - 1) & 1
+    tally.tell("Ctrl-C while Python starts", None if is_held else str(ran))
 
 
 def check_interrupts(top: Path, tree: Tree, tally: Tally) -> None:

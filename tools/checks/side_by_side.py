@@ -1,5 +1,8 @@
 """Parts of tools/check side by side, each in a process of its own, and a line as each one ends.
 
+A part that fails beside others is tried once more by itself after all others, and only that counts.
+The last lines name each item that failed once more.
+
 Where standard output and standard error are terminals, one line tells how far the check is. It is
 written anew each time, and only faults and the last lines stay.
 """
@@ -13,6 +16,7 @@ import time
 from collections.abc import Callable, Iterator, Mapping, Sequence
 from contextlib import suppress
 from dataclasses import dataclass
+from itertools import chain
 from typing import IO
 
 from tools.building.telling import Teller, clock
@@ -98,23 +102,31 @@ def each(parts: Sequence[str], command: Command, jobs: int) -> Iterator[Ended | 
 
 def run_all(usual: Mapping[str, int], command: Command, tally: Tally, jobs: int) -> None:
     """Runs parts, those that usually take longest first, and counts what they found."""
-    teller, begun, done = Teller(), time.monotonic(), list[Ended]()
+    teller, begun, done, again = Teller(), time.monotonic(), list[Ended](), list[str]()
     is_line = teller.is_terminal and sys.stdout.isatty()
+    parts = sorted(usual, key=lambda it: -usual[it])
     try:
-        for told in each(sorted(usual, key=lambda it: -usual[it]), command, jobs):
+        # The parts to try again are known once all others have ended.
+        for told in chain(each(parts, command, jobs), each(again, command, 1)):
             if isinstance(told, list):
                 teller.show(f"{len(done)} of {len(usual)} parts, {tally.passed} passed, "
                             f"{tally.failed} failed, {clock(time.monotonic() - begun)}; now: "
                             f"{', '.join(told)}")
                 continue
-            done.append(told)
-            tally.add(told.passed, told.failed)
+            before, after = "", ", by itself" if told.part in again else ""
+            if told.failed and not after and min(jobs, len(parts)) > 1:
+                before, after = "beside others: ", ", which is tried again by itself"
+                again.append(told.part)
+            else:
+                done.append(told)
+                tally.add(told.passed, told.failed, told.lines)
             teller.clear()
-            for line in [*told.lines, *([] if is_line else [str(told)])]:
-                print(line, flush=True)
+            for line in [*told.lines, *([] if is_line else [f"{told}{after}"])]:
+                print(f"{before}{line}", flush=True)
     finally:
         teller.clear()
     tell_slowest(done, time.monotonic() - begun)
+    tally.tell_again()
 
 
 def tell_slowest(done: list[Ended], seconds: float) -> None:

@@ -1,7 +1,10 @@
 """The passed and failed items of a check, printed as they come."""
 
 from collections.abc import Iterable
-from dataclasses import dataclass
+from dataclasses import dataclass, field
+
+FAILED = "failed: "  # how the line of an item that failed begins
+AT_MOST = 300  # characters of such a line that are printed once more
 
 
 @dataclass
@@ -12,6 +15,7 @@ class Tally:
     talkative: bool = False
     passed: int = 0
     failed: int = 0
+    faults: list[str] = field(default_factory=list)
 
     def tell(self, name: str, fault: str | None) -> None:
         """Counts one item, which failed where there is a fault."""
@@ -19,13 +23,26 @@ class Tally:
             self.passed += 1
             return
         self.failed += 1
+        said = f"{FAILED}{name}: {fault}"
+        self.keep([said])
         if not self.quiet:
-            print(f"failed: {name}: {fault}", flush=True)
+            print(said, flush=True)
 
-    def add(self, passed: int, failed: int) -> None:
-        """Counts items that another check has told."""
+    def add(self, passed: int, failed: int, lines: Iterable[str]) -> None:
+        """Counts items that another check has told in these lines."""
         self.passed += passed
         self.failed += failed
+        self.keep(lines)
+
+    def keep(self, lines: Iterable[str]) -> None:
+        """Keeps the begin of each item that failed, for the end of a long check."""
+        self.faults += (line.partition("\n")[0][:AT_MOST] for line in lines
+                        if line.startswith(FAILED))
+
+    def tell_again(self) -> None:
+        """Prints a line for each item that failed, for a reader who has the last lines alone."""
+        for line in self.faults:
+            print(line, flush=True)
 
     def tell_all(self, name: str, faults: Iterable[tuple[str, str | None]]) -> None:
         """Counts a thing that was tried in many ways: one item, or each place with a fault."""

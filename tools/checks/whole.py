@@ -2,7 +2,9 @@
 
 A copy has few of the cases. First each part must find nothing on the copy as it is. Then it must
 find each fault, and is ended at the first item that fails. The trials go side by side, those of the
-parts that take longest first, and each has a line with its seconds.
+parts that take longest first, and each has a line with its seconds. One that fails beside others is
+tried once more by itself after all others, and only that counts. The last lines name each trial
+that failed once more.
 """
 
 import os
@@ -39,6 +41,9 @@ class Trial:
     part: str
     what: str
     act: Callable[[Path, Path], str | None]
+
+    def __str__(self) -> str:
+        return f"{self.part}: {self.what}" if self.part else self.what
 
 
 def is_fresh(top: Path, tally: Tally) -> bool:
@@ -192,12 +197,20 @@ def try_all(
             return time.monotonic() - begun, fault
 
     ordered, took = sorted(trials, key=lambda it: -USUAL.get(it.part, 0)), []
+    again = []
     with ThreadPoolExecutor(len(copies)) as pool:
         for trial, (seconds, fault) in zip(ordered, pool.map(trying, ordered)):
-            name = f"{trial.part}: {trial.what}" if trial.part else trial.what
-            tally.tell(name, fault)
-            tally.note(f"{name} ({seconds:.0f} s)")
-            took.append((seconds, name))
+            took.append((seconds, str(trial)))
+            if fault is not None and len(copies) > 1:
+                again.append(trial)
+                tally.note(f"{trial} ({seconds:.0f} s), which fails beside others: {fault}")
+            else:
+                tally.tell(str(trial), fault)
+                tally.note(f"{trial} ({seconds:.0f} s)")
+    for trial in again:
+        seconds, fault = trying(trial)
+        tally.tell(str(trial), fault)
+        tally.note(f"{trial}, by itself ({seconds:.0f} s)")
     return took
 
 
@@ -221,6 +234,7 @@ def selftest(program: Path | None, only_workers: bool) -> Tally:
             took += try_all(list(planted(skipped, tally)), copies, program, tally)
         tell_slowest(took, tally)
     workers.selftest(TOP, program, tally)
+    tally.tell_again()
     return tally
 
 
