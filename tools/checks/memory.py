@@ -1,11 +1,12 @@
 """Checks that the sources make no refusal of an allocation of their own.
 
 `Memory` of gpu_word has a private field, and is neither `Clone` nor `Copy` nor `Default`. So one
-comes from a refusal of the library alone: by `From`, of an `AllocError` or an `AllocFailed`. Two
-words are left to look at. `AllocError` has no private field, so a source could make one. And
-`of_too_many` asks the library for a list that no machine can hold, for a count that would run over.
-Each function of the sources that uses one of them, but for tests, must be in the table with its
-reason, and each function of the table must use it.
+comes from a refusal of the library alone: by `From`, of an `AllocError` or an `AllocFailed`, and by
+`of_too_many`, which requires a count of 2^32 or more. Two words are left to look at. `AllocError`
+has no private field, so a source could make one. And `usize::MAX` is a count that no list has, with
+which a source could call `of_too_many`, or ask the library for what it must refuse. Each function
+of the sources that uses one of them, but for tests, must be in the table with its reason, and each
+function of the table must use it.
 """
 
 import re
@@ -21,22 +22,15 @@ REASONS = {
         "the kit gives an operation back where the library refused the room for it",
     ("live_view/copies.rt", "end_version", "AllocError"):
         "the kit gives an operation back where the library refused the room for it",
-    ("gpu_journal/journal.rt", "reserve_words", "of_too_many"): "2^32 words of all events",
-    ("house_core/core_of.rt", "take_room", "of_too_many"): "2^64 events",
-    ("journal_verify/entering.rt", "draw", "of_too_many"): "a lost stream, and this one is open",
-    ("journal_text/sheet.rt", "make", "of_too_many"): "2^64 bytes",
-    ("journal_text/text.rt", "journal_text", "of_too_many"): "2^64 bytes",
-    ("live_view/writer.rt", "publish", "of_too_many"): "2^64 versions",
-    ("script_lines/names.rt", "mention", "of_too_many"): "2^32 names",
-    ("seq_sched/scheduler.rt", "make", "of_too_many"): "2^32 streams",
-    ("sync_core/sync.rt", "wait", "of_too_many"): "2^64 waits of one order number",
-    ("wait_hooks/hooks.rt", "reserve", "of_too_many"): "2^64 marks",
+    ("gpu_word/memory.rt", "too_many", "usize::MAX"): "no machine holds so much",
+    ("journal_verify/entering.rt", "draw", "usize::MAX"): "a lost stream, and this one is open",
+    ("live_view/writer.rt", "publish", "usize::MAX"): "2^64 versions, or a second writer",
 }  # fmt: skip
 
 REMARK = re.compile(r"//[^\n]*")
 FUNCTION = re.compile(r"\bfn (\w+)")
 TYPE = re.compile(r"\buse [^;]*;|\bResult<.*\bAllocError>|: AllocError\b|\bFrom<AllocError>")
-WORD = re.compile(r"\b(?:AllocError|of_too_many)\b")
+WORD = re.compile(r"\b(?:AllocError|usize::MAX)\b")
 
 
 def uses_of(name: str, text: str) -> Iterator[tuple[str, str, str]]:

@@ -27,9 +27,8 @@ PLANTED = (
      "if more == 9 {\n            return Err(Memory::from(AllocError));\n        }\n        "
      "self.marks.reserve(room)?;"),
     ("memory", "crates/gpu_hall/src/runs.rt", "match next {",
-     "self.house.lose(run, Memory::of_too_many(alloc));\n        match next {"),
-    ("memory", "crates/seq_sched/src/scheduler.rt", "Err(Memory::of_too_many(alloc))",
-     "Err(Vec::<u32>::with_capacity(alloc, usize::MAX))"),
+     "self.house.lose(run, Memory::of_too_many(alloc, usize::MAX, 1));\n        match next {"),
+    ("memory", "crates/live_view/src/writer.rt", "usize::MAX,", "1 << 40,"),
     ("refuse_memory", "tools/refusing.c", "? 0 : next(size);", "? next(size) : next(size);"),
     ("refuse_memory", "tools/refusing.c", "? 0 : next(old, size);",
      "? (__builtin_trap(), next(old, size)) : next(old, size);"),

@@ -60,6 +60,7 @@ impl Journal {
         ensures spare { OnOk result (more ≤ self.new.spare) }
         ensures grows { self.old.spare ≤ self.new.spare }
         ensures room { self.new.room ≡ self.old.room }
+        ensures full { OnErr result (self.old.spare < more) }
         ensures err { OnErr result (self.new.spare ≡ self.old.spare) }
     {
         self.entries.reserve(more)?;
@@ -74,7 +75,7 @@ impl Journal {
         ensures full { OnErr result (self.old.room < more) }
     {
         if more > MOST_WORDS - self.words.len() {
-            return Err(Memory::of_too_many(self.allocator()));
+            return Err(Memory::of_too_many(self.allocator(), self.words.len(), more));
         }
         self.words.reserve(more)?;
         Ok(())

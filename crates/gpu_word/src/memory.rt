@@ -1,4 +1,4 @@
-ghost use Rattle.std.specs.Prelude.{◌≡◌, IsErr};
+ghost use Rattle.std.specs.Prelude.{◌≡◌, ◌+◌, ◌≤◌, ◌^◌, IsErr};
 ghost use Rattle.gpu_word.specs.Refused.{refused};
 
 use std::alloc::{AllocError, AllocFailed, Global};
@@ -13,10 +13,14 @@ pub struct Memory {
 }
 
 impl Memory {
-    /// The library's refusal of a list that no machine can hold, for a count that would run over.
+    /// The library's refusal of a list that no machine can hold, where a count would run over: so many are held, and so
+    /// many more are asked for.
     ///
     /// No run comes to such a count within the limits of a script.
-    pub fn of_too_many(alloc: Global) -> Memory {
+    pub fn of_too_many(alloc: Global, held: usize, more: usize) -> Memory
+        requires { 2 ^ 32 ≤ held + more }
+    {
+        let _ = (held, more);
         match too_many(alloc) {
             Ok(()) => unreachable!(),
             Err(error) => Memory::from(error),

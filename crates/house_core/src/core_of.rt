@@ -243,6 +243,6 @@ pub(crate) fn take_room(journal: &mut Journal, owed: usize, more: usize) -> Resu
 {
     match owed.checked_add(more) {
         Some(room) => journal.reserve(room),
-        None => Err(Memory::of_too_many(journal.allocator())),
+        None => Err(Memory::of_too_many(journal.allocator(), owed, more)),
     }
 }

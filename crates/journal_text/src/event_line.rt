@@ -1,4 +1,4 @@
-ghost use Rattle.std.specs.Prelude.{◌≡◌, ◌+◌, ◌≤◌, length, vec_len, vec_capacity, IfSome};
+ghost use Rattle.std.specs.Prelude.{◌≡◌, ◌+◌, ◌≤◌, ◌^◌, length, vec_len, vec_capacity, IfSome, IsNone};
 ghost use Rattle.std.specs.List.{flat_map};
 ghost use Rattle.journal_text.specs.Appended.{Appended};
 ghost use Rattle.journal_text.specs.Digits.{numeral};
@@ -123,7 +123,8 @@ fn word_room(place: u32) -> usize
 
 // How many bytes hold the line of an event with these words, where that many can be counted.
 fn room_with(words: &[(u32, u32)]) -> Option<usize>
-    ensures { IfSome result (λ room. EVENT + length (flat_map word_text words.now) ≤ room) }
+    ensures room { IfSome result (λ room. EVENT + length (flat_map word_text words.now) ≤ room) }
+    ensures many { IsNone result → 2 ^ 32 ≤ length words.now }
 {
     let mut room = EVENT;
     for (place, _) in words {
@@ -134,8 +135,9 @@ fn room_with(words: &[(u32, u32)]) -> Option<usize>
 
 /// How many bytes hold the line of an event, where that many can be counted.
 pub(crate) fn room_of(event: &Event<'_>) -> Option<usize>
-    ensures { IfSome result (λ room. EVENT + length
+    ensures room { IfSome result (λ room. EVENT + length
         (flat_map word_text (event_words event.now)) ≤ room) }
+    ensures many { IsNone result → 2 ^ 32 ≤ length (event_words event.now) }
 {
     match event {
         Event::Step { words, .. } | Event::Lost { words, .. } => room_with(words.as_slice()),

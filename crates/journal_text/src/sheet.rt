@@ -55,7 +55,7 @@ impl Sheet {
         ensures { IfOk result (λ sheet. sheet ≡ record { bytes = []; limit = limit }) }
     {
         let Some(room) = limit.checked_add(MOST_LINE) else {
-            return Err(Memory::of_too_many(alloc));
+            return Err(Memory::of_too_many(alloc, limit, MOST_LINE));
         };
         let bytes = Vec::with_capacity(alloc, room)?;
         Ok(Sheet { bytes, limit })

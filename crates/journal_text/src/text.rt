@@ -25,7 +25,7 @@ pub fn journal_text(alloc: Global, journal: &Journal) -> Result<Vec<u8>, Memory>
     for index in 0..journal.count() {
         let event = journal.event(index);
         let Some(room) = room_of(&event) else {
-            return Err(Memory::of_too_many(alloc));
+            return Err(Memory::of_too_many(alloc, event.words().len(), 0));
         };
         text.reserve(room)?;
         put_event(&mut text, &event);

@@ -26,7 +26,7 @@ fn draw(alloc: Global, core: &mut SyncCore, s: u32, fences: &[(u32, u64)]) -> Re
         Ok(_) => Ok(()),
         Err(OrderFault::Memory(memory)) => Err(memory),
         // An open stream is not lost.
-        Err(OrderFault::Lost) => Err(Memory::of_too_many(alloc)),
+        Err(OrderFault::Lost) => Err(Memory::of_too_many(alloc, usize::MAX, 1)),
     }
 }
 

@@ -121,7 +121,7 @@ impl ViewWriter {
             events,
         };
         if !self.roll.add(&next) {
-            return Err(Memory::of_too_many(*self.waiting.allocator()));
+            return Err(Memory::of_too_many(*self.waiting.allocator(), usize::MAX, 1));
         }
         let front = self.roll.front().again();
         end_version(&mut self.copies, rt, Mark { events, front })

@@ -56,7 +56,7 @@ impl Names {
         ensures same { OnErr result (self.new ≡ self.old) }
     {
         if self.set.len() >= MOST_NAMES {
-            return Err(Memory::of_too_many(*self.set.allocator()));
+            return Err(Memory::of_too_many(*self.set.allocator(), self.set.len(), 1));
         }
         let (at, _) = self.set.insert_full(name)?;
         Ok(at as u32 + 1)

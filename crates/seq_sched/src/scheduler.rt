@@ -37,7 +37,7 @@ impl Scheduler {
     {
         // A stream beyond has no number.
         if priorities.len() > u32::MAX as usize {
-            return Err(Memory::of_too_many(alloc));
+            return Err(Memory::of_too_many(alloc, priorities.len(), 0));
         }
         let mut seats = Vec::with_capacity(alloc, priorities.len())?;
         for priority in priorities {

@@ -64,7 +64,7 @@ impl<H: Hook> Hooks<H> {
         ensures err { OnErr result (self.new ≡ self.old) }
     {
         let Some(room) = self.spare.checked_add(more) else {
-            return Err(Memory::of_too_many(*self.marks.allocator()));
+            return Err(Memory::of_too_many(*self.marks.allocator(), self.spare, more));
         };
         self.marks.reserve(room)?;
         self.spare = room;

@@ -37,10 +37,11 @@ impl Pace {
 
     // A refusal of the library, for a run that the test gives up.
     fn refusal(&self) -> Memory {
-        Memory::of_too_many(match self {
+        let alloc = match self {
             Pace::Single { list } => *list.allocator(),
             Pace::Batched { sizes, .. } => *sizes.allocator(),
-        })
+        };
+        Memory::of_too_many(alloc, usize::MAX, 1)
     }
 
     // In batches.
@@ -142,7 +143,7 @@ fn turn_batch<N: Naming, P: ServiceSide, H: Hook>(
         Next::More => Ok(Some(run)),
         Next::FlushEnd => Ok(Some(run)),
         _ => {
-            house.lose(run, Memory::of_too_many(*sizes.allocator()));
+            house.lose(run, Memory::of_too_many(*sizes.allocator(), usize::MAX, 1));
             Ok(None)
         }
     }

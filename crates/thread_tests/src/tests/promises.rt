@@ -1,11 +1,13 @@
 //! What the calls of a hall promise, in the words of a caller. These functions are proved and not run.
-ghost use Rattle.std.specs.Prelude.{◌≡◌, ◌+◌, ◌⊎◌, ◌↔◌, drop, length, [], true, false, IsTrue, IfSome, IfNone};
+ghost use Rattle.std.specs.Prelude.{◌≡◌, ◌+◌, ◌⊎◌, ◌↔◌, drop, length, [], true, false, Some, None, IsTrue, IfSome, IfNone};
 ghost use Rattle.shm_words.specs.declared.client.Acted.TheVariants.{End};
 ghost use Rattle.gpu_plan.specs.Plans.{plan_of, is_closed};
 ghost use Rattle.sync_core.specs.Standing.{IsKnown, is_open};
 ghost use Rattle.gpu_journal.specs.Waits.{standing_of, pending_in};
 ghost use Rattle.gpu_journal.specs.Legal.{IsLegal, MayClose};
 ghost use Rattle.gpu_journal.specs.Serial.{is_runnable};
+ghost use Rattle.serial_laws.specs.Choosing.{choice_at_home};
+ghost use Rattle.house_core.specs.Core.{is_home};
 ghost use Rattle.gpu_house.specs.Names.{table_at};
 ghost use Rattle.gpu_house.specs.Batches.{member_words, batch_words, AreChained};
 ghost use Rattle.gpu_house.specs.Waiting.{HaveTargets, FormNoCycle};
@@ -20,6 +22,7 @@ ghost use Rattle.thread_parts.specs.Acts.{HasGone, HasTried};
 ghost use Rattle.gpu_threads.specs.Turns.{HasStopped};
 ghost use Rattle.gpu_threads.specs.Words.{of_tables};
 
+use flush_queue::FlushQueue;
 use gpu_hall::{Hall, NamedSide};
 use gpu_house::{Batch, Closing, Naming, Run};
 use gpu_io::Gate;
@@ -128,4 +131,29 @@ fn turn_once<N: Naming, P: NamedSide, H: Hook, R: Wait, G: Gate>(
         → IsSameClient client new × (HasTried client new End ⊎ HasStopped client new) }
 {
     client_turn(rt, ground, own, client)
+}
+
+// The run that is taken is of the stream that comes before all others at home that can run. None is taken where none can run.
+fn takes_the_choice<N: Naming, P: NamedSide, H: Hook>(hall: &mut Hall<N, P, H>) -> Option<Run<N, P>>
+    ensures chosen { IfSome result (λ out. choice_at_home N.plans hall.old.past
+        (is_home hall.old.outs) ≡ Some out.run.stream) }
+    ensures idle { IfNone result (choice_at_home N.plans hall.old.past
+        (is_home hall.old.outs) ≡ None) }
+{
+    hall.take()
+}
+
+// Where a stream is not lost, as many events have come as flushes were taken.
+fn counts_what_comes<N: Naming, P: NamedSide, H: Hook, R: Wait>(
+    rt: &R,
+    hall: &mut Hall<N, P, H>,
+    stream: u32,
+    queue: &FlushQueue,
+) -> u32
+    requires known { IsKnown (length N.plans.plans) stream }
+    requires queue { queue.now ≡ table_at N.queues stream }
+    ensures { (standing_of N.plans hall.new.past stream).lost ≡ false
+        → length hall.new.past ≡ length hall.old.past + result }
+{
+    hall.collect_from(rt, stream, queue)
 }

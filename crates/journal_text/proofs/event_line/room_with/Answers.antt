@@ -9,4 +9,5 @@ loop-place-preserved c =
     let index = c.loop-place.place-index in
     let word = get_or words index (0, 0) in
     let added = c.in_ok-room.ensures in
-    omega (arith, added.1, length-take_more word_text words index (0, 0) (omega arith), length-word word.0 word.1, c.word_room.ensures.room)
+    let more = length-take_more word_text words index (0, 0) (omega arith) in
+    (omega (arith, added.1, more, length-word word.0 word.1, c.word_room.ensures.room), omega (arith, added.1, c.word_room.ensures.few))
