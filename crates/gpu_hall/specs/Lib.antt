@@ -1,8 +1,8 @@
+pub mod Words
 pub mod Takers
 pub mod Collecting
 pub mod Ready
 pub mod Commits
-pub mod Settling
 pub mod Views
 pub mod Looks
 pub mod Outs

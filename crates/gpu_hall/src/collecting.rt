@@ -9,8 +9,8 @@ ghost use Rattle.gpu_journal.specs.Waits.{standing_of};
 ghost use Rattle.gpu_house.specs.Names.{table_at};
 ghost use Rattle.gpu_hall.specs.Collecting.{OrderedOrLost, HasCollectedFrom, HasCollected, GrewBy};
 
+use crate::full_pass::FullPass;
 use crate::hall::Hall;
-use crate::side::NamedSide;
 use flush_queue::FlushQueue;
 use gpu_house::{House, Naming, OrderRefused};
 use shm_words::Note;
@@ -19,11 +19,7 @@ use sync_core::OrderFault;
 use wait_hooks::Hook;
 
 // Orders the next flush of an open stream, or loses the stream as out of memory.
-fn order_or_lose<N: Naming, P: NamedSide, H: Hook>(
-    house: &mut House<N, P, H>,
-    stream: u32,
-    note: Note,
-)
+fn order_or_lose<N: Naming, H: Hook>(house: &mut House<N, FullPass, H>, stream: u32, note: Note)
     requires known { IsKnown (length N.plans.plans) stream }
     requires next { (known N.plans house.old.core.past stream).ordered
         < flushes (plan_of N.plans stream).actions }
@@ -46,7 +42,7 @@ fn order_or_lose<N: Naming, P: NamedSide, H: Hook>(
     }
 }
 
-impl<N: Naming, P: NamedSide, H: Hook> Hall<N, P, H> {
+impl<N: Naming, H: Hook> Hall<N, H> {
     // Takes the next flush of a stream, where there is one, and orders it. That of a lost stream is dropped.
     #[tactic(auto, using(crate::proofs::Collected::none_grew, crate::proofs::Collected::dropped_grew, crate::proofs::Collected::one_grew))]
     fn collect_next<R: Wait>(&mut self, rt: &R, stream: u32, queue: &FlushQueue) -> bool
@@ -72,7 +68,7 @@ impl<N: Naming, P: NamedSide, H: Hook> Hall<N, P, H> {
     }
 
     /// Takes flushes from the queue of a stream until that gives none, and orders each, as `collect` does for all streams. It says
-    /// how many it took, and takes no more than can be said.
+    /// how many it took, and takes no more than can be said. That it ends only where the queue gives none, tests alone show.
     #[tactic(auto, using(crate::proofs::Collected::none_from, crate::proofs::Collected::next_from))]
     pub fn collect_from<R: Wait>(&mut self, rt: &R, stream: u32, queue: &FlushQueue) -> u32
         requires known { IsKnown (length N.plans.plans) stream }
@@ -91,7 +87,7 @@ impl<N: Naming, P: NamedSide, H: Hook> Hall<N, P, H> {
     }
 
     /// For each stream in rising number, takes flushes from its queue until that gives none, and orders each. Those of a lost stream are
-    /// dropped. Where memory is wanted for an order, its stream is lost.
+    /// dropped. Where memory is wanted for an order, its stream is lost. That no flush is left behind, tests alone show.
     #[tactic(auto, using(crate::proofs::Collected::none_collected, crate::proofs::Collected::all_collected))]
     pub fn collect<R: Wait>(&mut self, rt: &R, queues: &[FlushQueue])
         requires queues { queues.now ≡ N.queues }

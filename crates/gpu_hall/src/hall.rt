@@ -11,7 +11,7 @@ ghost use Rattle.gpu_hall.specs.Takers.{AreFreshTakers};
 ghost use Rattle.gpu_hall.specs.Outs.{NoneIsPaused, IsDoneOrGoesOn};
 ghost use Rattle.gpu_hall.specs.Views.{IsFreshView, view_front};
 
-use crate::side::NamedSide;
+use crate::full_pass::FullPass;
 use flush_queue::Taker;
 use gpu_house::{Doing, House, Naming, WaitsKept};
 use live_view::ViewWriter;
@@ -25,13 +25,13 @@ use wait_hooks::Hook;
 /// It is not `Drop`, as no writer is: give it up by `end` or `show`.
 ///
 /// Seen as the journal of the house, the runs that are out, and where there is a view, which one it is and its versions.
-pub struct Hall<N: Naming, P: NamedSide, H: Hook> {
-    pub(crate) house: House<N, P, H>,
+pub struct Hall<N: Naming, H: Hook> {
+    pub(crate) house: House<N, FullPass, H>,
     pub(crate) takers: Vec<Taker>,
     pub(crate) view: Option<ViewWriter>,
 }
 
-impl<N: Naming, P: NamedSide, H: Hook> Model for Hall<N, P, H> {
+impl<N: Naming, H: Hook> Model for Hall<N, H> {
     ghost use Rattle.gpu_hall.specs.Halls.{HallData, hall_seen, IsHall};
 
     ghost Value = { HallData };
@@ -42,13 +42,13 @@ impl<N: Naming, P: NamedSide, H: Hook> Model for Hall<N, P, H> {
         h.takers.items h.view };
 }
 
-impl<N: Naming, P: NamedSide, H: Hook> Hall<N, P, H> {
+impl<N: Naming, H: Hook> Hall<N, H> {
     /// A hall without events, with a taker for each plan, in order, that has taken nothing, and a view that shows nothing, or none.
     pub fn make(
-        house: House<N, P, H>,
+        house: House<N, FullPass, H>,
         takers: Vec<Taker>,
         view: Option<ViewWriter>,
-    ) -> Hall<N, P, H>
+    ) -> Hall<N, H>
         requires empty { house.core.past ≡ [] }
         requires home { house.core.outs ≡ replicate (length N.plans.plans) at_home }
         requires takers { AreFreshTakers N.plans.plans N.words N.queues takers.items }

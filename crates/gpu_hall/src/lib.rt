@@ -34,8 +34,8 @@
 //! - `collect`, `publish`, `show` and `end` may wait.
 //!
 //! Notes:
-//! - `NamedSide` is a side whose notes are those of shared words, and of which the trait says that words, a side, a note,
-//!   results and a reader of the named tables belong together.
+//! - `FullPass` is the side of each stream. Words, a side, a note, results and a reader belong together by the names of
+//!   their tables: all that a lock keeps of them is that they are of the tables that are named for their stream.
 //! - A taker of a lost stream may have taken more than the journal orders; its notes are dropped.
 //! - Where memory ran out in a commit there is one answer, `Wanted`, whether at the first member, later, or for the view.
 //! - A hall is no `Drop`, since the writer of a view is none: `end` or `show` gives it up, and `unlock` gives back its
@@ -47,16 +47,16 @@
 #![tactic(auto)]
 
 mod collecting;
+mod full_pass;
 mod hall;
 mod laws;
 mod noting;
 mod runs;
 mod shown;
-mod side;
 mod streams;
 mod viewing;
 
+pub use full_pass::FullPass;
 pub use hall::Hall;
 pub use laws::commits_grow_the_journal;
 pub use shown::Shown;
-pub use side::NamedSide;

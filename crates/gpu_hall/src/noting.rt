@@ -4,7 +4,7 @@ ghost use Rattle.std.specs.List.{All};
 ghost use Rattle.gpu_store.specs.Images.{HasItsTexels};
 ghost use Rattle.gpu_hall.specs.Views.{ViewHasRoom, IsSameView, HasNoted, ViewFits, ShowAll};
 
-use crate::side::NamedSide;
+use crate::full_pass::FullPass;
 use gpu_house::{House, Naming};
 use gpu_store::Op;
 use gpu_word::Memory;
@@ -55,9 +55,9 @@ pub(crate) fn note_all(view: &mut Option<ViewWriter>, ops: Vec<Op>)
 /// # Errors
 ///
 /// `Memory`: the last version published stays, and no operation that was noted is lost.
-pub(crate) fn publish_all<N: Naming, P: NamedSide, H: Hook, R: Wait>(
+pub(crate) fn publish_all<N: Naming, H: Hook, R: Wait>(
     rt: &R,
-    house: &House<N, P, H>,
+    house: &House<N, FullPass, H>,
     writer: &mut ViewWriter,
 ) -> Result<(), Memory>
     requires fits { ViewFits N.plans N.view house.now.core.past writer.old }

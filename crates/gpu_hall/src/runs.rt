@@ -9,29 +9,30 @@ ghost use Rattle.house_core.specs.Core.{IsRunOf, is_home, with_out};
 ghost use Rattle.house_core.specs.Desks.{at_home};
 ghost use Rattle.shm_words.specs.Seen.{NoteData};
 ghost use Rattle.gpu_house.specs.House.{OutData};
-ghost use Rattle.gpu_house.specs.Names.{table_at};
 ghost use Rattle.gpu_hall.specs.Ready.{IsReadyRun};
+ghost use Rattle.gpu_hall.specs.Words.{AreWordsAt};
 ghost use Rattle.gpu_house.specs.Batches.{member_words, batch_words, AreChained};
 ghost use Rattle.gpu_hall.specs.Commits.{Return, HasSteps, CameHome};
 
+use crate::full_pass::FullPass;
 use crate::hall::Hall;
 use crate::noting::{make_room, note_all};
-use crate::side::NamedSide;
 use gpu_house::{Batch, Naming, Next, Run};
 use gpu_word::Memory;
+use result_words::ResultWords;
+use shm_words::SharedWords;
 use wait_hooks::Hook;
 
-impl<N: Naming, P: NamedSide, H: Hook> Hall<N, P, H> {
+impl<N: Naming, H: Hook> Hall<N, H> {
     /// A run of the stream that the scheduler chooses among those at home, which may go on; `None` where none of them can run.
-    pub fn take(&mut self) -> Option<Run<N, P>>
-        ensures choice { option_map (λ (out : OutData P NoteData). out.run.stream) result
+    pub fn take(&mut self) -> Option<Run<N, FullPass>>
+        ensures choice { option_map (λ (out : OutData FullPass NoteData). out.run.stream) result
             ≡ choice_at_home N.plans self.old.past (is_home self.old.outs) }
         ensures none { IfNone result (self.new ≡ self.old) }
         ensures past { self.new.past ≡ self.old.past }
         ensures view { self.new.view ≡ self.old.view }
         ensures run { IfSome result (λ out. IsRunOf N.plans self.old.past out.run) }
-        ensures ready { IfSome result
-            (IsReadyRun P.side P.table P.mark P.note_of N.plans N.words N.books) }
+        ensures ready { IfSome result (IsReadyRun N.plans N.words N.books) }
         ensures outs { IfSome result
             (λ out. self.new.outs
             ≡ with_out self.old.outs out.run.stream
@@ -49,14 +50,17 @@ impl<N: Naming, P: NamedSide, H: Hook> Hall<N, P, H> {
     /// - it is at its end: the run is finished
     /// - a wait was kept, a command is invalid, or the stream was over: the run is at home
     /// - out of memory, for a step or for the view: the stream is lost after the steps made
-    pub fn commit(&mut self, run: Run<N, P>, words: &P::Words, batch: Batch) -> Option<Run<N, P>>
+    pub fn commit(
+        &mut self,
+        run: Run<N, FullPass>,
+        words: &(SharedWords, ResultWords),
+        batch: Batch,
+    ) -> Option<Run<N, FullPass>>
         requires going { run.run.paused ≡ false }
         requires chained { AreChained run.run.facts batch }
-        requires list { drop run.run.facts.fetched (P.side run.side).fetched ≡ batch_words batch }
-        requires words { P.words_of words.now (table_at N.words run.run.stream)
-            (table_at N.result_words run.run.stream) }
-        ensures ready { IfSome result
-            (IsReadyRun P.side P.table P.mark P.note_of N.plans N.words N.books) }
+        requires list { drop run.run.facts.fetched run.side.pass.fetched ≡ batch_words batch }
+        requires words { AreWordsAt N.words N.result_words run.run.stream words.now }
+        ensures ready { IfSome result (IsReadyRun N.plans N.words N.books) }
         ensures same { IfSome result (λ on. on.run.stream ≡ run.run.stream) }
         ensures more { IfSome result
             (λ on. HasSteps N.plans self.old.past self.new.past run.run.stream
@@ -105,11 +109,10 @@ impl<N: Naming, P: NamedSide, H: Hook> Hall<N, P, H> {
     }
 
     /// Finishes the order of a run that is at its end, where its stream is neither lost nor closed. It takes no memory.
-    pub fn finish(&mut self, run: Run<N, P>, words: &P::Words)
+    pub fn finish(&mut self, run: Run<N, FullPass>, words: &(SharedWords, ResultWords))
         requires end { run.run.facts.get ≡ run.run.facts.put }
         requires going { run.run.paused ≡ false }
-        requires words { P.words_of words.now (table_at N.words run.run.stream)
-            (table_at N.result_words run.run.stream) }
+        requires words { AreWordsAt N.words N.result_words run.run.stream words.now }
         ensures event { is_open (standing_of N.plans self.old.past run.run.stream) ≡ true
             → self.new.past ≡ Finish run.run.stream run.run.order ∷ self.old.past }
         ensures over { is_open (standing_of N.plans self.old.past run.run.stream) ≡ false
@@ -123,7 +126,7 @@ impl<N: Naming, P: NamedSide, H: Hook> Hall<N, P, H> {
     }
 
     /// Loses the stream of a run as out of memory, where it is neither lost nor closed. It takes the refusal, and no memory.
-    pub fn lose(&mut self, run: Run<N, P>, refusal: Memory)
+    pub fn lose(&mut self, run: Run<N, FullPass>, refusal: Memory)
         ensures event { is_open (standing_of N.plans self.old.past run.run.stream) ≡ true
             → self.new.past ≡ Lost run.run.stream why.Memory [] ∷ self.old.past }
         ensures over { is_open (standing_of N.plans self.old.past run.run.stream) ≡ false

@@ -2,20 +2,23 @@
 ghost use Rattle.std.specs.Prelude.{◌≡◌, ◌↔◌, [], ◌∷◌, length, true, false};
 ghost use Rattle.gpu_plan.specs.Plans.{plan_of, is_closed};
 ghost use Rattle.sync_core.specs.Standing.{IsKnown, is_open};
+ghost use Rattle.gpu_word.specs.Results.{Settles};
+ghost use Rattle.gpu_journal.specs.Written.{written};
 ghost use Rattle.gpu_journal.specs.declared.event.Event.TheVariants.{Lost, Close};
 ghost use Rattle.gpu_journal.specs.declared.event.Why.TheVariants as why;
 ghost use Rattle.gpu_journal.specs.Waits.{standing_of};
 ghost use Rattle.gpu_journal.specs.Legal.{MayClose};
 ghost use Rattle.gpu_house.specs.Names.{table_at};
-ghost use Rattle.gpu_hall.specs.Settling.{AreSettled};
+ghost use Rattle.gpu_hall.specs.Words.{AreWordsAt};
 
 use crate::hall::Hall;
-use crate::side::NamedSide;
 use gpu_house::{Closing, Naming};
 use gpu_word::Memory;
+use result_words::{ResultReader, ResultWords};
+use shm_words::SharedWords;
 use wait_hooks::Hook;
 
-impl<N: Naming, P: NamedSide, H: Hook> Hall<N, P, H> {
+impl<N: Naming, H: Hook> Hall<N, H> {
     /// Loses a stream as out of memory, where it is neither lost nor closed. It takes the refusal, and no memory.
     pub fn lose_client(&mut self, stream: u32, refusal: Memory)
         requires known { IsKnown (length N.plans.plans) stream }
@@ -52,12 +55,11 @@ impl<N: Naming, P: NamedSide, H: Hook> Hall<N, P, H> {
 
     /// Takes the reader of a stream's results back, and shows that each value it was given is one that was written by then. The
     /// journal stays.
-    pub fn settle(&mut self, stream: u32, words: &P::Words, reader: P::Reader)
+    pub fn settle(&mut self, stream: u32, words: &(SharedWords, ResultWords), reader: ResultReader)
         requires known { IsKnown (length N.plans.plans) stream }
-        requires words { P.words_of words.now (table_at N.words stream)
-            (table_at N.result_words stream) }
-        requires reader { P.reader_of reader (table_at N.result_words stream) }
-        ensures settled { AreSettled P.written N.plans self.old.past stream (P.reads reader) }
+        requires words { AreWordsAt N.words N.result_words stream words.now }
+        requires reader { reader.table ≡ table_at N.result_words stream }
+        ensures settled { Settles (written N.plans self.old.past stream) reader.reads }
         ensures same { self.new ≡ self.old }
     {
         self.house.shows_laws();

@@ -5,13 +5,12 @@ ghost use Rattle.gpu_hall.specs.Views.{ShowsAll, IsOfSameView};
 use crate::hall::Hall;
 use crate::noting::{end_view, publish_all};
 use crate::shown::Shown;
-use crate::side::NamedSide;
 use gpu_house::{Naming, Report};
 use gpu_word::Memory;
 use std::sync::Wait;
 use wait_hooks::Hook;
 
-impl<N: Naming, P: NamedSide, H: Hook> Hall<N, P, H> {
+impl<N: Naming, H: Hook> Hall<N, H> {
     /// Publishes the whole journal in the view, where there is one. It waits for viewers that still read an earlier version.
     ///
     /// # Errors

@@ -20,14 +20,13 @@ use Rattle.sync_core.specs.Standing.{IsKnown}
 use Rattle.house_core.specs.Core.{Booked, IsFresh}
 use Rattle.gpu_house.specs.Names.{table_at}
 use Rattle.gpu_house.specs.Making.{AreFreshResults}
-use Rattle.gpu_threads.specs.declared.full_pass.FullPass.{FullPass}
+use Rattle.gpu_hall.specs.declared.full_pass.FullPass.{FullPass}
 use Rattle.gpu_threads.specs.declared.parts.Parts.{Parts}
 use Rattle.gpu_threads.specs.declared.parts.Service.{Service}
 use Rattle.thread_parts.specs.Clients.{ThreadClientData}
 use Rattle.gpu_threads.specs.Clients.{AreClientsFrom, AreClientsOf}
 use Rattle.gpu_threads.specs.Making.{AreOfStreamsFrom, AreClients, AreFreshWriters, IsFreshService, HaveDoneNothing, AreNamed, HasRoom}
 use Rattle.gpu_threads.specs.Rows.{AreShared, shared_in, results_in}
-use Rattle.gpu_threads.specs.Words.{of_tables}
 use Rattle.gpu_threads.proofs.Shared.{shared_words}
 
 -- ---- what the house wants
@@ -214,7 +213,7 @@ module _ (words results books queues : List TableId) (parts : Parts) (named : Ar
       (subst (λ (row : List TableId). AreClients plans row (results_in parts.words.items) parts.queues.items parts.clients.items) named.words_are fresh.clients))
 
   -- the words and the queues are by their names
-  pub shared_named : (p : PlansData) → HaveDoneNothing p.plans parts → AreShared of_tables p words results queues parts.words.items parts.queues.items
+  pub shared_named : (p : PlansData) → HaveDoneNothing p.plans parts → AreShared p words results queues parts.words.items parts.queues.items
   shared_named p fresh =
       let clients = parts.clients.items in
       let many = clients_many p.plans (shared_in parts.words.items) (results_in parts.words.items) parts.queues.items clients fresh.clients in

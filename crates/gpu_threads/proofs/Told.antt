@@ -1,9 +1,8 @@
 -- What the clients have read may be told of their dumps.
-use Rattle.std.proofs.Common.{◌≡◌, ℕ, zero, suc, ◌+◌, Bool, true, false, cond, Some, List, [], ◌∷◌, ◌++◌, map, refl, sym, ap, subst, ◌∙◌, arith}
+use Rattle.std.proofs.Common.{◌≡◌, ℕ, zero, suc, ◌+◌, Bool, true, false, cond, List, [], ◌∷◌, ◌++◌, map, refl, sym, ap, subst, ◌∙◌, arith}
 use Rattle.std.specs.List.{range_with_len}
 use Rattle.std.proofs.lemmas.List.Elements.{All-head, All-tail}
-use Rattle.gpu_word.specs.Results.{Written, WasLast, Settles}
-use Rattle.result_words.specs.Seen.{ResultWriterData}
+use Rattle.gpu_word.specs.Results.{WasLast, Settles}
 use Rattle.gpu_plan.specs.Plans.{PlansData, PlanData, plan_of}
 use Rattle.gpu_journal.specs.declared.event.Event.{Event}
 use Rattle.gpu_journal.specs.Waits.{standing_of}
@@ -13,7 +12,6 @@ use Rattle.house_core.specs.Core.{is_done}
 use Rattle.gpu_house.specs.declared.answers.Doing.{Doing}
 use Rattle.gpu_house.specs.declared.answers.Doing.TheVariants.{Open, Lost, AllDone, Closed}
 use Rattle.gpu_house.specs.Ending.{doing_of}
-use Rattle.gpu_hall.specs.Settling.{AreSettled}
 use Rattle.thread_parts.specs.Clients.{dump_of, read_for}
 use Rattle.gpu_threads.specs.Dumps.{AreRead, AreAllRead}
 use Rattle.gpu_threads.proofs.Cutting.{may_be_told}
@@ -36,9 +34,8 @@ module _ (p : PlansData) (h : List Event) (s : ℕ) where
       (subst (λ (dumps : List (ℕ × ℕ)). AreRead p h s dumps reads) all (each_read reads (subst (λ (plan : PlanData). Settles (written p h s) (map (read_for plan) reads)) its settles)))
 
   -- what the reader was given settles, once the hall has taken it back
-  pub settled_so : (plan : PlanData) (stream : ℕ) (reads list : List (ℕ × ℕ × ℕ)) → stream ≡ s → reads ≡ map (read_for plan) list → AreSettled (λ (w : ResultWriterData). Some w.written) p h stream reads → Settles (written p h s) (map (read_for plan) list)
-  settled_so plan stream reads list at are settled =
-      subst (Settles (written p h s)) are (subst (λ (told : List Written). Settles told reads) (settled.told ∙ ap (written p h) at) settled.settled)
+  pub settled_so : (plan : PlanData) (stream : ℕ) (reads list : List (ℕ × ℕ × ℕ)) → stream ≡ s → reads ≡ map (read_for plan) list → Settles (written p h stream) reads → Settles (written p h s) (map (read_for plan) list)
+  settled_so plan stream reads list at are settled = subst (Settles (written p h s)) are (subst (λ (s : ℕ). Settles (written p h s) reads) at settled)
 
   -- of a lost stream there is none
   pub none_read : (reads : List (ℕ × ℕ × ℕ)) → (standing_of p h s).lost ≡ true → reads ≡ [] → AreRead p h s (dumps_of p h s) reads

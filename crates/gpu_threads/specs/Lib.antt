@@ -1,4 +1,3 @@
-pub mod Words
 pub mod Rows
 pub mod Clients
 pub mod Turns

@@ -10,7 +10,7 @@ use Rattle.result_words.specs.Seen.{ResultWriterData}
 use Rattle.house_core.specs.Core.{IsFresh, names_of}
 use Rattle.gpu_house.specs.Making.{AreFreshSides}
 use Rattle.gpu_hall.specs.Takers.{AreFreshTakers}
-use Rattle.gpu_threads.specs.declared.full_pass.FullPass.{FullPass}
+use Rattle.gpu_hall.specs.declared.full_pass.FullPass.{FullPass}
 use Rattle.gpu_threads.specs.declared.parts.Parts.{Parts}
 use Rattle.gpu_threads.specs.declared.parts.Service.{Service}
 use Rattle.thread_parts.specs.Clients.{ThreadClientData}

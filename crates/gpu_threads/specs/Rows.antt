@@ -3,12 +3,12 @@ use Rattle.std.specs.Prelude.{◌≡◌, ℕ, ◌-◌, List, length, map, slice_
 use Rattle.atomic_table.specs.Seated.{TableId}
 use Rattle.gpu_plan.specs.Plans.{PlansData}
 use Rattle.sync_core.specs.Standing.{IsKnown}
-use Rattle.gpu_house.specs.Names.{table_at}
+use Rattle.gpu_hall.specs.Words.{AreWordsAt}
 
 -- there are words of each stream, in order, and they are of the tables that are named for it
-pub record AreWordsOf {Words : Type 0} (words_of : Words → TableId → TableId → Type 0) (p : PlansData) (tables results : List TableId) (words : List Words) : Type 0 where
+pub record AreWordsOf (p : PlansData) (tables results : List TableId) (words : List (TableId × TableId)) : Type 0 where
   pub count : length words ≡ length p.plans
-  pub each : (s : ℕ) → IsKnown (length p.plans) s → IfSome (slice_get words (s - 1)) (λ own. words_of own (table_at tables s) (table_at results s))
+  pub each : (s : ℕ) → IsKnown (length p.plans) s → IfSome (slice_get words (s - 1)) (AreWordsAt tables results s)
 
 -- the tables of the shared words, and those of the result words
 abbrev pub shared_in : List (TableId × TableId) → List TableId
@@ -19,7 +19,7 @@ results_in words = map (λ (own : TableId × TableId). own.1) words
 
 -- these are the words and the queues of all streams, in order: the words are of the tables that are named for them, and the queues
 -- have their names
-pub record AreShared {Words : Type 0} (words_of : Words → TableId → TableId → Type 0) (p : PlansData) (tables results names : List TableId) (words : List Words) (queues : List TableId) : Type 0 where
-  pub words_are : AreWordsOf words_of p tables results words
+pub record AreShared (p : PlansData) (tables results names : List TableId) (words : List (TableId × TableId)) (queues : List TableId) : Type 0 where
+  pub words_are : AreWordsOf p tables results words
   pub queues_are : queues ≡ names
   pub queue_count : length names ≡ length p.plans

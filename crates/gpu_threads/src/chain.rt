@@ -1,17 +1,19 @@
 //! The turns of a thread that serves, one after the other.
 ghost use Rattle.std.specs.Prelude.{◌≡◌, length, drop, false, Some, IfSome, IfOk};
 ghost use Rattle.sync_core.specs.Standing.{IsKnown};
-ghost use Rattle.gpu_house.specs.Names.{table_at};
 ghost use Rattle.gpu_house.specs.Batches.{batch_words, AreChained};
 ghost use Rattle.gpu_hall.specs.Ready.{IsReadyRun};
+ghost use Rattle.gpu_hall.specs.Words.{AreWordsAt};
 
 use crate::ground::Ground;
 use crate::over::{all_over, is_lost};
 use crate::rows::{queue_of, words_of};
-use gpu_hall::{Hall, NamedSide};
+use gpu_hall::{FullPass, Hall};
 use gpu_house::{Batch, Naming, Run};
 use gpu_io::{Gate, Place};
 use gpu_word::Memory;
+use result_words::ResultWords;
+use shm_words::SharedWords;
 use std::sync::{MutexGuard, Wait};
 use thread_parts::{Leave, Shift};
 use wait_hooks::Hook;
@@ -26,10 +28,10 @@ struct Before {
 }
 
 // Orders the flushes that were posted, of each stream whose earlier flushes are finished: later ones could not run yet.
-fn collect<N: Naming, P: NamedSide, H: Hook, R: Wait, G: Gate>(
+fn collect<N: Naming, H: Hook, R: Wait, G: Gate>(
     rt: &R,
-    ground: &Ground<'_, N, P, H, G>,
-    hall: &mut Hall<N, P, H>,
+    ground: &Ground<'_, N, H, G>,
+    hall: &mut Hall<N, H>,
     shift: &mut Shift<'_>,
 ) {
     if !shift.takes_posted() {
@@ -45,16 +47,15 @@ fn collect<N: Naming, P: NamedSide, H: Hook, R: Wait, G: Gate>(
 
 // The run that goes on, where there is one: no other is taken then. Else the flushes that were posted are ordered, and the run of the
 // scheduler's choice is taken, unless the thread has enough.
-fn next<N: Naming, P: NamedSide, H: Hook, R: Wait, G: Gate>(
+fn next<N: Naming, H: Hook, R: Wait, G: Gate>(
     rt: &R,
-    ground: &Ground<'_, N, P, H, G>,
-    hall: &mut Hall<N, P, H>,
+    ground: &Ground<'_, N, H, G>,
+    hall: &mut Hall<N, H>,
     shift: &mut Shift<'_>,
-    on: Option<Run<N, P>>,
-) -> Option<Run<N, P>>
-    requires ready { IfSome on
-        (IsReadyRun P.side P.table P.mark P.note_of N.plans N.words N.books) }
-    ensures ready { IfSome result (IsReadyRun P.side P.table P.mark P.note_of N.plans N.words N.books) }
+    on: Option<Run<N, FullPass>>,
+) -> Option<Run<N, FullPass>>
+    requires ready { IfSome on (IsReadyRun N.plans N.words N.books) }
+    ensures ready { IfSome result (IsReadyRun N.plans N.words N.books) }
     ensures same { IfSome on (λ run. result ≡ Some run) }
 {
     match on {
@@ -80,9 +81,9 @@ fn next<N: Naming, P: NamedSide, H: Hook, R: Wait, G: Gate>(
 // Whether the journal has more finishes of a stream than before. Where it has, or where the stream is lost:
 // - viewers are shown so; where that is out of memory nothing is lost, since a later version shows more
 // - its client is told of a finish, a token and a loss
-fn show_end<N: Naming, P: NamedSide, H: Hook, R: Wait>(
+fn show_end<N: Naming, H: Hook, R: Wait>(
     rt: &R,
-    hall: &mut Hall<N, P, H>,
+    hall: &mut Hall<N, H>,
     before: Before,
     shift: &mut Shift<'_>,
 ) -> bool
@@ -110,18 +111,17 @@ fn tell_finish<G: Gate>(gate: &G, finished: bool, before: Before) {
 }
 
 // What a run did is entered: the lock is given back with the next run in hand, and whom it concerns is told.
-fn leave<N: Naming, P: NamedSide, H: Hook, R: Wait, G: Gate>(
+fn leave<N: Naming, H: Hook, R: Wait, G: Gate>(
     rt: &R,
-    ground: &Ground<'_, N, P, H, G>,
+    ground: &Ground<'_, N, H, G>,
     shift: &mut Shift<'_>,
-    hall: MutexGuard<'_, Hall<N, P, H>>,
-    on: Option<Run<N, P>>,
+    hall: MutexGuard<'_, Hall<N, H>>,
+    on: Option<Run<N, FullPass>>,
     before: Before,
-) -> Option<Run<N, P>>
+) -> Option<Run<N, FullPass>>
     requires known { IsKnown (length N.plans.plans) before.stream }
-    requires ready { IfSome on
-        (IsReadyRun P.side P.table P.mark P.note_of N.plans N.words N.books) }
-    ensures { IfSome result (IsReadyRun P.side P.table P.mark P.note_of N.plans N.words N.books) }
+    requires ready { IfSome on (IsReadyRun N.plans N.words N.books) }
+    ensures { IfSome result (IsReadyRun N.plans N.words N.books) }
 {
     let mut hall = hall;
     let finished = show_end(rt, &mut hall, before, shift);
@@ -133,7 +133,7 @@ fn leave<N: Naming, P: NamedSide, H: Hook, R: Wait, G: Gate>(
 }
 
 // What a run and its stream are before it does more.
-fn state_before<N: Naming, P: NamedSide, H: Hook>(hall: &Hall<N, P, H>, run: &Run<N, P>) -> Before
+fn state_before<N: Naming, H: Hook>(hall: &Hall<N, H>, run: &Run<N, FullPass>) -> Before
     requires { IsKnown (length N.plans.plans) run.now.run.stream }
     ensures { result.stream ≡ run.now.run.stream }
 {
@@ -147,19 +147,18 @@ fn state_before<N: Naming, P: NamedSide, H: Hook>(hall: &Hall<N, P, H>, run: &Ru
 }
 
 // Commits the batch that a run has fetched, or loses its stream where there was no memory for it.
-fn enter<N: Naming, P: NamedSide, H: Hook>(
-    hall: &mut Hall<N, P, H>,
-    run: Run<N, P>,
-    own: &P::Words,
+fn enter<N: Naming, H: Hook>(
+    hall: &mut Hall<N, H>,
+    run: Run<N, FullPass>,
+    own: &(SharedWords, ResultWords),
     fetched: Result<Batch, Memory>,
-) -> Option<Run<N, P>>
+) -> Option<Run<N, FullPass>>
     requires going { run.run.paused ≡ false }
     requires chained { IfOk fetched (AreChained run.run.facts) }
     requires list { IfOk fetched
-        (λ batch. drop run.run.facts.fetched (P.side run.side).fetched ≡ batch_words batch) }
-    requires words { P.words_of own.now (table_at N.words run.run.stream)
-        (table_at N.result_words run.run.stream) }
-    ensures { IfSome result (IsReadyRun P.side P.table P.mark P.note_of N.plans N.words N.books) }
+        (λ batch. drop run.run.facts.fetched run.side.pass.fetched ≡ batch_words batch) }
+    requires words { AreWordsAt N.words N.result_words run.run.stream own.now }
+    ensures { IfSome result (IsReadyRun N.plans N.words N.books) }
 {
     match fetched {
         Ok(batch) => hall.commit(run, own, batch),
@@ -172,19 +171,19 @@ fn enter<N: Naming, P: NamedSide, H: Hook>(
 
 // A run fetches its next batch with no lock, and that is committed under one; or it is finished. It goes on; or where it is at home again,
 // the next run is taken under the same lock.
-fn advance<N: Naming, P: NamedSide, H: Hook, R: Wait, G: Gate>(
+fn advance<N: Naming, H: Hook, R: Wait, G: Gate>(
     rt: &R,
-    ground: &Ground<'_, N, P, H, G>,
+    ground: &Ground<'_, N, H, G>,
     shift: &mut Shift<'_>,
-    run: Run<N, P>,
-) -> Option<Run<N, P>>
-    requires { IsReadyRun P.side P.table P.mark P.note_of N.plans N.words N.books run }
-    ensures { IfSome result (IsReadyRun P.side P.table P.mark P.note_of N.plans N.words N.books) }
+    run: Run<N, FullPass>,
+) -> Option<Run<N, FullPass>>
+    requires { IsReadyRun N.plans N.words N.books run }
+    ensures { IfSome result (IsReadyRun N.plans N.words N.books) }
 {
     let mut run = run;
     run.shows_fit();
     let stream = run.stream();
-    let own = words_of::<N, P>(ground.words, stream);
+    let own = words_of::<N>(ground.words, stream);
     if run.at_end() {
         let mut hall = ground.hall.lock(rt);
         let before = state_before(&hall, &run);
@@ -205,9 +204,9 @@ fn advance<N: Naming, P: NamedSide, H: Hook, R: Wait, G: Gate>(
 /// - each batch is committed under the lock; where its run comes home, the next one is taken under the same lock
 /// - after a finish or a loss viewers are shown the whole journal
 /// - then, with no lock, bells are rung and the gate is told of the finish
-pub(crate) fn serve_on<N: Naming, P: NamedSide, H: Hook, R: Wait, G: Gate>(
+pub(crate) fn serve_on<N: Naming, H: Hook, R: Wait, G: Gate>(
     rt: &R,
-    ground: &Ground<'_, N, P, H, G>,
+    ground: &Ground<'_, N, H, G>,
     shift: Shift<'_>,
 ) -> Leave {
     let mut shift = shift;

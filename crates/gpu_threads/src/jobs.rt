@@ -37,6 +37,8 @@ fn needs_of(client: &Client, act: Act) -> u64 {
 /// - where it could not go on, it says what it needs and tries again
 /// - where it still cannot go on then, its stream may be lost or closed
 /// - else it waits, and meanwhile it serves, so that it comes to its end alone
+///
+/// That it returns only at that end, tests alone show.
 pub(crate) fn play<S: Workplace, R: Wait>(rt: &R, place: &S, signals: &Signals, client: &mut Client)
     requires { S.has client.old }
     ensures { IsSameClient client.old client.new }

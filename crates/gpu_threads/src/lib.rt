@@ -25,8 +25,8 @@
 //! Notes:
 //! - No clause says which locks a turn takes, that `run_threads` returns, or that it uses threads. The last two are only
 //!   tested. `serve_turn` answers Ran or NothingRunnable, which no clause ties to a cause.
-//! - `Run::shows_fit` shows which tables a run is of, when it comes out of the lock. `NamedSide` says that whoever has words of
-//!   these tables at hand may fetch and publish there.
+//! - `Run::shows_fit` shows which tables a run is of, when it comes out of the lock. Whoever has words of these tables at
+//!   hand may fetch and publish there.
 //! - A dump is due once its await has passed, and no action comes before it. `read` gives its value once enough finishes
 //!   are counted, and the client keeps it in a list.
 //! - Clients and viewers lie in slices, and threads change them in place, so all of them are there when the threads are
@@ -51,7 +51,6 @@
 #![tactic(auto)]
 
 mod chain;
-mod full_pass;
 mod ground;
 mod jobs;
 mod over;
@@ -65,7 +64,7 @@ mod turns;
 mod views;
 mod workplace;
 
-pub use full_pass::FullPass;
+pub use gpu_hall::FullPass;
 pub use ground::Ground;
 pub use serving::{Turn, serve_turn};
 pub use thread_parts::Client;

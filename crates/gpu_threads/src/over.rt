@@ -5,12 +5,12 @@ ghost use Rattle.gpu_journal.specs.Waits.{standing_of};
 ghost use Rattle.gpu_journal.specs.Complete.{IsComplete};
 ghost use Rattle.gpu_house.specs.Ending.{doing_of};
 
-use gpu_hall::{Hall, NamedSide};
+use gpu_hall::Hall;
 use gpu_house::{Doing, Naming};
 use wait_hooks::Hook;
 
 // Whether nothing is left to do for a stream.
-fn is_over<N: Naming, P: NamedSide, H: Hook>(hall: &Hall<N, P, H>, stream: u32) -> bool
+fn is_over<N: Naming, H: Hook>(hall: &Hall<N, H>, stream: u32) -> bool
     requires { IsKnown (length N.plans.plans) stream }
     ensures over { IsTrue result → doing_of N.plans hall.now.past stream ≢ Doing.Open }
     ensures undone { result ≡ false → doing_of N.plans hall.now.past stream ≡ Doing.Open }
@@ -25,7 +25,7 @@ fn is_over<N: Naming, P: NamedSide, H: Hook>(hall: &Hall<N, P, H>, stream: u32) 
 
 /// Whether nothing is left to do for any stream.
 #[tactic(auto, using(crate::proofs::Complete::complete, crate::proofs::Complete::one_more_over, crate::proofs::Complete::open_left))]
-pub(crate) fn all_over<N: Naming, P: NamedSide, H: Hook>(hall: &Hall<N, P, H>) -> bool
+pub(crate) fn all_over<N: Naming, H: Hook>(hall: &Hall<N, H>) -> bool
     ensures complete { IsTrue result → IsComplete N.plans hall.now.past }
     ensures left { result ≡ false → IsComplete N.plans hall.now.past → ⊥ }
 {
@@ -39,7 +39,7 @@ pub(crate) fn all_over<N: Naming, P: NamedSide, H: Hook>(hall: &Hall<N, P, H>) -
 
 /// Whether a stream is lost.
 #[tactic(auto, using(crate::proofs::Told::when_lost, crate::proofs::Told::when_open, crate::proofs::Told::when_done, crate::proofs::Told::when_closed))]
-pub(crate) fn is_lost<N: Naming, P: NamedSide, H: Hook>(hall: &Hall<N, P, H>, stream: u32) -> bool
+pub(crate) fn is_lost<N: Naming, H: Hook>(hall: &Hall<N, H>, stream: u32) -> bool
     requires { IsKnown (length N.plans.plans) stream }
     ensures { result ≡ (standing_of N.plans hall.now.past stream).lost }
 {

@@ -3,10 +3,10 @@ ghost use Rattle.gpu_cmd.specs.Spans.{words_in};
 ghost use Rattle.gpu_plan.specs.Plans.{PlanData};
 ghost use Rattle.gpu_threads.specs.Making.{HaveRoom, HaveDoneNothing};
 
-use crate::full_pass::FullPass;
 use flush_queue::{FlushQueue, Taker};
 use gpu_books::{Book, Half};
 use gpu_cmd::words_in;
+use gpu_hall::FullPass;
 use gpu_plan::{Plan, Plans};
 use gpu_word::Memory;
 use result_words::{ResultWords, ResultWriter};

@@ -8,9 +8,7 @@ ghost use Rattle.gpu_journal.specs.Ended.{streams_of};
 ghost use Rattle.gpu_threads.specs.Clients.{IsClientOf, AreClientsOf};
 ghost use Rattle.gpu_threads.specs.Dumps.{AreRead, AreAllRead, IsThrough};
 ghost use Rattle.gpu_threads.specs.Rows.{AreWordsOf};
-ghost use Rattle.gpu_threads.specs.Words.{of_tables};
 
-use crate::full_pass::FullPass;
 use crate::over::{all_over, is_lost};
 use crate::rows::words_of;
 use gpu_hall::Hall;
@@ -23,7 +21,7 @@ use thread_parts::Client;
 use wait_hooks::Hook;
 
 // Whether a client has read all its dumps, or its stream is lost.
-fn is_through<N: Naming, H: Hook>(hall: &Hall<N, FullPass, H>, client: &Client) -> bool
+fn is_through<N: Naming, H: Hook>(hall: &Hall<N, H>, client: &Client) -> bool
     requires { IsKnown (length N.plans.plans) client.now.stream }
     ensures { IsTrue result ↔ IsThrough N.plans hall.now.past client.now }
 {
@@ -34,7 +32,7 @@ fn is_through<N: Naming, H: Hook>(hall: &Hall<N, FullPass, H>, client: &Client) 
 }
 
 /// Whether nothing is left to do: no stream is open, and each client is through.
-pub(crate) fn all_done<N: Naming, H: Hook>(hall: &Hall<N, FullPass, H>, clients: &[Client]) -> bool
+pub(crate) fn all_done<N: Naming, H: Hook>(hall: &Hall<N, H>, clients: &[Client]) -> bool
     requires { AreClientsOf N.plans N.words N.result_words N.queues clients.now }
     ensures over { IsTrue result → IsComplete N.plans hall.now.past }
     ensures through { IsTrue result → All (IsThrough N.plans hall.now.past) clients.now }
@@ -53,12 +51,12 @@ pub(crate) fn all_done<N: Naming, H: Hook>(hall: &Hall<N, FullPass, H>, clients:
 // The dumps of a client that is through, whose reader the hall takes back: by that each value is one that was written. A lost stream has
 // none.
 fn read_of<N: Naming, H: Hook>(
-    hall: &mut Hall<N, FullPass, H>,
+    hall: &mut Hall<N, H>,
     words: &[(SharedWords, ResultWords)],
     client: Client,
 ) -> Dumps
     requires client { IsClientOf N.plans N.words N.result_words N.queues client }
-    requires words { AreWordsOf of_tables N.plans N.words N.result_words words.now }
+    requires words { AreWordsOf N.plans N.words N.result_words words.now }
     requires through { IsThrough N.plans hall.old.past client }
     ensures same { hall.new ≡ hall.old }
     ensures read { AreRead N.plans hall.old.past client.stream
@@ -67,7 +65,7 @@ fn read_of<N: Naming, H: Hook>(
     let stream = client.stream();
     let lost = is_lost(hall, stream);
     let (reader, list) = client.into_parts();
-    hall.settle(stream, words_of::<N, FullPass>(words, stream), reader);
+    hall.settle(stream, words_of::<N>(words, stream), reader);
     let mut dumps = Dumps::of(list);
     if lost {
         dumps.clear();
@@ -83,13 +81,13 @@ fn read_of<N: Naming, H: Hook>(
 /// `Memory`: there is none for the list.
 pub(crate) fn all_read<N: Naming, H: Hook>(
     alloc: Global,
-    hall: &mut Hall<N, FullPass, H>,
+    hall: &mut Hall<N, H>,
     words: &[(SharedWords, ResultWords)],
     clients: Vec<Client>,
 ) -> Result<Vec<Dumps>, Memory>
     requires clients { AreClientsOf N.plans N.words N.result_words N.queues clients.items }
     requires through { All (IsThrough N.plans hall.old.past) clients.items }
-    requires words { AreWordsOf of_tables N.plans N.words N.result_words words.now }
+    requires words { AreWordsOf N.plans N.words N.result_words words.now }
     ensures same { hall.new ≡ hall.old }
     ensures read { IfOk result (λ all. AreAllRead N.plans hall.old.past (streams_of N.plans) all.items) }
 {

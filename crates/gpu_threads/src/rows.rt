@@ -2,20 +2,22 @@
 ghost use Rattle.std.specs.Prelude.{◌≡◌, length};
 ghost use Rattle.sync_core.specs.Standing.{IsKnown};
 ghost use Rattle.gpu_house.specs.Names.{table_at};
+ghost use Rattle.gpu_hall.specs.Words.{AreWordsAt};
 ghost use Rattle.gpu_threads.specs.Rows.{AreWordsOf};
 
 use flush_queue::FlushQueue;
-use gpu_hall::NamedSide;
 use gpu_house::Naming;
+use result_words::ResultWords;
+use shm_words::SharedWords;
 
 /// The words of a stream.
-pub(crate) fn words_of<'a, N: Naming, P: NamedSide>(
-    words: &'a [P::Words],
+pub(crate) fn words_of<'a, N: Naming>(
+    words: &'a [(SharedWords, ResultWords)],
     stream: u32,
-) -> &'a P::Words
+) -> &'a (SharedWords, ResultWords)
     requires known { IsKnown (length N.plans.plans) stream }
-    requires words { AreWordsOf P.words_of N.plans N.words N.result_words words.now }
-    ensures { P.words_of result.now (table_at N.words stream) (table_at N.result_words stream) }
+    requires words { AreWordsOf N.plans N.words N.result_words words.now }
+    ensures { AreWordsAt N.words N.result_words stream result.now }
 {
     &words[stream as usize - 1]
 }

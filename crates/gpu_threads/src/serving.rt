@@ -1,7 +1,6 @@
 //! One turn of a worker.
 use crate::chain::serve_on;
 use crate::ground::Ground;
-use gpu_hall::NamedSide;
 use gpu_house::Naming;
 use gpu_io::Gate;
 use std::sync::Wait;
@@ -21,9 +20,11 @@ pub enum Turn {
 /// - commands are fetched in batches with no lock, and each batch is committed under one
 /// - where memory runs out, the stream is lost
 /// - after a finish or a loss viewers are shown the whole journal, before the gate hears of the finish
-pub fn serve_turn<N: Naming, P: NamedSide, H: Hook, R: Wait, G: Gate>(
+///
+/// That it answers NothingRunnable only where no stream at home could run, tests alone show.
+pub fn serve_turn<N: Naming, H: Hook, R: Wait, G: Gate>(
     rt: &R,
-    ground: &Ground<'_, N, P, H, G>,
+    ground: &Ground<'_, N, H, G>,
 ) -> Turn {
     match serve_on(rt, ground, Shift::of_one_turn()) {
         Leave::Enough => Turn::Ran,

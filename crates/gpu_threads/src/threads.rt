@@ -9,12 +9,10 @@ ghost use Rattle.gpu_threads.specs.Clients.{AreClientsOf, AreSameClients};
 ghost use Rattle.gpu_threads.specs.Making.{IsFreshService, HaveDoneNothing, AreNamed};
 ghost use Rattle.gpu_threads.specs.Rows.{AreShared};
 ghost use Rattle.gpu_threads.specs.Runs.{IsThreadedRun};
-ghost use Rattle.gpu_threads.specs.Words.{of_tables};
 ghost use Rattle.thread_parts.specs.Watches.{HasNotLooked, HasWatched, HaveWatched};
 ghost use Rattle.live_view.specs.declared.look.TheConstants.{LOOKS};
 ghost use Rattle.live_view.specs.declared.making.TheConstants.{MOST_VIEWERS};
 
-use crate::full_pass::FullPass;
 use crate::ground::Ground;
 use crate::jobs::{play_all, serve_all};
 use crate::parts::{Parts, Service};
@@ -26,7 +24,7 @@ use crate::turns::turn;
 use crate::views::{Views, end_writer, show_all, watch_all};
 use crate::workplace::Workplace;
 use flush_queue::FlushQueue;
-use gpu_hall::Hall;
+use gpu_hall::{FullPass, Hall};
 use gpu_house::{House, Naming};
 use gpu_io::Gate;
 use gpu_plan::Plans;
@@ -80,14 +78,14 @@ struct Beside<'a, G: Gate> {
 // Each client has a turn.
 fn turn_each<N: Naming, H: Hook, R: Wait, G: Gate>(
     rt: &R,
-    ground: &Ground<'_, N, FullPass, H, G>,
+    ground: &Ground<'_, N, H, G>,
     clients: &mut [Client],
 )
     requires { AreClientsOf N.plans N.words N.result_words N.queues clients.old }
     ensures { AreClientsOf N.plans N.words N.result_words N.queues clients.new }
 {
     for client in clients.iter_mut() {
-        let own = words_of::<N, FullPass>(ground.words, client.stream());
+        let own = words_of::<N>(ground.words, client.stream());
         turn(rt, ground, own, client);
     }
 }
@@ -96,11 +94,11 @@ fn turn_each<N: Naming, H: Hook, R: Wait, G: Gate>(
 // known here. Each round every client has a turn, and a run is served.
 fn play_left<N: Naming, H: Hook, R: Wait, G: Gate>(
     rt: &R,
-    hall: Hall<N, FullPass, H>,
+    hall: Hall<N, H>,
     beside: &Beside<'_, G>,
     clients: &mut [Client],
-) -> Hall<N, FullPass, H>
-    requires shared { AreShared of_tables N.plans N.words N.result_words N.queues
+) -> Hall<N, H>
+    requires shared { AreShared N.plans N.words N.result_words N.queues
         beside.now.words.now beside.now.queues.now }
     requires clients { AreClientsOf N.plans N.words N.result_words N.queues clients.old }
     ensures complete { IsComplete N.plans result.past }
@@ -178,11 +176,11 @@ fn run_all<S: Workplace + Sync, G: Gate + Sync, R: Threads + Wait + Sync>(
 fn finish<N: Naming, H: Hook, R: Wait, G: Gate>(
     rt: &R,
     alloc: Global,
-    hall: Hall<N, FullPass, H>,
+    hall: Hall<N, H>,
     beside: &Beside<'_, G>,
     crew: Crew,
 ) -> Result<ThreadedRun, Memory>
-    requires shared { AreShared of_tables N.plans N.words N.result_words N.queues
+    requires shared { AreShared N.plans N.words N.result_words N.queues
         beside.now.words.now beside.now.queues.now }
     requires clients { AreClientsOf N.plans N.words N.result_words N.queues crew.clients.items }
     requires watches { All (HasWatched N.view LOOKS) crew.watches.items }
@@ -211,11 +209,11 @@ fn finish<N: Naming, H: Hook, R: Wait, G: Gate>(
 fn run_hall<N: Naming + Send + Sync, H: Hook + Send, G: Gate + Sync, R: Threads + Wait + Sync>(
     rt: &R,
     alloc: Global,
-    hall: Hall<N, FullPass, H>,
+    hall: Hall<N, H>,
     beside: &Beside<'_, G>,
     crew: Crew,
 ) -> Result<ThreadedRun, Memory>
-    requires shared { AreShared of_tables N.plans N.words N.result_words N.queues
+    requires shared { AreShared N.plans N.words N.result_words N.queues
         beside.now.words.now beside.now.queues.now }
     requires clients { AreClientsOf N.plans N.words N.result_words N.queues crew.clients.items }
     requires watches { All (HasWatched N.view 0) crew.watches.items }
@@ -241,7 +239,7 @@ fn hall_of<N: Naming, H: Hook, R: Wait>(
     hook: H,
     service: Service,
     writer: Option<ViewWriter>,
-) -> Result<Hall<N, FullPass, H>, Memory>
+) -> Result<Hall<N, H>, Memory>
     requires plans { plans ≡ N.plans }
     requires base { H.base hook ≡ N.base }
     requires fresh { IsFreshService N.plans.plans N.words N.result_words N.queues service }

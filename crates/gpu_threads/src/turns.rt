@@ -2,15 +2,13 @@
 ghost use Rattle.std.specs.Prelude.{◌≡◌, length, true};
 ghost use Rattle.gpu_plan.specs.Plans.{plan_of, is_closed};
 ghost use Rattle.sync_core.specs.Standing.{IsKnown};
-ghost use Rattle.gpu_house.specs.Names.{table_at};
 ghost use Rattle.thread_parts.specs.Clients.{IsSameClient};
+ghost use Rattle.gpu_hall.specs.Words.{AreWordsAt};
 ghost use Rattle.gpu_threads.specs.Clients.{IsClientOf};
 ghost use Rattle.gpu_threads.specs.Turns.{Turns, TurnsSo};
-ghost use Rattle.gpu_threads.specs.Words.{of_tables};
 
 use crate::ground::Ground;
 use crate::rows::queue_of;
-use gpu_hall::NamedSide;
 use gpu_house::{Closing, Doing, Naming};
 use gpu_io::Gate;
 use result_words::ResultWords;
@@ -27,14 +25,16 @@ pub enum ClientTurn {
     /// It has to wait: its await does not pass, its queue did not take its note, too few finishes are counted for its dump, or its
     /// stream may not close yet.
     Waiting(Client),
-    /// It has come to its end: no action is left, or its stream is lost or closed.
+    /// It has come to its end: no action is left, or its stream is lost or closed. That the stream is so where an action is left,
+    /// tests alone show.
     Ended(Client),
 }
 
-/// Whether a client that could not go on has come to its end: its stream is lost or closed.
-pub(crate) fn is_ended<N: Naming, P: NamedSide, H: Hook, R: Wait, G: Gate>(
+/// Whether a client that could not go on has come to its end: its stream is lost or closed. That it says so of no other stream, tests
+/// alone show.
+pub(crate) fn is_ended<N: Naming, H: Hook, R: Wait, G: Gate>(
     rt: &R,
-    ground: &Ground<'_, N, P, H, G>,
+    ground: &Ground<'_, N, H, G>,
     stream: u32,
 ) -> bool
     requires { IsKnown (length N.plans.plans) stream }
@@ -45,10 +45,11 @@ pub(crate) fn is_ended<N: Naming, P: NamedSide, H: Hook, R: Wait, G: Gate>(
     matches!(doing, Doing::Lost | Doing::Closed)
 }
 
-// Closes a stream whose client stands at its Close, once all its flushes are collected. False where it is too early.
-fn close<N: Naming, P: NamedSide, H: Hook, R: Wait, G: Gate>(
+// Closes a stream whose client stands at its Close, once all its flushes are collected. False where it is too early. That it is false
+// nowhere else, tests alone show.
+fn close<N: Naming, H: Hook, R: Wait, G: Gate>(
     rt: &R,
-    ground: &Ground<'_, N, P, H, G>,
+    ground: &Ground<'_, N, H, G>,
     stream: u32,
 ) -> bool
     requires known { IsKnown (length N.plans.plans) stream }
@@ -63,15 +64,14 @@ fn close<N: Naming, P: NamedSide, H: Hook, R: Wait, G: Gate>(
 
 /// One action of a client that stays where it is. At its Close, where the flushes of all queues are ordered and the stream is closed, it
 /// comes to its end.
-pub(crate) fn turn<N: Naming, P: NamedSide, H: Hook, R: Wait, G: Gate>(
+pub(crate) fn turn<N: Naming, H: Hook, R: Wait, G: Gate>(
     rt: &R,
-    ground: &Ground<'_, N, P, H, G>,
+    ground: &Ground<'_, N, H, G>,
     own: &(SharedWords, ResultWords),
     client: &mut Client,
 ) -> Act
     requires client { IsClientOf N.plans N.words N.result_words N.queues client.old }
-    requires own { of_tables own.now (table_at N.words client.old.stream)
-        (table_at N.result_words client.old.stream) }
+    requires own { AreWordsAt N.words N.result_words client.old.stream own.now }
     ensures same { IsSameClient client.old client.new }
     ensures acts { TurnsSo client.old client.new result }
 {
@@ -93,15 +93,14 @@ pub(crate) fn turn<N: Naming, P: NamedSide, H: Hook, R: Wait, G: Gate>(
 /// - a dump that could not be read stays due, and no action comes before it
 /// - where the client cannot go on, the lock is taken to ask what its stream is doing
 /// - at its Close the lock is taken to order the flushes of all queues and to close the stream
-pub fn client_turn<N: Naming, P: NamedSide, H: Hook, R: Wait, G: Gate>(
+pub fn client_turn<N: Naming, H: Hook, R: Wait, G: Gate>(
     rt: &R,
-    ground: &Ground<'_, N, P, H, G>,
+    ground: &Ground<'_, N, H, G>,
     own: &(SharedWords, ResultWords),
     client: Client,
 ) -> ClientTurn
     requires client { IsClientOf N.plans N.words N.result_words N.queues client }
-    requires own { of_tables own.now (table_at N.words client.stream)
-        (table_at N.result_words client.stream) }
+    requires own { AreWordsAt N.words N.result_words client.stream own.now }
     ensures { Turns client result }
 {
     let mut client = client;

@@ -7,7 +7,7 @@ ghost use Rattle.gpu_hall.specs.Looks.{AreViewerLooks};
 ghost use Rattle.thread_parts.specs.Watches.{HasNotLooked, HasWatched, HaveWatched};
 ghost use Rattle.gpu_threads.specs.Views.{AreAllLooks, IsViewerOf, IsViewTold, SawTold};
 
-use gpu_hall::{Hall, NamedSide, Shown};
+use gpu_hall::{Hall, Shown};
 use gpu_house::{Naming, Report};
 use gpu_io::Gate;
 use gpu_word::Memory;
@@ -179,10 +179,10 @@ fn look_all<R: Wait>(
 /// # Errors
 ///
 /// `Memory`: for the last version of the view, or for the list of what was seen. The hall is ended.
-pub(crate) fn show_all<N: Naming, P: NamedSide, H: Hook, R: Wait>(
+pub(crate) fn show_all<N: Naming, H: Hook, R: Wait>(
     rt: &R,
     alloc: Global,
-    hall: Hall<N, P, H>,
+    hall: Hall<N, H>,
     watches: Vec<Watch>,
 ) -> Result<(Report, Vec<Vec<Look>>), Memory>
     requires { All (HasWatched N.view LOOKS) watches.items }

@@ -2,7 +2,6 @@
 ghost use Rattle.thread_parts.specs.Clients.{ThreadClientData, IsSameClient};
 
 use crate::chain::serve_on;
-use crate::full_pass::FullPass;
 use crate::ground::Ground;
 use crate::rows::words_of;
 use crate::turns::{is_ended, turn};
@@ -31,13 +30,13 @@ pub(crate) trait Workplace {
     fn serve<R: Wait>(&self, rt: &R, shift: Shift<'_>) -> Leave;
 }
 
-impl<'a, N: Naming, H: Hook, G: Gate> Workplace for Ground<'a, N, FullPass, H, G> {
+impl<'a, N: Naming, H: Hook, G: Gate> Workplace for Ground<'a, N, H, G> {
     ghost use Rattle.gpu_threads.specs.Clients.{IsClientOf};
 
     ghost has = { IsClientOf N.plans N.words N.result_words N.queues };
 
     fn turn<R: Wait>(&self, rt: &R, client: &mut Client) -> Act {
-        let own = words_of::<N, FullPass>(self.words, client.stream());
+        let own = words_of::<N>(self.words, client.stream());
         turn(rt, self, own, client)
     }
 

@@ -1,9 +1,14 @@
--- The one taker of the hall over one stream.
-use Rattle.std.proofs.Common.{◌≡◌, List, [], ◌∷◌, length, get_or, refl, sym, ap, ◌∙◌, arith}
+-- The one taker and the one writer of the hall over one stream.
+use Rattle.std.proofs.Common.{◌≡◌, ℕ, nat_lt, Some, List, [], ◌∷◌, length, get_or, refl, sym, ap, subst, ◌∙◌, arith}
+use Rattle.std.proofs.lemmas.Bool.Decides.{nat_tests}
 use Rattle.std.proofs.lemmas.List.Elements.{All-nil, All-cons}
 use Rattle.atomic_table.specs.Seated.{TableId}
+use Rattle.gpu_cmd.specs.Spans.{words_in}
 use Rattle.gpu_plan.specs.Plans.{PlansData, PlanData, plan_of, no_plan}
 use Rattle.flush_queue.specs.Seen.{EndData, fresh_end}
+use Rattle.result_words.specs.Seen.{ResultWriterData, writer_at}
+use Rattle.gpu_house.specs.Making.{AreFreshResults}
+use Rattle.gpu_house.specs.Names.{table_at}
 use Rattle.gpu_hall.specs.Takers.{AreFreshTakers}
 
 one_of : (plans : List PlanData) → length plans ≡ 1 → plans ≡ get_or plans 0 no_plan ∷ []
@@ -20,3 +25,17 @@ fresh_takers p words queues table taker one named queued is = record {
   queues_are = sym queued;
   none_taken = All-cons (λ (t : EndData). t.count ≡ 0) taker [] (ap (λ (t : EndData). t.count) is) (All-nil (λ (t : EndData). t.count ≡ 0));
 }
+
+-- a writer that has written nothing is fresh
+pub fresh_results : (p : PlansData) (tables : List TableId) (writer : ResultWriterData) → length p.plans ≡ 1 → tables ≡ writer.table ∷ [] → writer ≡ writer_at writer.table (words_in (plan_of p 1).areas.results)
+    → AreFreshResults (λ (w : ResultWriterData) (place : ℕ). nat_lt place w.places) (λ (w : ResultWriterData). Some w.written) (λ (w : ResultWriterData) (table : TableId). w.table ≡ table) (table_at tables) 1 p.plans (writer ∷ [])
+fresh_results p tables writer one named is =
+    let many = ap (λ (w : ResultWriterData). w.places) is in
+    subst (λ (plans : List PlanData). AreFreshResults (λ (w : ResultWriterData) (place : ℕ). nat_lt place w.places) (λ (w : ResultWriterData). Some w.written) (λ (w : ResultWriterData) (table : TableId). w.table ≡ table) (table_at tables) 1 plans (writer ∷ [])) (sym (one_of p.plans one)) (
+      record {
+        shared = sym (ap (λ (row : List TableId). table_at row 1) named);
+        takes_all = λ place few. grind (arith, nat_tests, many, few);
+        none_written = λ list told. grind (told, ap (λ (w : ResultWriterData). w.written) is);
+      },
+      tt,
+    )

@@ -16,14 +16,14 @@ ghost use Rattle.gpu_hall.specs.Outs.{NoneIsPaused, IsDoneOrGoesOn};
 ghost use Rattle.gpu_hall.specs.Commits.{Return, HasSteps, CameHome};
 ghost use Rattle.gpu_hall.specs.Laws.{GrowsBy};
 ghost use Rattle.gpu_hall.specs.Ready.{IsReadyRun};
+ghost use Rattle.gpu_hall.specs.Words.{AreWordsAt};
 ghost use Rattle.thread_parts.specs.Clients.{ThreadClientData, IsSameClient};
 ghost use Rattle.gpu_threads.specs.Clients.{IsClientOf};
 ghost use Rattle.thread_parts.specs.Acts.{HasGone, HasTried};
 ghost use Rattle.gpu_threads.specs.Turns.{HasStopped};
-ghost use Rattle.gpu_threads.specs.Words.{of_tables};
 
 use flush_queue::FlushQueue;
-use gpu_hall::{Hall, NamedSide};
+use gpu_hall::{FullPass, Hall};
 use gpu_house::{Batch, Closing, Naming, Run};
 use gpu_io::Gate;
 use gpu_threads::{Client, ClientTurn, Ground, client_turn};
@@ -33,7 +33,7 @@ use std::sync::{Mutex, MutexGuard, Wait};
 use wait_hooks::Hook;
 
 // A call that may be made of a hall alone of which the first half of the headline holds.
-fn wants_the_headline<N: Naming, P: NamedSide, H: Hook>(hall: &Hall<N, P, H>) -> u32
+fn wants_the_headline<N: Naming, H: Hook>(hall: &Hall<N, H>) -> u32
     requires legal { IsLegal N.plans hall.now.past }
     requires targets { HaveTargets N.plans hall.now.past }
     requires no_cycle { FormNoCycle N.plans hall.now.past }
@@ -45,7 +45,7 @@ fn wants_the_headline<N: Naming, P: NamedSide, H: Hook>(hall: &Hall<N, P, H>) ->
 }
 
 // Whoever gets the lock may make it.
-fn look<N: Naming, P: NamedSide, H: Hook, R: Wait>(rt: &R, hall: &Mutex<Hall<N, P, H>>) -> u32 {
+fn look<N: Naming, H: Hook, R: Wait>(rt: &R, hall: &Mutex<Hall<N, H>>) -> u32 {
     let hall = hall.lock(rt);
     hall.shows_laws();
     let count = wants_the_headline(&hall);
@@ -54,22 +54,22 @@ fn look<N: Naming, P: NamedSide, H: Hook, R: Wait>(rt: &R, hall: &Mutex<Hall<N, 
 }
 
 // Where the service keeps no wait, none is pending.
-fn none_waits<N: Naming, P: NamedSide, H: Hook>(hall: &Hall<N, P, H>) -> bool
+fn none_waits<N: Naming, H: Hook>(hall: &Hall<N, H>) -> bool
     ensures { IsTrue result → pending_in N.plans hall.now.past ≡ [] }
 {
     hall.waits(1).pending == 0
 }
 
 // A stream cannot run of whose first number the service keeps a wait.
-fn is_held<N: Naming, P: NamedSide, H: Hook>(hall: &Hall<N, P, H>, stream: u32) -> bool
+fn is_held<N: Naming, H: Hook>(hall: &Hall<N, H>, stream: u32) -> bool
     ensures { IsTrue result → is_runnable N.plans hall.now.past stream ≡ false }
 {
     hall.waits(stream).blocked
 }
 
 // The run that is taken is of the first number of its stream, by what the service keeps of waits.
-fn take_first<N: Naming, P: NamedSide, H: Hook>(hall: &mut Hall<N, P, H>) -> Option<Run<N, P>>
-    ensures { IfSome result (IsReadyRun P.side P.table P.mark P.note_of N.plans N.words N.books) }
+fn take_first<N: Naming, H: Hook>(hall: &mut Hall<N, H>) -> Option<Run<N, FullPass>>
+    ensures { IfSome result (IsReadyRun N.plans N.words N.books) }
 {
     let run = hall.take()?;
     let is_first = hall.waits(run.stream()).front == Some(run.order());
@@ -80,17 +80,16 @@ fn take_first<N: Naming, P: NamedSide, H: Hook>(hall: &mut Hall<N, P, H>) -> Opt
 // A commit takes nothing from the journal, and adds at most an event for each command, and one more where the run comes home. It
 // tells of what it adds that the commands are valid, that no wait of a run that goes on was kept, and by which error a stream is lost.
 #[tactic(auto, using(gpu_hall::proofs::Grown::steps_grow, gpu_hall::proofs::Grown::returns_grow))]
-fn commit_more<N: Naming, P: NamedSide, H: Hook>(
-    hall: &mut Hall<N, P, H>,
-    run: Run<N, P>,
-    words: &P::Words,
+fn commit_more<N: Naming, H: Hook>(
+    hall: &mut Hall<N, H>,
+    run: Run<N, FullPass>,
+    words: &(SharedWords, ResultWords),
     batch: Batch,
-) -> Option<Run<N, P>>
+) -> Option<Run<N, FullPass>>
     requires going { run.run.paused ≡ false }
     requires chained { AreChained run.run.facts batch }
-    requires list { drop run.run.facts.fetched (P.side run.side).fetched ≡ batch_words batch }
-    requires words { P.words_of words.now (table_at N.words run.run.stream)
-        (table_at N.result_words run.run.stream) }
+    requires list { drop run.run.facts.fetched run.side.pass.fetched ≡ batch_words batch }
+    requires words { AreWordsAt N.words N.result_words run.run.stream words.now }
     ensures goes { IfSome result (λ on. GrowsBy (length (member_words batch))
         hall.old.past hall.new.past) }
     ensures ends { IfNone result (GrowsBy (length (member_words batch) + 1)
@@ -104,7 +103,7 @@ fn commit_more<N: Naming, P: NamedSide, H: Hook>(
 }
 
 // It is too early to close a stream exactly where that is open and its client has not come to its Close.
-fn is_early<N: Naming, P: NamedSide, H: Hook>(hall: &mut Hall<N, P, H>, stream: u32) -> bool
+fn is_early<N: Naming, H: Hook>(hall: &mut Hall<N, H>, stream: u32) -> bool
     requires known { IsKnown (length N.plans.plans) stream }
     requires closes { is_closed (plan_of N.plans stream).actions ≡ true }
     ensures { IsTrue result ↔ ((is_open (standing_of N.plans hall.old.past stream) ≡ true)
@@ -114,15 +113,14 @@ fn is_early<N: Naming, P: NamedSide, H: Hook>(hall: &mut Hall<N, P, H>, stream: 
 }
 
 // A client that went on did one thing, and one that waits could not go on.
-fn turn_once<N: Naming, P: NamedSide, H: Hook, R: Wait, G: Gate>(
+fn turn_once<N: Naming, H: Hook, R: Wait, G: Gate>(
     rt: &R,
-    ground: &Ground<'_, N, P, H, G>,
+    ground: &Ground<'_, N, H, G>,
     own: &(SharedWords, ResultWords),
     client: Client,
 ) -> ClientTurn
     requires client { IsClientOf N.plans N.words N.result_words N.queues client }
-    requires own { of_tables own.now (table_at N.words client.stream)
-        (table_at N.result_words client.stream) }
+    requires own { AreWordsAt N.words N.result_words client.stream own.now }
     ensures went { (new : ThreadClientData) → result ≡ ClientTurn.Went new
         → IsSameClient client new × HasGone client new }
     ensures waits { (new : ThreadClientData) → result ≡ ClientTurn.Waiting new
@@ -134,7 +132,7 @@ fn turn_once<N: Naming, P: NamedSide, H: Hook, R: Wait, G: Gate>(
 }
 
 // The run that is taken is of the stream that comes before all others at home that can run. None is taken where none can run.
-fn takes_the_choice<N: Naming, P: NamedSide, H: Hook>(hall: &mut Hall<N, P, H>) -> Option<Run<N, P>>
+fn takes_the_choice<N: Naming, H: Hook>(hall: &mut Hall<N, H>) -> Option<Run<N, FullPass>>
     ensures chosen { IfSome result (λ out. choice_at_home N.plans hall.old.past
         (is_home hall.old.outs) ≡ Some out.run.stream) }
     ensures idle { IfNone result (choice_at_home N.plans hall.old.past
@@ -144,9 +142,9 @@ fn takes_the_choice<N: Naming, P: NamedSide, H: Hook>(hall: &mut Hall<N, P, H>) 
 }
 
 // Where a stream is not lost, as many events have come as flushes were taken.
-fn counts_what_comes<N: Naming, P: NamedSide, H: Hook, R: Wait>(
+fn counts_what_comes<N: Naming, H: Hook, R: Wait>(
     rt: &R,
-    hall: &mut Hall<N, P, H>,
+    hall: &mut Hall<N, H>,
     stream: u32,
     queue: &FlushQueue,
 ) -> u32

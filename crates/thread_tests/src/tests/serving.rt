@@ -1,7 +1,9 @@
 //! One turn of a worker, over a client that has posted both its flushes.
 ghost use Rattle.std.specs.Prelude.{◌≡◌, [], ◌∷◌, length, IfOk, OnOk};
+ghost use Rattle.gpu_cmd.specs.Spans.{words_in};
 ghost use Rattle.gpu_plan.specs.Plans.{plan_of};
 ghost use Rattle.shm_words.specs.Seen.{service_at};
+ghost use Rattle.result_words.specs.Seen.{writer_at};
 ghost use Rattle.flush_queue.specs.Clients.{HasPostedAll};
 ghost use Rattle.flush_queue.specs.Seen.{fresh_end};
 ghost use Rattle.house_core.specs.Core.{IsFresh};
@@ -10,12 +12,14 @@ ghost use Rattle.gpu_threads.specs.Rows.{AreShared};
 use super::scripts::{lines_of, plans_of};
 use flush_queue::{FlushQueue, Poster, Taker};
 use gpu_books::{Book, Half};
-use gpu_hall::{Hall, NamedSide};
+use gpu_cmd::words_in;
+use gpu_hall::{FullPass, Hall};
 use gpu_house::{House, Naming};
 use gpu_io::OpenGate;
 use gpu_plan::{Plan, Plans};
 use gpu_threads::{Ground, Turn, serve_turn};
-use shm_words::{Acted, ClientPass, ServicePass, SharedWords};
+use result_words::{ResultWords, ResultWriter};
+use shm_words::{Acted, ClientPass, SharedWords};
 use std::alloc::Global;
 use std::marker::Brand;
 use std::sync::{Mutex, Wait};
@@ -52,8 +56,9 @@ const TURNS: [(u32, Turn, &str); 3] = [
 /// The words and the queue of a stream, with what the service has of it.
 #[derive(Drop)]
 struct Posted {
-    words: SharedWords,
-    side: ServicePass,
+    words: (SharedWords, ResultWords),
+    side: FullPass,
+    results: ResultWriter,
     queue: FlushQueue,
     taker: Taker,
     book: (Book, Half, Half),
@@ -105,18 +110,23 @@ fn post_both<R: Wait>(
 
 // What the service has of a client that begins with two flushes and has posted them.
 fn both_posted<R: Wait>(rt: &R, alloc: Global, plan: &Plan) -> Result<Posted, Fail>
-    ensures side { IfOk result (λ made. made.side ≡ service_at made.words plan.now) }
+    ensures side { IfOk result (λ made. made.side.pass ≡ service_at made.words.0 plan.now) }
+    ensures results { IfOk result (λ made. made.results
+        ≡ writer_at made.words.1 (words_in plan.now.areas.results)) }
     ensures taker { IfOk result
-        (λ made. made.taker ≡ fresh_end made.queue made.words plan.now) }
+        (λ made. made.taker ≡ fresh_end made.queue made.words.0 plan.now) }
     ensures book { IfOk result (λ made. IsFresh made.book) }
 {
     let book = gpu_books::make(alloc)?;
     let (words, pass, side) = shm_words::make(alloc, plan)?;
     let (queue, poster, taker, pass) = flush_queue::make(rt, alloc, pass)?;
     post_both(rt, &words, &queue, pass, poster)?;
+    let places = words_in(&plan.areas().results) as u32;
+    let (result_words, results, _) = result_words::make(alloc, places)?;
     Ok(Posted {
-        words,
-        side,
+        words: (words, result_words),
+        side: FullPass { pass: side },
+        results,
         queue,
         taker,
         book,
@@ -136,20 +146,23 @@ fn one<T: Drop>(alloc: Global, thing: T) -> Result<Vec<T>, Fail>
 fn hall_over<N: Naming>(
     alloc: Global,
     plans: Plans,
-    side: ServicePass,
+    side: FullPass,
+    results: ResultWriter,
     taker: Taker,
     book: (Book, Half, Half),
-) -> Result<Hall<N, ServicePass, Marker>, Fail>
+) -> Result<Hall<N, Marker>, Fail>
     requires plans { plans ≡ N.plans }
     requires one { length plans.plans ≡ 1 }
     requires base { N.base ≡ 0 }
-    requires tables { (N.words ≡ side.table ∷ []) × (N.queues ≡ taker.queue ∷ []) }
+    requires tables { (N.words ≡ side.pass.table ∷ []) × (N.queues ≡ taker.queue ∷ []) }
     requires book { (N.books ≡ book.0 ∷ []) × IsFresh book }
-    requires side { side ≡ service_at side.table (plan_of plans 1) }
-    requires taker { taker ≡ fresh_end taker.queue side.table (plan_of plans 1) }
+    requires side { side.pass ≡ service_at side.pass.table (plan_of plans 1) }
+    requires results { (N.result_words ≡ results.table ∷ [])
+        × (results ≡ writer_at results.table (words_in (plan_of plans 1).areas.results)) }
+    requires taker { taker ≡ fresh_end taker.queue side.pass.table (plan_of plans 1) }
 {
     let takers = one(alloc, taker)?;
-    let results = one(alloc, ())?;
+    let results = one(alloc, results)?;
     let sides = one(alloc, side)?;
     let books = one(alloc, book)?;
     let house = House::make(alloc, plans, Marker::make(0), sides, results, books)?;
@@ -157,25 +170,25 @@ fn hall_over<N: Naming>(
 }
 
 // The lines that a hall leaves.
-fn lines_left<N: Naming, P: NamedSide, H: Hook, R: Wait>(
+fn lines_left<N: Naming, H: Hook, R: Wait>(
     rt: &R,
     alloc: Global,
-    hall: Hall<N, P, H>,
+    hall: Hall<N, H>,
 ) -> Result<Vec<u8>, Fail> {
     let report = hall.end(rt);
     lines_of(alloc, &report)
 }
 
 // What the last of a number of turns came to, and the lines that they leave.
-fn turns<N: Naming, P: NamedSide, H: Hook, R: Wait>(
+fn turns<N: Naming, H: Hook, R: Wait>(
     rt: &R,
     alloc: Global,
-    hall: Hall<N, P, H>,
-    words: &[P::Words],
+    hall: Hall<N, H>,
+    words: &[(SharedWords, ResultWords)],
     queues: &[FlushQueue],
     count: u32,
 ) -> Result<(Option<Turn>, Vec<u8>), Fail>
-    requires shared { AreShared P.words_of N.plans N.words N.result_words N.queues words.now queues.now }
+    requires shared { AreShared N.plans N.words N.result_words N.queues words.now queues.now }
 {
     let lock = Mutex::new(hall);
     let ground = Ground::new(&lock, words, queues, &OpenGate);
@@ -198,19 +211,22 @@ fn served<N: Naming, R: Wait>(
     requires plans { plans ≡ N.plans }
     requires one { length plans.plans ≡ 1 }
     requires base { N.base ≡ 0 }
-    requires tables { (N.words ≡ posted.words ∷ []) × (N.queues ≡ posted.queue ∷ []) }
+    requires tables { (N.words ≡ posted.words.0 ∷ []) × (N.queues ≡ posted.queue ∷ []) }
     requires book { (N.books ≡ posted.book.0 ∷ []) × IsFresh posted.book }
-    requires side { posted.side ≡ service_at posted.words (plan_of plans 1) }
-    requires taker { posted.taker ≡ fresh_end posted.queue posted.words (plan_of plans 1) }
+    requires side { posted.side.pass ≡ service_at posted.words.0 (plan_of plans 1) }
+    requires results { (N.result_words ≡ posted.words.1 ∷ []) × (posted.results
+        ≡ writer_at posted.words.1 (words_in (plan_of plans 1).areas.results)) }
+    requires taker { posted.taker ≡ fresh_end posted.queue posted.words.0 (plan_of plans 1) }
 {
     let Posted {
         words,
         side,
+        results,
         queue,
         taker,
         book,
     } = posted;
-    let hall = hall_over::<N>(alloc, plans, side, taker, book)?;
+    let hall = hall_over::<N>(alloc, plans, side, results, taker, book)?;
     turns(rt, alloc, hall, &[words], &[queue], count)
 }
 

@@ -6,5 +6,5 @@ abbrev pub invariant-loop : goal.invariant-loop
 invariant-loop g l = record {
   can_next : (goal.iterator-loop g).can_next l.iterator';
   is_finite : (goal.iterator-loop g).is_finite l.iterator';
-  ready : IfSome l.out (IsReadyRun g.P.ServiceSide.side g.P.ServiceSide.table g.P.ServiceSide.mark g.P.ServiceSide.note_of g.N.Naming.plans g.N.Naming.words g.N.Naming.books);
+  ready : IfSome l.out (IsReadyRun g.N.Naming.plans g.N.Naming.words g.N.Naming.books);
 }

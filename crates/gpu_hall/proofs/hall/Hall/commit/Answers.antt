@@ -4,8 +4,11 @@ use Rattle.std.proofs.lemmas.List.{length-map}
 use Rattle.std.proofs.lemmas.Option.{IfSome_then}
 use Rattle.atomic_table.specs.Seated.{TableId}
 use Rattle.live_view.specs.Seen.{WriterData}
+use Rattle.gpu_fetch.specs.Side.{SideData}
+use Rattle.gpu_fetch.specs.Shared.{side_of, IsNoteOf}
 use Rattle.gpu_fetch.specs.Fetched.{FetchedData}
 use Rattle.shm_words.specs.Seen.{NoteData}
+use Rattle.result_words.specs.Seen.{ResultWriterData}
 use Rattle.sync_core.specs.Standing.{is_open}
 use Rattle.gpu_journal.specs.declared.event.Event.TheVariants.{Finish, Lost}
 use Rattle.gpu_journal.specs.declared.event.Why.TheVariants.{Memory}
@@ -19,6 +22,7 @@ use Rattle.gpu_house.specs.Changes.{ResultsBelong}
 use Rattle.gpu_house.proofs.Places.{if_there}
 use Rattle.house_core.specs.Core.{with_out}
 use Rattle.house_core.specs.Desks.{Out, at_home}
+use Rattle.gpu_hall.specs.declared.full_pass.FullPass.{FullPass}
 use Rattle.gpu_hall.specs.Outs.{NoneIsPaused}
 use Rattle.gpu_hall.specs.Views.{ViewHasRoom, HasNoted, HallFits, view_front}
 use Rattle.gpu_hall.specs.Commits.{Return, HasSteps, CameHome}
@@ -67,41 +71,43 @@ returns-in-Err-clause-view g c =
 
 pub step_batch-answer-requires : goal.step_batch-answer-requires
 step_batch-answer-requires g c =
-    let S = g.P.ServiceSide in
-    let T = g.P.NamedSide in
-    let L = g.met.P.NamedSide in
     let run = c.args.run in
     let s = run.run.stream in
-    let w = c.args.words.now in
     let fit = c.shows_fit.ensures in
+    let own = c.requires.words.0 ∙ sym fit.shared in
     let kept = slice_get c.self.inside.house.results (s - 1) in
-    let own = subst (λ (t : TableId). T.words_of w t (table_at g.N.Naming.result_words s)) (sym fit.shared) c.requires.words in
     record {
       going = c.requires.going;
       chained = c.requires.chained;
       list = c.requires.list;
-      beside = L.beside run.side w _ own;
-      note = IfSome_then run.note fit.note_shared (λ n of. L.note_beside run.side w n _ own (subst (S.note_of n) (sym fit.shared) of));
-      results = IfSome_then kept (if_there (λ x. S.results_of x (table_at g.N.Naming.result_words s)) kept (c.shows_laws.ensures.results s fit.of_plans.known)) (λ x its. L.results_beside x w _ _ c.requires.words its);
+      beside = own;
+      note = IfSome_then run.note fit.note_shared (λ n of. (own, of ∙ sym fit.shared));
+      results = IfSome_then kept (if_there (λ (x : ResultWriterData). x.table ≡ table_at g.N.Naming.result_words s) kept (c.shows_laws.ensures.results s fit.of_plans.known)) (λ x its. c.requires.words.1 ∙ sym its);
     }
 
 -- ---- the batch was committed
+
+abbrev side : FullPass → SideData
+side full = side_of full.pass
+
+abbrev mark : NoteData → ℕ
+mark note = note.mark
 
 -- the house and the run before it and after it, how it was answered, and that the hall fits once what was drawn is noted
 module _ (g : Over) (c : After-step_batch-answer g) where
   abbrev members : List (List (ℕ × ℕ))
   members = member_words c.args.batch
 
-  abbrev old : Stage g.row.P.Denot NoteData g.row.P-Results.Denot
+  abbrev old : Stage FullPass NoteData ResultWriterData
   old = record { house = c.self.inside.house; out = c.args.run; drawn = c.new-drawn.result.items }
 
-  abbrev new : Stage g.row.P.Denot NoteData g.row.P-Results.Denot
+  abbrev new : Stage FullPass NoteData ResultWriterData
   new = record { house = c.step_batch-answer.new.self; out = c.step_batch-answer.new.run; drawn = c.step_batch-answer.new.drawn.items }
 
   none : old.drawn ≡ []
   none = c.new-drawn.ensures.items
 
-  did : Answers g.P.ServiceSide.side g.P.ServiceSide.mark g.N.Naming.plans old new members none c.step_batch-answer.result
+  did : Answers side mark g.N.Naming.plans old new members none c.step_batch-answer.result
   did = (c.step_batch-answer.ensures.commits, c.step_batch-answer.ensures.err)
 
   fit : (view : Option WriterData) → HasNoted new.drawn c.make_room.new.view view → HallFits g.N.Naming.plans g.N.Naming.words g.N.Naming.queues g.N.Naming.view new.house.core.past c.self.inside.takers.items view
@@ -109,18 +115,18 @@ module _ (g : Over) (c : After-step_batch-answer g) where
       let N = g.N.Naming in
       let takers = c.self.inside.takers.items in
       let roomy = fits_room N.plans N.words N.queues N.view takers old.house.core.past c.self.inside.view c.make_room.new.view c.make_room.ensures.same c.self.invariant.fits in
-      fits_batch g.P.ServiceSide.side g.P.ServiceSide.mark N.plans old new members none c.step_batch-answer.ensures.draws N.words N.queues N.view takers c.make_room.new.view view c.step_batch-answer.result did noted roomy
+      fits_batch side mark N.plans old new members none c.step_batch-answer.ensures.draws N.words N.queues N.view takers c.make_room.new.view view c.step_batch-answer.result did noted roomy
 
   -- the run that came home after some members, and after a batch that was answered
-  part_back : GoneInPart g.P.ServiceSide.side g.P.ServiceSide.mark g.N.Naming.plans old new members → (outs : List Out) → outs ≡ with_out new.house.core.outs new.out.run.stream at_home → outs ≡ with_out old.house.core.outs old.out.run.stream at_home
-  part_back part = back_part g.P.ServiceSide.side g.P.ServiceSide.mark g.N.Naming.plans old new members part
+  part_back : GoneInPart side mark g.N.Naming.plans old new members → (outs : List Out) → outs ≡ with_out new.house.core.outs new.out.run.stream at_home → outs ≡ with_out old.house.core.outs old.out.run.stream at_home
+  part_back part = back_part side mark g.N.Naming.plans old new members part
 
-  batch_back : (next : Next) → Commits g.P.ServiceSide.side g.P.ServiceSide.mark g.N.Naming.plans old new members next → (outs : List Out) → outs ≡ with_out new.house.core.outs new.out.run.stream at_home → outs ≡ with_out old.house.core.outs old.out.run.stream at_home
-  batch_back next done = back_committed g.P.ServiceSide.side g.P.ServiceSide.mark g.N.Naming.plans old new members next done
+  batch_back : (next : Next) → Commits side mark g.N.Naming.plans old new members next → (outs : List Out) → outs ≡ with_out new.house.core.outs new.out.run.stream at_home → outs ≡ with_out old.house.core.outs old.out.run.stream at_home
+  batch_back next done = back_committed side mark g.N.Naming.plans old new members next done
 
   -- the batch was answered so
-  answered : (said to : Next) → said ≡ to → Commits g.P.ServiceSide.side g.P.ServiceSide.mark g.N.Naming.plans old new members said → Commits g.P.ServiceSide.side g.P.ServiceSide.mark g.N.Naming.plans old new members to
-  answered said to is done = subst (Commits g.P.ServiceSide.side g.P.ServiceSide.mark g.N.Naming.plans old new members) is done
+  answered : (said to : Next) → said ≡ to → Commits side mark g.N.Naming.plans old new members said → Commits side mark g.N.Naming.plans old new members to
+  answered said to is done = subst (Commits side mark g.N.Naming.plans old new members) is done
 
   -- the view is seen as before
   view_back : (view : Option WriterData) → HasNoted new.drawn c.make_room.new.view view → option_map view_front view ≡ option_map view_front c.self.inside.view
@@ -132,9 +138,8 @@ module _ (g : Over) (c : After-step_batch-answer g) where
 
 pub note_all-requires-clause-room : goal.note_all-requires-clause-room
 note_all-requires-clause-room g c =
-    let S = g.P.ServiceSide in
     let b = (goal.at.note_all-requires-clause-room g c).After-step_batch-answer in
-    let few = few_ops S.side S.mark g.N.Naming.plans (old g b) (new g b) (members g b) (none g b) c.step_batch-answer.result (did g b) in
+    let few = few_ops side mark g.N.Naming.plans (old g b) (new g b) (members g b) (none g b) c.step_batch-answer.result (did g b) in
     let room : ViewHasRoom c.count.result c.make_room.new.view = c.in_default.ensures.room in
     let same = c.count.ensures.count in
     let many = length-map c.args.batch (λ (member : FetchedData). member.words) in
@@ -142,9 +147,8 @@ note_all-requires-clause-room g c =
 
 pub note_all-requires-clause-texels : goal.note_all-requires-clause-texels
 note_all-requires-clause-texels g c =
-    let S = g.P.ServiceSide in
     let b = (goal.at.note_all-requires-clause-texels g c).After-step_batch-answer in
-    whole_texels S.side S.mark g.N.Naming.plans (old g b) (new g b) (members g b) (none g b) c.step_batch-answer.ensures.draws
+    whole_texels side mark g.N.Naming.plans (old g b) (new g b) (members g b) (none g b) c.step_batch-answer.ensures.draws
 
 -- ---- memory was wanted for a step
 
@@ -162,11 +166,10 @@ invariant_of-self-in-Err-answer g c =
 pub returns-in-Err-answer-clause-home : goal.returns-in-Err-answer-clause-home
 returns-in-Err-answer-clause-home g c =
     let N = g.N.Naming in
-    let S = g.P.ServiceSide in
     let run = c.args.run.run in
     let b = (goal.at.returns-in-Err-answer-clause-home g c).After-step_batch-answer in
     subst (λ (d : HallData). (how : Return) × CameHome N.plans d.past c.lose-in-Err-answer.new.self.core.past run.stream run.order (members g b) how) c.self.view_is
-    (was_wanted S.side S.mark N.plans (old g b) (new g b) (members g b) c.lose-in-Err-answer.new.self.core.past c.in-Err-answer.ensures.err c.lose-in-Err-answer.ensures.event c.lose-in-Err-answer.ensures.over)
+    (was_wanted side mark N.plans (old g b) (new g b) (members g b) c.lose-in-Err-answer.new.self.core.past c.in-Err-answer.ensures.err c.lose-in-Err-answer.ensures.event c.lose-in-Err-answer.ensures.over)
 
 pub returns-in-Err-answer-clause-back : goal.returns-in-Err-answer-clause-back
 returns-in-Err-answer-clause-back g c =
@@ -222,17 +225,15 @@ returns-in-More-clause-view g c =
 
 pub finish-requires : goal.finish-requires
 finish-requires g c =
-    let S = g.P.ServiceSide in
     let b = (goal.at.finish-requires g c).After-step_batch-answer in
     let keeps = c.step_batch-answer.ensures.keeps in
     let done = answered g b c.in-Ok.next next.FlushEnd c.in-FlushEnd.is c.in-Ok.ensures.commits in
-    let w = c.args.words.now in
     record {
       end = c.in-Ok.ensures.end.0 c.in-FlushEnd.is;
       going = done.moved.paused;
       belongs = keeps.still.beside;
-      note = subst (λ (note : Option NoteData). IfSome note (S.note_belongs (new g b).out.side w)) (sym done.met) tt;
-      results = subst (ResultsBelong S.results_belong w (new g b).house.results) (sym done.moved.stream) keeps.results.belong;
+      note = subst (λ (note : Option NoteData). IfSome note (IsNoteOf (new g b).out.side.pass c.args.words.now.0)) (sym done.met) tt;
+      results = subst (ResultsBelong (λ (words : TableId × TableId) (x : ResultWriterData). words.1 ≡ x.table) c.args.words.now (new g b).house.results) (sym done.moved.stream) keeps.results.belong;
     }
 
 pub invariant_of-self-in-FlushEnd : goal.invariant_of-self-in-FlushEnd
@@ -249,12 +250,11 @@ invariant_of-self-in-FlushEnd g c =
 pub returns-in-FlushEnd-clause-home : goal.returns-in-FlushEnd-clause-home
 returns-in-FlushEnd-clause-home g c =
     let N = g.N.Naming in
-    let S = g.P.ServiceSide in
     let run = c.args.run.run in
     let b = (goal.at.returns-in-FlushEnd-clause-home g c).After-step_batch-answer in
     let done = answered g b c.in-Ok.next next.FlushEnd c.in-FlushEnd.is c.in-Ok.ensures.commits in
     subst (λ (d : HallData). (how : Return) × CameHome N.plans d.past c.finish.new.self.core.past run.stream run.order (members g b) how) c.self.view_is
-    (was_ended S.side S.mark N.plans (old g b) (new g b) (members g b) c.finish.new.self.core.past done c.finish.ensures.event)
+    (was_ended side mark N.plans (old g b) (new g b) (members g b) c.finish.new.self.core.past done c.finish.ensures.event)
 
 pub returns-in-FlushEnd-clause-back : goal.returns-in-FlushEnd-clause-back
 returns-in-FlushEnd-clause-back g c =
@@ -270,9 +270,8 @@ returns-in-FlushEnd-clause-view g c =
 
 pub back-requires : goal.back-requires
 back-requires g c =
-    let S = g.P.ServiceSide in
     let b = (goal.at.back-requires g c).After-step_batch-answer in
-    record { list = may_come_back S.side S.mark g.N.Naming.plans (old g b) (new g b) (members g b) c.in-Ok.next c.in-Ok.ensures.commits c.in-Ok.ensures.ready }
+    record { list = may_come_back side mark g.N.Naming.plans (old g b) (new g b) (members g b) c.in-Ok.next c.in-Ok.ensures.commits c.in-Ok.ensures.ready }
 
 pub invariant_of-self-in_default-next : goal.invariant_of-self-in_default-next
 invariant_of-self-in_default-next g c =
@@ -286,11 +285,10 @@ invariant_of-self-in_default-next g c =
 pub returns-in_default-next-clause-home : goal.returns-in_default-next-clause-home
 returns-in_default-next-clause-home g c =
     let N = g.N.Naming in
-    let S = g.P.ServiceSide in
     let run = c.args.run.run in
     let b = (goal.at.returns-in_default-next-clause-home g c).After-step_batch-answer in
     subst (λ (d : HallData). (how : Return) × CameHome N.plans d.past c.back.new.self.core.past run.stream run.order (members g b) how) c.self.view_is
-    (came_back S.side S.mark N.plans (old g b) (new g b) (members g b) c.in-Ok.next c.back.new.self.core.past c.in_default-next.not-More c.in_default-next.not-FlushEnd c.back.ensures.past c.in-Ok.ensures.commits)
+    (came_back side mark N.plans (old g b) (new g b) (members g b) c.in-Ok.next c.back.new.self.core.past c.in_default-next.not-More c.in_default-next.not-FlushEnd c.back.ensures.past c.in-Ok.ensures.commits)
 
 pub returns-in_default-next-clause-back : goal.returns-in_default-next-clause-back
 returns-in_default-next-clause-back g c =

@@ -1,7 +1,7 @@
-use Rattle.std.proofs.Common.{◌-◌, refl, sym, subst}
+use Rattle.std.proofs.Common.{◌≡◌, ◌-◌, refl, sym, ◌∙◌}
 use Rattle.std.specs.Prelude.{slice_get}
 use Rattle.std.proofs.lemmas.Option.{IfSome_then}
-use Rattle.atomic_table.specs.Seated.{TableId}
+use Rattle.result_words.specs.Seen.{ResultWriterData}
 use Rattle.sync_core.specs.Standing.{is_open}
 use Rattle.gpu_journal.specs.declared.event.Event.TheVariants.{Finish}
 use Rattle.gpu_journal.specs.Waits.{standing_of}
@@ -24,20 +24,15 @@ invariant_of-self g c =
 
 pub finish-requires : goal.finish-requires
 finish-requires g c =
-    let S = g.P.ServiceSide in
-    let T = g.P.NamedSide in
-    let L = g.met.P.NamedSide in
-    let N = g.N.Naming in
     let run = c.args.run in
     let s = run.run.stream in
-    let w = c.args.words.now in
     let fit = c.shows_fit.ensures in
+    let own = c.requires.words.0 ∙ sym fit.shared in
     let kept = slice_get c.self.inside.house.results (s - 1) in
-    let own = subst (λ (t : TableId). T.words_of w t (table_at N.result_words s)) (sym fit.shared) c.requires.words in
     record {
       end = c.requires.end;
       going = c.requires.going;
-      belongs = L.beside run.side w _ own;
-      note = IfSome_then run.note fit.note_shared (λ n of. L.note_beside run.side w n _ own (subst (S.note_of n) (sym fit.shared) of));
-      results = IfSome_then kept (if_there (λ x. S.results_of x (table_at g.N.Naming.result_words s)) kept (c.shows_laws.ensures.results s fit.of_plans.known)) (λ x its. L.results_beside x w _ _ c.requires.words its);
+      belongs = own;
+      note = IfSome_then run.note fit.note_shared (λ n of. (own, of ∙ sym fit.shared));
+      results = IfSome_then kept (if_there (λ (x : ResultWriterData). x.table ≡ table_at g.N.Naming.result_words s) kept (c.shows_laws.ensures.results s fit.of_plans.known)) (λ x its. c.requires.words.1 ∙ sym its);
     }

@@ -3,7 +3,6 @@ ghost use Rattle.std.specs.Prelude.{◌≡◌};
 ghost use Rattle.gpu_fetch.specs.Shared.{side_of, IsPassOf, IsNoteOf};
 
 use gpu_fetch::ServiceSide;
-use gpu_hall::NamedSide;
 use gpu_word::Memory;
 use result_words::{ResultReader, ResultWords, ResultWriter};
 use shm_words::{Note, ServicePass, SharedWords};
@@ -96,23 +95,4 @@ impl ServiceSide for FullPass {
     }
 
     ghost without_note = { λ s w n h. h.0 };
-}
-
-impl NamedSide for FullPass {
-    ghost use Rattle.std.proofs.Common.{refl, sym, ◌∙◌};
-    ghost use Rattle.gpu_threads.specs.Words.{of_tables};
-
-    ghost words_of = { of_tables };
-
-    ghost marked = { λ n. refl };
-
-    ghost noted = { λ n. refl };
-
-    ghost beside = { λ s w r is. is.0 };
-
-    ghost note_beside = { λ s w n r is of. (is.0, of) };
-
-    ghost results_beside = { λ x w t r is of. is.1 ∙ sym of };
-
-    ghost reader_beside = { λ x w t r is of. is.1 ∙ sym of };
 }
