@@ -4,3 +4,4 @@ pub mod Lengths
 pub mod Rows
 pub mod Telling
 pub mod Others
+pub mod Parts

@@ -5,4 +5,5 @@ pub mod Lines
 pub mod Appended
 pub mod Sheet
 pub mod Output
+pub mod Parts
 pub mod Laws

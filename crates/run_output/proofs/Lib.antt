@@ -2,4 +2,3 @@ pub mod Appending
 pub mod Pieces
 pub mod Rooms
 pub mod Texts
-pub mod Parts

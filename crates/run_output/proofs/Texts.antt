@@ -1,5 +1,5 @@
 -- The texts of the parts of the output.
-use Rattle.std.proofs.Common.{◌≡◌, ℕ, zero, suc, List, [], ◌∷◌, ◌++◌, ◌+◌, ◌<◌, Option, Some, map, length, get_or, sym, ap, ◌∙◌, refl, arith, append_assoc}
+use Rattle.std.proofs.Common.{◌≡◌, ℕ, zero, suc, List, [], ◌∷◌, ◌++◌, ◌+◌, ◌<◌, Option, map, length, get_or, sym, ap, ◌∙◌, refl, arith, append_assoc}
 use Rattle.std.proofs.lemmas.Bool.{ne_eqb}
 use Rattle.std.specs.Prelude.{◌≢◌, slice_index_or, Vec}
 use Rattle.std.specs.declared.alloc.Global.{Global}
@@ -7,53 +7,32 @@ use Rattle.std.specs.List.{concat, flat_map, range_with_len}
 use Rattle.std.proofs.lemmas.List.{get_or-map, length-map, append-nil}
 use Rattle.std.proofs.lemmas.List.Folds.{flat_map-map}
 use Rattle.std.proofs.lemmas.List.FromFn.{length-range_with_len}
-use Rattle.gpu_store.specs.Picture.{Picture, texel_row}
+use Rattle.gpu_store.specs.Picture.{Picture}
 use Rattle.gpu_store.specs.Images.{Pictures, picture_of}
 use Rattle.gpu_store.proofs.Lookups.{Stands}
 use Rattle.gpu_journal.specs.Dumps.{dumps_of}
-use Rattle.journal_text.specs.Picture.{head_text as image_head, row_text, image_text, picture_text}
+use Rattle.journal_text.specs.Picture.{image_text, picture_text}
 use Rattle.gpu_run.specs.Dumps.{dump_read, dumps_read, all_dumps}
-use Rattle.gpu_plan.specs.Plans.{PlansData, plan_of}
+use Rattle.gpu_plan.specs.Plans.{PlansData}
 use Rattle.live_view.specs.declared.look.Look.{Look}
 use Rattle.wait_hooks.specs.Marks.{mark}
 use Rattle.gpu_journal.specs.declared.event.Event.{Event}
-use Rattle.gpu_journal.specs.World.{state_of}
-use Rattle.gpu_journal.specs.Waits.{endings_in}
-use Rattle.gpu_journal.specs.Ended.{streams_of, end_of}
-use Rattle.journal_text.specs.Text.{event_text, journal_text, tally_of, stream_text}
-use Rattle.journal_text.specs.Lines.{journal_head, name_text, mark_text}
-use Rattle.journal_text.specs.Output.{head_lines, stream_lines, mark_lines, output, dump_line, dump_lines}
+use Rattle.gpu_journal.specs.Ended.{streams_of}
+use Rattle.journal_text.specs.Output.{head_lines, output, dump_line, dump_lines}
 use Rattle.run_output.specs.declared.output.Section.{Section}
 use Rattle.run_output.specs.declared.output.Section.TheVariants.{Names, Journal, Images, Streams, Marks, Dumps, Looks}
 use Rattle.run_output.specs.Runs.{OutputData, section_text, behind_text, run_text}
-use Rattle.run_output.specs.Parts.{heads, lines_of_streams, marks, image_lines, dump_read_text, dump_texts, look_text, view_texts}
-
--- the text of each item is that of all of them
-pub concat-map : {A : Type 0} (f : A → List ℕ) (xs : List A) → concat (map f xs) ≡ flat_map f xs
-concat-map f [] = refl
-concat-map f (x ∷ xs) = ap (λ (r : List ℕ). f x ++ r) (concat-map f xs)
+use Rattle.journal_text.specs.Parts.{heads, image_lines}
+use Rattle.journal_text.proofs.Parts.{concat-map, names_text, image_whole}
+use Rattle.run_output.specs.Parts.{dump_read_text, dump_texts, look_text, view_texts}
 
 pub head_text : (p : PlansData) → p.version ≡ 2 → concat (heads p) ≡ head_lines p
-head_text p two = rw two (ap (λ (r : List ℕ). journal_head ++ r) (concat-map (λ (s : ℕ). name_text s (plan_of p s).name) (streams_of p)))
+head_text p two = rw two (names_text p)
 
 pub no_head : (p : PlansData) → p.version ≢ 2 → head_lines p ≡ []
 no_head p other = rw (ne_eqb p.version 2 other) refl
 
-pub event_lines_text : (events : List Event) → concat (map event_text events) ≡ journal_text events
-unfolding journal_text
-event_lines_text events = concat-map event_text events
-
-pub streams_text : (p : PlansData) (h : List Event) → concat (lines_of_streams p h) ≡ stream_lines p h
-streams_text p h = concat-map (λ (s : ℕ). stream_text s (tally_of (state_of p h s)) (end_of h s)) (streams_of p)
-
-pub marks_text : (p : PlansData) (base : ℕ) (h : List Event) → concat (marks p base h) ≡ mark_lines p (mark base) h
-marks_text p base h = concat-map (λ ending. mark_text ending (mark base ending)) (endings_in p h)
-
 -- ---- images
-
-shown : (picture : Picture) (image : ℕ) → concat (image_lines image (Some picture)) ≡ image_text (image, picture)
-unfolding image_text
-shown picture image = ap (λ (r : List ℕ). image_head image picture.width picture.height ++ r) (concat-map (λ (y : ℕ). row_text (texel_row picture y)) (range_with_len 0 picture.height))
 
 no_entry : ℕ × Picture
 no_entry = (0, record { width = 0; height = 0; texels = [] })
@@ -62,7 +41,7 @@ no_entry = (0, record { width = 0; height = 0; texels = [] })
 pub image_shown : (images : Pictures) (index image : ℕ) → Stands images index image → concat (image_lines image (picture_of images image)) ≡ slice_index_or (map image_text images) index []
 image_shown images index image stands =
     ap (λ (o : Option Picture). concat (image_lines image o)) stands.shown
-    ∙ shown stands.entry.1 image
+    ∙ image_whole (image, stands.entry.1)
     ∙ ap (λ n. image_text (n, stands.entry.1)) stands.same
     ∙ ap image_text (sym stands.there)
     ∙ sym (get_or-map image_text images index _ [] stands.within)

@@ -1,8 +1,7 @@
 ghost use Rattle.std.specs.Prelude.{map};
 ghost use Rattle.run_output.specs.Parts.{dump_read_text};
 
-use crate::lines::Lines;
-use journal_text::Sheet;
+use journal_text::{Lines, Sheet};
 
 /// A line for each dump of a stream that its client has read: action place, result place and value.
 #[derive(Drop)]

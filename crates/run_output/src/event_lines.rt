@@ -3,10 +3,9 @@ ghost use Rattle.std.specs.List.{All};
 ghost use Rattle.journal_text.specs.Text.{event_text};
 ghost use Rattle.run_output.specs.Parts.{LineHasRoom};
 
-use crate::lines::Lines;
 use crate::outcome::Outcome;
 use gpu_journal::Journal;
-use journal_text::Sheet;
+use journal_text::{Lines, Sheet};
 
 /// The journal: a line for each event, in their order.
 #[derive(Drop)]

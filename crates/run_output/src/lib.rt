@@ -14,17 +14,12 @@
 
 mod dump_lines;
 mod event_lines;
-mod image_lines;
-mod lines;
 mod look_lines;
-mod mark_lines;
-mod name_lines;
 mod outcome;
 mod output;
 mod page;
 mod picture_output;
 mod run;
-mod stream_lines;
 mod writing;
 
 pub use picture_output::PictureOutput;

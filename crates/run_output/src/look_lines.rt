@@ -1,8 +1,7 @@
 ghost use Rattle.std.specs.Prelude.{map};
 ghost use Rattle.run_output.specs.Parts.{look_text};
 
-use crate::lines::Lines;
-use journal_text::Sheet;
+use journal_text::{Lines, Sheet};
 use live_view::Look;
 
 /// A line for each look of a viewer: its number of events, and its sum.

@@ -6,13 +6,17 @@ ghost use Rattle.gpu_plan.specs.declared.adding.TheConstants.{MOST_STREAMS};
 
 use gpu_house::Report;
 use gpu_journal::End;
+use gpu_plan::Plans;
 use gpu_word::Memory;
+use journal_text::Ended;
 use journal_verify::ends_of;
 use live_view::{Look, MOST_VIEWERS};
 use result_words::Dumps;
 use serial_laws::plans_are_lawful;
 use std::alloc::Global;
 use std::marker::Model;
+use stream_state::StreamState;
+use sync_core::Ending;
 
 // How each stream of a run ended.
 fn ends_in(alloc: Global, report: &Report) -> Result<Vec<End>, Memory>
@@ -104,11 +108,32 @@ impl Outcome {
     {
         &self.looks
     }
+}
 
-    /// How each stream ended.
-    pub(crate) fn ends(&self) -> &[End]
-        ensures { result.now ≡ map (end_of self.now.report.past) (streams_of self.now.report.plans) }
-    {
+impl Ended for Outcome {
+    ghost plans = { λ run. run.report.plans };
+
+    ghost base = { λ run. run.report.base };
+
+    ghost past = { λ run. run.report.past };
+
+    fn plans(&self) -> &Plans {
+        self.report.plans()
+    }
+
+    fn stream(&self, stream: u32) -> &StreamState {
+        self.report.stream(stream)
+    }
+
+    fn ends(&self) -> &[End] {
         &self.ends
+    }
+
+    fn endings(&self) -> &[Ending] {
+        self.report.endings()
+    }
+
+    fn mark(&self, index: usize) -> u32 {
+        self.report.marks()[index]
     }
 }

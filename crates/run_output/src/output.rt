@@ -9,16 +9,13 @@ ghost use Rattle.gpu_plan.specs.declared.adding.TheConstants.{MOST_STREAMS};
 
 use crate::dump_lines::DumpLines;
 use crate::event_lines::EventLines;
-use crate::image_lines::ImageLines;
 use crate::look_lines::LookLines;
-use crate::mark_lines::MarkLines;
-use crate::name_lines::NameLines;
 use crate::outcome::Outcome;
 use crate::page::Page;
-use crate::stream_lines::StreamLines;
 use gpu_io::{Failed, Sink};
 use gpu_plan::Plans;
 use gpu_store::Images;
+use journal_text::{ImageLines, MarkLines, NameLines, StreamLines};
 use live_view::{Look, MOST_VIEWERS};
 use result_words::Dumps;
 
@@ -112,7 +109,7 @@ fn put_looks<K: Sink>(page: &mut Page, sink: &mut K, looks: &[Vec<Look>]) -> Res
 }
 
 // Puts a section of the output of a run.
-#[tactic(auto, using(crate::proofs::Texts::event_lines_text, crate::proofs::Texts::streams_text, crate::proofs::Texts::marks_text))]
+#[tactic(auto, using(journal_text::proofs::Parts::events_text, journal_text::proofs::Parts::streams_text, journal_text::proofs::Parts::marks_text))]
 fn put_section<K: Sink>(
     page: &mut Page,
     sink: &mut K,
@@ -128,7 +125,7 @@ fn put_section<K: Sink>(
         Section::Journal => page.put_all(sink, &EventLines::of(run)),
         Section::Images => put_images(page, sink, report.images()),
         Section::Streams => page.put_all(sink, &StreamLines::of(run)),
-        Section::Marks => page.put_all(sink, &MarkLines { report }),
+        Section::Marks => page.put_all(sink, &MarkLines::of(run)),
         Section::Dumps => put_dumps(page, sink, run.dumps()),
         Section::Looks => put_looks(page, sink, run.looks()),
     }

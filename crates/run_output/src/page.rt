@@ -3,11 +3,10 @@ ghost use Rattle.std.specs.List.{concat};
 ghost use Rattle.run_output.specs.Page.{blank_page};
 ghost use Rattle.run_output.specs.Pieces.{Adds, Puts};
 
-use crate::lines::Lines;
 use crate::writing::write_all;
 use gpu_io::{Failed, Sink};
 use gpu_word::Memory;
-use journal_text::{MOST_LINE, Sheet};
+use journal_text::{Lines, MOST_LINE, Sheet};
 use std::alloc::Global;
 use std::marker::Model;
 

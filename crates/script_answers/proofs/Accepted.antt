@@ -10,15 +10,15 @@ use Rattle.gpu_store.specs.Images.{Pictures}
 use Rattle.script_lines.specs.declared.fault.Kind.{Kind}
 use Rattle.gpu_plan.specs.Plans.{PlansData}
 use Rattle.wait_hooks.specs.Marks.{mark}
-use Rattle.sync_core.specs.declared.ending.Ending.{Ending}
 use Rattle.gpu_journal.specs.declared.event.Event.{Event}
-use Rattle.gpu_journal.specs.World.{state_of, replay}
-use Rattle.gpu_journal.specs.Waits.{endings_in}
-use Rattle.gpu_journal.specs.Ended.{streams_of, end_of}
+use Rattle.gpu_journal.specs.World.{replay}
+use Rattle.gpu_journal.specs.Ended.{streams_of}
 use Rattle.journal_text.specs.Picture.{picture_text}
-use Rattle.journal_text.specs.Text.{event_text, journal_text, tally_of, stream_text}
-use Rattle.journal_text.specs.Lines.{mark_text, view_text}
+use Rattle.journal_text.specs.Text.{event_text, journal_text}
+use Rattle.journal_text.specs.Lines.{view_text}
 use Rattle.journal_text.specs.Output.{output}
+use Rattle.journal_text.specs.Parts.{lines_of_streams, lines_of_marks}
+use Rattle.journal_text.proofs.Parts.{concat-map, events_text, streams_text, marks_text}
 use Rattle.serial_laws.specs.Scripts.{AreLawfulPlans}
 use Rattle.script_laws.proofs.Scripts.{scripts_are_lawful}
 use Rattle.script_laws.proofs.Outputs.{behind_journal, output_flat}
@@ -27,18 +27,17 @@ use Rattle.verify_input.specs.Reading.{HasNumbersOfWords, whole_lines}
 use Rattle.verify_input.specs.Cuts.{IsLine}
 use Rattle.verify_input.specs.Parts.{script_part}
 use Rattle.verify_input.specs.Found.{script_in, head_of}
-use Rattle.verify_input.specs.Due.{Look, LastLook, picture_lines, end_lines, ending_lines, dumps_due, looks_due, dues, AreTakenOff, AreDue}
+use Rattle.verify_input.specs.Due.{Look, LastLook, picture_lines, dumps_due, looks_due, dues, AreTakenOff, AreDue}
 use Rattle.verify_input.specs.Whole.{IsRightWhole, FindsWhole}
 use Rattle.verify_input.specs.declared.finding.Finding.TheVariants.{Yes}
 use Rattle.verify_input.proofs.Wholly.{output_lines}
 use Rattle.verify_input.proofs.Yeses.{right_so}
 use Rattle.verify_input.proofs.Feeds.{view_line}
 use Rattle.verify_input.proofs.Labels.{Ends, IsView, view_ends, view_own, all_lines}
-use Rattle.verify_input.proofs.Offered.{Offered, stops_all, offered_none, offered_both, all_dumps_offered, whole_concat, events_text, event_lines, tells_of, heads_are, all_due, all_are, all_stop, all_viewers}
+use Rattle.verify_input.proofs.Offered.{Offered, stops_all, offered_none, offered_both, all_dumps_offered, whole_concat, event_lines, tells_of, heads_are, all_due, all_are, all_stop, all_viewers}
 use Rattle.live_view.specs.declared.look.Look as look
 use Rattle.gpu_hall.specs.Looks.{IsLookOf, AreViewerLooks}
 use Rattle.run_output.specs.Parts.{look_text}
-use Rattle.run_output.proofs.Texts.{concat-map}
 use Rattle.script_answers.specs.Runs.{view_lines, IsViewedRun}
 use Rattle.script_answers.specs.Says.{output_in, yes_line}
 use Rattle.script_answers.specs.Laws.{RunIsJudgedWhole, WholeYesIsYes}
@@ -110,15 +109,14 @@ module _ (p : PlansData) (base viewers : ℕ) (events : List Event) (written : L
       let h = reverse events in
       let d = own_dumps in
       let v = own_views in
-      let others = picture_lines p h ++ (end_lines p h ++ (ending_lines p base h ++ (d.own ++ v.own))) in
+      let others = picture_lines p h ++ (lines_of_streams p h ++ (lines_of_marks p base h ++ (d.own ++ v.own))) in
       let front = map event_text events in
       let all = head_of p ++ (front ++ others) in
       let front_text : concat front ≡ journal_text (reverse h) = events_text events ∙ ap journal_text (sym (reverse-reverse events)) in
       let others_text : concat others ≡ behind_journal p (mark base) h (printed.ran.dumps ++ printed.ran.views) =
-      concat_five (picture_lines p h) (end_lines p h) (ending_lines p base h) d.own v.own
+      concat_five (picture_lines p h) (lines_of_streams p h) (lines_of_marks p base h) d.own v.own
       ∙ (λ i. pictures_text (replay p h) i
-      ++ (concat-map (λ (s : ℕ). stream_text s (tally_of (state_of p h s)) (end_of h s)) (streams_of p) i
-      ++ (concat-map (λ (ending : Ending). mark_text ending (mark base ending)) (endings_in p h) i ++ (sym d.are i ++ sym v.are i)))) in
+      ++ (streams_text p h i ++ (marks_text p base h i ++ (sym d.are i ++ sym v.are i)))) in
       let rest_text : concat (front ++ others) ≡ journal_text (reverse h) ++ behind_journal p (mark base) h (printed.ran.dumps ++ printed.ran.views) = concat-append front others ∙ (λ j. front_text j ++ others_text j) in
       let text : written ≡ concat all =
       printed.told ∙ ap (λ (b : List ℕ). output p (mark base) h ++ b) printed.ran.are

@@ -1,34 +1,32 @@
 -- A whole output that is found to be right is that of a run on threads.
-use Rattle.std.proofs.Common.{◌≡◌, ℕ, zero, suc, ◌+◌, ◌<◌, ◌≤◌, Bool, true, false, cond, List, [], ◌∷◌, ◌++◌, length, map, replicate, get_or, reverse, Option, Some, refl, sym, ap, subst, ◌∙◌, append_assoc, arith}
+use Rattle.std.proofs.Common.{◌≡◌, ℕ, zero, suc, ◌+◌, ◌<◌, ◌≤◌, Bool, true, false, cond, List, [], ◌∷◌, ◌++◌, length, replicate, get_or, reverse, Option, Some, refl, sym, ap, subst, ◌∙◌, append_assoc, arith}
 use Rattle.std.specs.Prelude.{◌==◌, option_map, slice_get}
 use Rattle.std.specs.List.{All, concat, flat_map, range_with_len}
 use Rattle.std.specs.List.Sorted.{IsNonDecreasingBy}
 use Rattle.std.proofs.lemmas.List.{append-nil, reverse-reverse, length-reverse}
 use Rattle.std.proofs.lemmas.List.Elements.{All-nil, All-cons}
 use Rattle.std.proofs.lemmas.List.Folds.{concat-append}
-use Rattle.gpu_store.specs.Picture.{Picture, texel_row}
 use Rattle.gpu_store.specs.Images.{Pictures}
 use Rattle.gpu_plan.specs.Plans.{PlansData, plan_of}
 use Rattle.wait_hooks.specs.Marks.{mark}
-use Rattle.sync_core.specs.declared.ending.Ending.{Ending}
 use Rattle.gpu_journal.specs.declared.event.Event.{Event}
-use Rattle.gpu_journal.specs.World.{state_of, replay}
-use Rattle.gpu_journal.specs.Waits.{endings_in}
-use Rattle.gpu_journal.specs.Ended.{streams_of, end_of}
-use Rattle.journal_text.specs.Text.{journal_text, tally_of, stream_text}
-use Rattle.journal_text.specs.Picture.{head_text, row_text, image_text, picture_text}
-use Rattle.journal_text.specs.Lines.{journal_head, name_text, mark_text}
+use Rattle.gpu_journal.specs.World.{replay}
+use Rattle.gpu_journal.specs.Ended.{streams_of}
+use Rattle.journal_text.specs.Text.{journal_text}
+use Rattle.journal_text.specs.Picture.{image_text, picture_text}
+use Rattle.journal_text.specs.Lines.{journal_head, name_text}
 use Rattle.journal_text.specs.Output.{head_lines, output}
+use Rattle.journal_text.specs.Parts.{heads, lines_of_streams, lines_of_marks}
+use Rattle.journal_text.proofs.Parts.{names_text, image_whole, streams_text, marks_text}
 use Rattle.journal_verify.specs.Followed.{sum_after}
 use Rattle.verify_input.specs.Found.{head_of}
-use Rattle.verify_input.specs.Due.{Look, LastLook, lines_of_image, picture_lines, end_lines, ending_lines, looks_due, AreTakenOff, viewers_in}
+use Rattle.verify_input.specs.Due.{Look, LastLook, lines_of_image, picture_lines, looks_due, AreTakenOff, viewers_in}
 use Rattle.verify_input.specs.Whole.{TellsAll, IsRightWhole}
 use Rattle.verify_input.proofs.Wholly.{told_text}
 use Rattle.verify_input.proofs.Outputs.{Parted, taken_parts, all_parted}
 use Rattle.live_view.specs.declared.look.Look as look
 use Rattle.gpu_hall.specs.Looks.{IsLookOf, AreViewerLooks}
 use Rattle.run_output.specs.Parts.{look_text}
-use Rattle.run_output.proofs.Texts.{concat-map}
 use Rattle.script_laws.proofs.Outputs.{behind_journal, output_flat}
 use Rattle.script_answers.specs.Runs.{view_lines, run_ending}
 use Rattle.script_answers.specs.Says.{yes_line, IsJudgedWhole}
@@ -36,13 +34,9 @@ use Rattle.script_answers.proofs.Endings.{none_lost}
 
 -- ---- the lines of each part are its text
 
-entry_text : (entry : ℕ × Picture) → concat (lines_of_image entry) ≡ image_text entry
-unfolding image_text
-entry_text entry = ap (λ (rest : List ℕ). head_text entry.0 entry.1.width entry.1.height ++ rest) (concat-map (λ (y : ℕ). row_text (texel_row entry.1 y)) (range_with_len 0 entry.1.height))
-
 images_text : (images : Pictures) → concat (flat_map lines_of_image images) ≡ flat_map image_text images
 images_text [] = refl
-images_text (entry ∷ images) = concat-append (lines_of_image entry) (flat_map lines_of_image images) ∙ (λ i. entry_text entry i ++ images_text images i)
+images_text (entry ∷ images) = concat-append (lines_of_image entry) (flat_map lines_of_image images) ∙ (λ i. image_whole entry i ++ images_text images i)
 
 pub pictures_text : (images : Pictures) → concat (flat_map lines_of_image images) ≡ picture_text images
 unfolding picture_text
@@ -51,8 +45,8 @@ pictures_text images = images_text images
 pub heads_text : (p : PlansData) → concat (head_of p) ≡ head_lines p
 heads_text p = by (p.version == 2)
   where
-    by : (b : Bool) → concat (cond b (journal_head ∷ map (λ s. name_text s (plan_of p s).name) (streams_of p)) []) ≡ cond b (journal_head ++ flat_map (λ s. name_text s (plan_of p s).name) (streams_of p)) []
-    by true = ap (λ (rest : List ℕ). journal_head ++ rest) (concat-map (λ (s : ℕ). name_text s (plan_of p s).name) (streams_of p))
+    by : (b : Bool) → concat (cond b (heads p) []) ≡ cond b (journal_head ++ flat_map (λ s. name_text s (plan_of p s).name) (streams_of p)) []
+    by true = names_text p
     by false = refl
 
 pub concat_five : (a b m d e : List (List ℕ)) → concat (a ++ (b ++ (m ++ (d ++ e)))) ≡ concat a ++ (concat b ++ (concat m ++ (concat d ++ concat e)))
@@ -69,10 +63,9 @@ module _ (p : PlansData) (base : ℕ) (events : List Event) (viewers : ℕ) (lin
   others_text =
       let h = reverse events in
       ap concat parted.are
-      ∙ concat_five (picture_lines p h) (end_lines p h) (ending_lines p base h) parted.dumps parted.views
+      ∙ concat_five (picture_lines p h) (lines_of_streams p h) (lines_of_marks p base h) parted.dumps parted.views
       ∙ (λ i. pictures_text (replay p h) i
-      ++ (concat-map (λ (s : ℕ). stream_text s (tally_of (state_of p h s)) (end_of h s)) (streams_of p) i
-      ++ (concat-map (λ (ending : Ending). mark_text ending (mark base ending)) (endings_in p h) i ++ (concat parted.dumps ++ concat parted.views))))
+      ++ (streams_text p h i ++ (marks_text p base h i ++ (concat parted.dumps ++ concat parted.views))))
 
   lines_text : concat lines ≡ output p (mark base) (reverse events) ++ (concat parted.dumps ++ concat parted.views)
   lines_text =

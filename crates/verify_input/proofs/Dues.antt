@@ -170,20 +170,22 @@ at_range a n index k more next = at_read (range_with_len a n) index k (omega (ar
 pub range_end : (a n index : ℕ) → n ≤ index → drop index (range_with_len a n) ≡ []
 range_end a n index all = drop_all index (range_with_len a n) (omega (arith, all, length-range_with_len a n))
 
--- its lines, its line, or one of a part
+-- its lines, or its line
 pub dues_next : {A : Type 0} (f : A → List Due) {xs : List A} {index : ℕ} {x : A} → At xs index x → Begins (flat_map f (drop index xs)) (f x) (flat_map f (drop (index + 1) xs))
 dues_next f at = record { is = ap (flat_map f) at.is }
 
 pub due_next : {A : Type 0} (f : A → Due) {xs : List A} {index : ℕ} {x : A} → At xs index x → Begins (map f (drop index xs)) (f x ∷ []) (map f (drop (index + 1) xs))
 due_next f at = record { is = ap (map f) at.is }
 
-pub line_next : {part : What} {x due : List ℕ} {left : List Due} → due ≡ x → Begins (Same part x ∷ left) (same_lines part (due ∷ [])) left
-line_next {part} {x} {due} {left} line = record { is = ap (λ (line : List ℕ). Same part line ∷ left) (sym line) }
-
-pub lines_next : {A : Type 0} (part : What) (f : A → List ℕ) {xs : List A} {index : ℕ} {x : A} {due : List ℕ} → At xs index x → due ≡ f x → Begins (same_lines part (map f (drop index xs))) (same_lines part (due ∷ [])) (same_lines part (map f (drop (index + 1) xs)))
-lines_next {A} part f {xs} {index} at line = record {
-  is = ap (λ (ys : List A). same_lines part (map f ys)) at.is ∙ ap (λ (line : List ℕ). Same part line ∷ same_lines part (map f (drop (index + 1) xs))) (sym line);
+-- a line of a part
+pub line_there : (part : What) (lines : List (List ℕ)) (index : ℕ) {due : List ℕ} → index < length lines → due ≡ get_or lines index [] → Begins (same_lines part (drop index lines)) (same_lines part (due ∷ [])) (same_lines part (drop (index + 1) lines))
+line_there part lines index {due} within is = record {
+  is = ap (same_lines part) (drop_more lines index [] within) ∙ ap (λ (line : List ℕ). Same part line ∷ same_lines part (drop (index + 1) lines)) (sym is);
 }
+
+-- what is made on a sheet alone
+pub alone : {own made old line : List ℕ} → own ≡ made → made ≡ old ++ line → old ≡ [] → own ≡ line
+alone {line = line} is put none = is ∙ put ∙ ap (λ (old : List ℕ). old ++ line) none
 
 -- lines of one part in two lists
 pub same_both : (part : What) (xs ys : List (List ℕ)) → same_lines part (xs ++ ys) ≡ same_lines part xs ++ same_lines part ys

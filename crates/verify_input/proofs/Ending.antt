@@ -1,8 +1,6 @@
 -- All parts after a journal, one after the other, and the end of the text.
-use Rattle.verify_input.proofs.Names.{◌≡◌, ℕ, List, [], ◌∷◌, ◌++◌, map, length, drop, Result, Ok, Err, refl, sym, ap, subst, ◌∙◌, append_assoc, ◌≢◌, OnOk, OnErr, IfErr, concat, flat_map, append-nil, Pictures, PlansData, sync_of, Ending, Event, whole_lines, Due, same_lines, lines_of_image, images_due, streams_due, marks_due, all_dumps_due, viewers_due, dues, AreTakenOff, IsOff, AreDue, IsMore, IsFirstOff, HasTaken, IsBad, IsHistory, IsFirstBadOf, JudgesAll, past_of, History, What, Rest, Bad, Off}
-use Rattle.sync_core.specs.Pending.{endings}
+use Rattle.verify_input.proofs.Names.{◌≡◌, ℕ, List, [], ◌∷◌, ◌++◌, length, drop, Result, Ok, Err, refl, sym, ap, subst, ◌∙◌, append_assoc, ◌≢◌, OnOk, OnErr, IfErr, concat, flat_map, append-nil, Pictures, PlansData, Event, whole_lines, Due, same_lines, lines_of_image, images_due, streams_due, marks_due, all_dumps_due, viewers_due, dues, AreTakenOff, IsOff, AreDue, IsMore, IsFirstOff, HasTaken, IsBad, IsHistory, IsFirstBadOf, JudgesAll, past_of, History, What, Rest, Bad, Off}
 use Rattle.verify_input.proofs.Dues.{IsTaking, Begins, taking_bad, taking_all}
-use Rattle.verify_input.proofs.Lefts.{mark_at}
 use Rattle.verify_input.proofs.Wholes.{concat_whole}
 use Rattle.verify_input.specs.declared.what.What.TheVariants as what
 use Rattle.verify_input.specs.declared.rest.Bad.TheVariants.{Memory}
@@ -62,6 +60,9 @@ dues_parts p base h viewers = by (images_due p h) (streams_due p h) (marks_due p
 pub part_next : {xs left : List Due} → Begins (xs ++ left) xs left
 part_next = record { is = refl }
 
+pub part_as : {xs ys left : List Due} → xs ≡ ys → Begins (ys ++ left) xs left
+part_as {left = left} same = record { is = ap (λ (part : List Due). part ++ left) (sym same) }
+
 -- the first of them, by the images that are kept
 pub images_next : (history : History) → IsHistory history → (base viewers : ℕ) {images : Pictures} → images ≡ history.followed.now.judge.images
     → Begins (dues history.plans.now base (past_of history) viewers) (same_lines what.Image (flat_map lines_of_image images)) (joined (drop 1 (parts history.plans.now base (past_of history) viewers)))
@@ -69,13 +70,6 @@ images_next history is base viewers kept = record {
   is = dues_parts history.plans.now base (past_of history) viewers
       ∙ ap (λ (images : Pictures). same_lines what.Image (flat_map lines_of_image images) ++ joined (drop 1 (parts history.plans.now base (past_of history) viewers))) (sym (kept ∙ is.followed.follows.shows.drawn));
 }
-
--- the marks, by the endings that are kept
-pub marks_next : (history : History) → IsHistory history → (base : ℕ) {left : List Due} {endings : List Ending} → endings ≡ history.followed.now.judge.core.endings
-    → Begins (marks_due history.plans.now base (past_of history) ++ left) (same_lines what.Mark (map (mark_at base) endings)) left
-marks_next history is base {left} kept =
-    let there = is.followed.follows.sync.endings ∙ ap (λ (n : ℕ). endings n (sync_of history.plans.now (past_of history))) is.followed.follows.fits.core in
-    record { is = ap (λ (endings : List Ending). same_lines what.Mark (map (mark_at base) endings) ++ left) (sym (kept ∙ there)) }
 
 -- where a part is off, the exit of a `?` says so of all
 pub all_exit : {T : Type 0} {p : PlansData} {h : List Event} {all xs left more : List Due} {m : ℕ} {old mid : Rest} {bad : Bad} {r : Result T Bad}

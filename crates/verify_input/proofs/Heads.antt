@@ -1,5 +1,5 @@
 -- The head of a journal text.
-use Rattle.verify_input.proofs.Names.{◌≡◌, ◌≢◌, ℕ, zero, suc, ◌+◌, ◌-◌, ◌%◌, ◌/◌, ◌<◌, ◌≤◌, Bool, true, false, not, ltb, Option, Some, None, MatchOption, Bor, List, [], ◌∷◌, ◌++◌, map, length, refl, sym, ap, subst, ◌∙◌, arith, codes, option_map, slice_get, list_all, concat, and_parts, not-true, nat_tests, All-nil, All-cons, All-append, ends_line, PlanData, PlansData, plan_of, streams_of, plan_here, digits_within, numeral, number_text, journal_head, name_text, HasNoFeed, IsFirstBad, whole_lines, IsLine, head_of, IsFirstOther}
+use Rattle.verify_input.proofs.Names.{◌≡◌, ◌≢◌, ℕ, zero, suc, ◌+◌, ◌-◌, ◌%◌, ◌/◌, ◌<◌, ◌≤◌, Bool, true, false, not, ltb, Option, Some, None, MatchOption, Bor, List, [], ◌∷◌, ◌++◌, length, refl, sym, ap, subst, ◌∙◌, arith, codes, list_all, concat, and_parts, not-true, nat_tests, All-nil, All-cons, All-append, ends_line, PlansData, digits_within, numeral, number_text, journal_head, name_text, HasNoFeed, IsFirstBad, whole_lines, IsLine, head_of, IsFirstOther, heads}
 use Rattle.gpu_cmd.specs.declared.name.Name.{Name}
 use Rattle.verify_input.proofs.Wholes.{concat_whole, few_whole, line_first}
 
@@ -91,19 +91,8 @@ other_early heads text k other = omega (arith, other_within heads (whole_lines t
 
 -- ---- the head, line by line
 
-abbrev pub line_of : PlansData → ℕ → List ℕ
-line_of p s = name_text s (plan_of p s).name
-
-pub second : (p : PlansData) → p.version ≡ 2 → head_of p ≡ journal_head ∷ map (line_of p) (streams_of p)
+pub second : (p : PlansData) → p.version ≡ 2 → head_of p ≡ heads p
 second p two = rw two refl
-
--- the name of a stream
-pub name_here : (p : PlansData) (s : ℕ) (name : Name) → 1 ≤ s → option_map (λ (plan : PlanData). plan.name) (slice_get p.plans (s - 1)) ≡ Some name → name_text s name ≡ line_of p s
-name_here p s name some e = by (slice_get p.plans (s - 1)) refl e
-  where
-    by : (found : Option PlanData) → slice_get p.plans (s - 1) ≡ found → option_map (λ (plan : PlanData). plan.name) found ≡ Some name → name_text s name ≡ line_of p s
-    by None at e = absurd (cc)
-    by (Some plan) at e = let same : plan.name ≡ name = cc in ap (name_text s) (sym same ∙ ap (λ (plan : PlanData). plan.name) (sym (plan_here p s plan some at)))
 
 -- after the head
 pub bad_behind_head : (p : PlansData) (text rest : List ℕ) (k : ℕ) → whole_lines text ≡ head_of p ++ whole_lines rest → IsFirstBad (whole_lines rest) k → IsFirstOther (head_of p) (whole_lines text) (length (head_of p) + k)

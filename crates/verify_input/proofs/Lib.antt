@@ -17,7 +17,6 @@ pub mod Onlys
 pub mod Feeds
 pub mod Looking
 pub mod Dues
-pub mod Rows
 pub mod Lefts
 pub mod Histories
 pub mod Losing

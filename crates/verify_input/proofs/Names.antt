@@ -36,6 +36,7 @@ pub use Rattle.journal_text.specs.Lines.{how_text, journal_head}
 unfoldable pub use Rattle.journal_text.specs.Lines.{dump_text, mark_text, name_text, view_text}
 pub use Rattle.journal_text.specs.Output.{AreDumpLines, AreDumps, AreDumpsOf}
 unfoldable pub use Rattle.journal_text.specs.Picture.{head_text, row_text}
+pub use Rattle.journal_text.specs.Parts.{heads, image_lines, lines_of_marks, lines_of_streams}
 pub use Rattle.journal_text.specs.Text.{end_text, tally_of, tally_text, why_text}
 unfoldable pub use Rattle.journal_text.specs.Text.{event_text, journal_text, stream_text}
 pub use Rattle.journal_text.specs.declared.tally.Tally.{Tally}
@@ -49,7 +50,7 @@ pub use Rattle.script_lines.specs.declared.fault.Kind.{Kind}
 pub use Rattle.sync_core.specs.declared.ending.Ending.{Ending}
 pub use Rattle.wait_hooks.specs.Marks.{mark}
 pub use Rattle.verify_input.specs.Cuts.{IsCutAt, IsFirstLine, IsLine}
-pub use Rattle.verify_input.specs.Due.{AreDue, AreTakenOff, Due, Dump, IsFirstOff, IsMore, IsOff, LastLook, Look, MayStand, Same, all_dumps_due, begins_view, dumps_due, end_lines, ending_lines, heads_due, images_due, lines_of_image, looks_due, marks_due, picture_lines, same_lines, streams_due, viewers_due, viewers_in, what_of}
+pub use Rattle.verify_input.specs.Due.{AreDue, AreTakenOff, Due, Dump, IsFirstOff, IsMore, IsOff, LastLook, Look, MayStand, Same, all_dumps_due, begins_view, dumps_due, heads_due, images_due, lines_of_image, looks_due, marks_due, picture_lines, same_lines, streams_due, viewers_due, viewers_in, what_of}
 unfoldable pub use Rattle.verify_input.specs.Due.{dues}
 pub use Rattle.verify_input.specs.Found.{Finds, HasNoJournal, IsFirstOther, IsRight, LacksText, Records, TellsBehind, head_of, script_in}
 pub use Rattle.verify_input.specs.Laws.{FindingIsOne, WholeFindingIsOne}

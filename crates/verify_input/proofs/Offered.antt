@@ -1,5 +1,5 @@
 -- Lines that are as they are due are taken off as such.
-use Rattle.verify_input.proofs.Names.{◌≡◌, ℕ, zero, suc, ◌+◌, ◌*◌, ◌≤◌, Bool, true, false, cond, List, [], ◌∷◌, ◌++◌, map, drop, length, length-append, refl, sym, ap, subst, ◌∙◌, append_assoc, arith, ◌==◌, All, concat, flat_map, join_with_byte, range_with_len, append-nil, drop_at, length-map, All-nil, All-cons, All-head, All-tail, All-append, concat-append, texel_row, Pictures, PlansData, plan_of, mark, Event, state_of, replay, endings_in, streams_of, end_of, dumps_of, event_text, journal_text, tally_of, head_text, row_text, journal_head, name_text, dump_text, AreDumps, AreDumpsOf, HasNumbersOfWords, whole_lines, IsLine, before, head_of, Due, Same, Dump, same_lines, lines_of_image, picture_lines, end_lines, ending_lines, dumps_due, looks_due, images_due, streams_due, marks_due, all_dumps_due, viewers_due, dues, AreTakenOff, AreDue, viewers_in, TellsAll, What, Journal}
+use Rattle.verify_input.proofs.Names.{◌≡◌, ℕ, zero, suc, ◌+◌, ◌*◌, ◌≤◌, Bool, true, false, cond, List, [], ◌∷◌, ◌++◌, map, drop, length, length-append, refl, sym, ap, subst, ◌∙◌, append_assoc, arith, ◌==◌, All, concat, flat_map, join_with_byte, range_with_len, append-nil, drop_at, length-map, All-nil, All-cons, All-head, All-tail, All-append, concat-append, texel_row, Pictures, PlansData, plan_of, mark, Event, state_of, replay, endings_in, streams_of, end_of, dumps_of, event_text, journal_text, tally_of, head_text, row_text, journal_head, name_text, stream_text, mark_text, dump_text, AreDumps, AreDumpsOf, HasNumbersOfWords, whole_lines, IsLine, before, head_of, Due, Same, Dump, same_lines, lines_of_image, picture_lines, lines_of_streams, lines_of_marks, dumps_due, looks_due, images_due, streams_due, marks_due, all_dumps_due, viewers_due, dues, AreTakenOff, AreDue, viewers_in, TellsAll, What, Journal, Option, None, Some, Picture, Ending, heads, image_lines}
 use Rattle.verify_input.specs.declared.what.What.TheVariants as what
 use Rattle.verify_input.proofs.Events.{event_pieces}
 use Rattle.verify_input.proofs.Lines.{event_joined, event_no_feed, told_lines}
@@ -9,7 +9,6 @@ use Rattle.verify_input.proofs.Feeds.{image_line, row_line, stream_line, mark_li
 use Rattle.verify_input.proofs.Labels.{Ends, Goes, IsView, image_part, stream_part, mark_part, dump_part, event_goes, images_other, others_seen, looks_seen, all_lines}
 use Rattle.verify_input.proofs.Viewers.{views_in}
 use Rattle.verify_input.proofs.Dues.{taken_both}
-use Rattle.verify_input.proofs.Lefts.{end_at, mark_at}
 use Rattle.verify_input.proofs.Ending.{joined, parts, dues_parts}
 
 -- the lines of a text that is lines
@@ -17,19 +16,36 @@ pub whole_concat : (lines : List (List ℕ)) → All IsLine lines → whole_line
 whole_concat [] are = refl
 whole_concat (line ∷ lines) are = line_first line (concat lines) (All-head IsLine line lines are) ∙ ap (λ (ls : List (List ℕ)). line ∷ ls) (whole_concat lines (All-tail IsLine line lines are))
 
+pub names_are : (p : PlansData) → All IsLine (heads p)
+names_are p = All-cons IsLine journal_head _ head_line (all_lines IsLine (λ s. name_text s (plan_of p s).name) (λ s. name_line s (plan_of p s).name) (streams_of p))
+
 pub heads_are : (p : PlansData) → All IsLine (head_of p)
 heads_are p = by (p.version == 2)
   where
-    by : (b : Bool) → All IsLine (cond b (journal_head ∷ map (λ s. name_text s (plan_of p s).name) (streams_of p)) [])
-    by true = All-cons IsLine journal_head _ head_line (all_lines IsLine (λ s. name_text s (plan_of p s).name) (λ s. name_line s (plan_of p s).name) (streams_of p))
+    by : (b : Bool) → All IsLine (cond b (heads p) [])
+    by true = names_are p
     by false = All-nil IsLine
+
+pub image_are : (image : ℕ) (found : Option Picture) → All IsLine (image_lines image found)
+image_are image None = All-nil IsLine
+image_are image (Some picture) =
+    All-cons IsLine (head_text image picture.width picture.height) _ (image_line image picture.width picture.height) (all_lines IsLine (λ y. row_text (texel_row picture y)) (λ y. row_line (texel_row picture y)) _)
 
 images_are : (images : Pictures) → All IsLine (flat_map lines_of_image images)
 images_are [] = All-nil IsLine
-images_are (entry ∷ images) =
-    All-append IsLine (lines_of_image entry) (flat_map lines_of_image images)
-    (All-cons IsLine (head_text entry.0 entry.1.width entry.1.height) _ (image_line entry.0 entry.1.width entry.1.height) (all_lines IsLine (λ y. row_text (texel_row entry.1 y)) (λ y. row_line (texel_row entry.1 y)) _))
-    (images_are images)
+images_are (entry ∷ images) = All-append IsLine (lines_of_image entry) (flat_map lines_of_image images) (image_are entry.0 (Some entry.1)) (images_are images)
+
+abbrev end_at : PlansData → List Event → ℕ → List ℕ
+end_at p h s = stream_text s (tally_of (state_of p h s)) (end_of h s)
+
+pub streams_are : (p : PlansData) (h : List Event) → All IsLine (lines_of_streams p h)
+streams_are p h = all_lines IsLine (end_at p h) (λ s. stream_line s (tally_of (state_of p h s)) (end_of h s)) (streams_of p)
+
+abbrev mark_at : ℕ → Ending → List ℕ
+mark_at base ending = mark_text ending (mark base ending)
+
+pub marks_are : (p : PlansData) (base : ℕ) (h : List Event) → All IsLine (lines_of_marks p base h)
+marks_are p base h = all_lines IsLine (mark_at base) (λ ending. mark_line ending (mark base ending)) (endings_in p h)
 
 -- ---- the journal ends before the lines of the other parts
 
@@ -50,14 +66,6 @@ event_lines (event ∷ events) are =
     All-cons IsLine (event_text event) (map event_text events)
     (record { line = join_with_byte 32 (event_pieces event); none = event_no_feed event (All-head HasNumbersOfWords event events are); is = event_joined event })
     (event_lines events (All-tail HasNumbersOfWords event events are))
-
-pub events_text : (events : List Event) → concat (map event_text events) ≡ journal_text events
-unfolding journal_text
-events_text events = by events
-  where
-    by : (events : List Event) → concat (map event_text events) ≡ flat_map event_text events
-    by [] = refl
-    by (event ∷ events) = ap (λ (text : List ℕ). event_text event ++ text) (by events)
 
 -- the lines of the head, of a journal, and others that end it tell its events
 pub tells_of : (p : PlansData) (events : List Event) (others : List (List ℕ)) → All HasNumbersOfWords events → Stops others → TellsAll p (head_of p ++ (map event_text events ++ others)) events others
@@ -158,17 +166,17 @@ module _ (p : PlansData) (base : ℕ) (h : List Event) (viewers : ℕ) (dumps vi
   abbrev front_due : List Due
   front_due = images_due p h ++ (streams_due p h ++ (marks_due p base h ++ all_dumps_due p h))
 
-  front : Offered p h front_due (concat (picture_lines p h) ++ (concat (end_lines p h) ++ (concat (ending_lines p base h) ++ dumps))) false
+  front : Offered p h front_due (concat (picture_lines p h) ++ (concat (lines_of_streams p h) ++ (concat (lines_of_marks p base h) ++ dumps))) false
   front =
       offered_both p h _ _ _ _ false (given_offered p h what.Image (picture_lines p h) (images_are (replay p h)) (images_stop (replay p h)) (images_other (replay p h)))
       (offered_both p h _ _ _ _ false (each_offered p h what.Stream (end_at p h) (λ s. stream_line s (tally_of (state_of p h s)) (end_of h s)) (λ s. stream_part s (tally_of (state_of p h s)) (end_of h s)) (streams_of p))
       (offered_both p h _ _ _ _ false (each_offered p h what.Mark (mark_at base) (λ ending. mark_line ending (mark base ending)) (λ ending. mark_part ending (mark base ending)) (endings_in p h)) d))
 
-  whole : front.own ++ v.own ≡ picture_lines p h ++ (end_lines p h ++ (ending_lines p base h ++ (d.own ++ v.own)))
+  whole : front.own ++ v.own ≡ picture_lines p h ++ (lines_of_streams p h ++ (lines_of_marks p base h ++ (d.own ++ v.own)))
   unfolding front offered_both given_offered each_offered
   whole = simp append_assoc
 
-  pub all_due : AreDue p h (dues p base h viewers) (picture_lines p h ++ (end_lines p h ++ (ending_lines p base h ++ (d.own ++ v.own))))
+  pub all_due : AreDue p h (dues p base h viewers) (picture_lines p h ++ (lines_of_streams p h ++ (lines_of_marks p base h ++ (d.own ++ v.own))))
   all_due =
       let looks : AreTakenOff p h (viewers_due viewers) 0 v.own 0 [] = subst (λ (ls : List (List ℕ)). AreTakenOff p h (viewers_due viewers) 0 ls 0 []) (append-nil v.own) (v.taken []) in
       let taken = taken_both p h front_due (viewers_due viewers) 0 (front.own ++ v.own) 0 v.own 0 [] (front.taken v.own) looks in
@@ -176,13 +184,13 @@ module _ (p : PlansData) (base : ℕ) (h : List Event) (viewers : ℕ) (dumps vi
       let same : front_due ++ viewers_due viewers ≡ dues p base h viewers = all ∙ sym (dues_parts p base h viewers) in
       (0, subst (λ (ls : List (List ℕ)). AreTakenOff p h (dues p base h viewers) 0 ls 0 []) whole (subst (λ (ds : List Due). AreTakenOff p h ds 0 (front.own ++ v.own) 0 []) same taken))
 
-  pub all_are : All IsLine (picture_lines p h ++ (end_lines p h ++ (ending_lines p base h ++ (d.own ++ v.own))))
+  pub all_are : All IsLine (picture_lines p h ++ (lines_of_streams p h ++ (lines_of_marks p base h ++ (d.own ++ v.own))))
   all_are = subst (All IsLine) whole (All-append IsLine front.own v.own front.lines v.lines)
 
-  pub all_stop : Stops (picture_lines p h ++ (end_lines p h ++ (ending_lines p base h ++ (d.own ++ v.own))))
+  pub all_stop : Stops (picture_lines p h ++ (lines_of_streams p h ++ (lines_of_marks p base h ++ (d.own ++ v.own))))
   all_stop = subst Stops whole (front.stops v.own (subst Stops (append-nil v.own) (v.stops [] tt)))
 
-  pub all_viewers : viewers ≤ 4 → viewers_in (picture_lines p h ++ (end_lines p h ++ (ending_lines p base h ++ (d.own ++ v.own)))) ≡ viewers
+  pub all_viewers : viewers ≤ 4 → viewers_in (picture_lines p h ++ (lines_of_streams p h ++ (lines_of_marks p base h ++ (d.own ++ v.own)))) ≡ viewers
   all_viewers few =
       let views : views_in (front.own ++ v.own) ≡ length v.own = others_seen front.own v.own front.seen ∙ looks_seen v.own v.seen in
       let same = ap views_in whole in

@@ -1,5 +1,5 @@
 -- Lines that are due are the text of the output.
-use Rattle.verify_input.proofs.Names.{◌≡◌, ℕ, List, [], ◌∷◌, ◌++◌, map, drop, refl, sym, ap, subst, ◌∙◌, append_assoc, concat, flat_map, range_with_len, append-nil, concat-append, PlansData, Event, streams_of, dumps_of, AreDumps, AreDumpsOf, AreDumpLines, Due, Dump, same_lines, picture_lines, end_lines, ending_lines, dumps_due, looks_due, images_due, streams_due, marks_due, all_dumps_due, viewers_due, dues, AreTakenOff, AreDue, What}
+use Rattle.verify_input.proofs.Names.{◌≡◌, ℕ, List, [], ◌∷◌, ◌++◌, map, drop, refl, sym, ap, subst, ◌∙◌, append_assoc, concat, flat_map, range_with_len, append-nil, concat-append, PlansData, Event, streams_of, dumps_of, AreDumps, AreDumpsOf, AreDumpLines, Due, Dump, same_lines, picture_lines, lines_of_streams, lines_of_marks, dumps_due, looks_due, images_due, streams_due, marks_due, all_dumps_due, viewers_due, dues, AreTakenOff, AreDue, What}
 use Rattle.verify_input.specs.declared.what.What.TheVariants as what
 use Rattle.verify_input.proofs.Ending.{joined, parts, dues_parts}
 
@@ -58,7 +58,7 @@ pub record Parted (p : PlansData) (base : ℕ) (h : List Event) (viewers : ℕ) 
   pub dumps : List (List ℕ)
   pub views : List (List ℕ)
   pub last : ℕ
-  pub are : lines ≡ picture_lines p h ++ (end_lines p h ++ (ending_lines p base h ++ (dumps ++ views)))
+  pub are : lines ≡ picture_lines p h ++ (lines_of_streams p h ++ (lines_of_marks p base h ++ (dumps ++ views)))
   pub dumped : AreDumpLines p h (concat dumps)
   pub seen : AreTakenOff p h (flat_map looks_due (range_with_len 1 viewers)) 0 views last []
 
@@ -72,8 +72,8 @@ all_parted p base h viewers lines due =
     let four = taken_parts p h (all_dumps_due p h) (joined (drop 4 left)) three.0 three.1 due.0 [] three.3 in
     let looks = subst (λ (ds : List Due). AreTakenOff p h ds four.0 four.1 due.0 []) (append-nil (viewers_due viewers)) four.3 in
     let images = same_taken p h what.Image (picture_lines p h) 0 lines one.0 one.1 refl one.2 in
-    let streams = same_taken p h what.Stream (end_lines p h) one.0 one.1 two.0 two.1 images.1 two.2 in
-    let marks = same_taken p h what.Mark (ending_lines p base h) two.0 two.1 three.0 three.1 streams.1 three.2 in
+    let streams = same_taken p h what.Stream (lines_of_streams p h) one.0 one.1 two.0 two.1 images.1 two.2 in
+    let marks = same_taken p h what.Mark (lines_of_marks p base h) two.0 two.1 three.0 three.1 streams.1 three.2 in
     let dumps = all_dumps_taken p h (streams_of p) three.0 three.1 four.0 four.1 marks.1 four.2 in
     record {
       dumps = dumps.0;
@@ -81,8 +81,8 @@ all_parted p base h viewers lines due =
       last = due.0;
       are = images.0
           ∙ ap (λ (ls : List (List ℕ)). picture_lines p h ++ ls) (streams.0
-          ∙ ap (λ (ls : List (List ℕ)). end_lines p h ++ ls) (marks.0
-          ∙ ap (λ (ls : List (List ℕ)). ending_lines p base h ++ ls) dumps.1));
+          ∙ ap (λ (ls : List (List ℕ)). lines_of_streams p h ++ ls) (marks.0
+          ∙ ap (λ (ls : List (List ℕ)). lines_of_marks p base h ++ ls) dumps.1));
       dumped = dumps.2;
       seen = subst (λ (n : ℕ). AreTakenOff p h (viewers_due viewers) n four.1 due.0 []) dumps.3 looks;
     }

@@ -1,17 +1,14 @@
 -- The lines that are due in a whole output, and the first that is off.
-use Rattle.std.specs.Prelude.{◌≡◌, ℕ, zero, suc, ◌+◌, ◌/◌, ◌≤◌, min, List, [], ◌∷◌, ◌++◌, length, map, replicate, codes, bytes_eq, Bool, false, count_by}
+use Rattle.std.specs.Prelude.{◌≡◌, ℕ, zero, suc, ◌+◌, ◌/◌, ◌≤◌, min, List, [], ◌∷◌, ◌++◌, length, map, replicate, codes, bytes_eq, Bool, false, Some, count_by}
 use Rattle.std.specs.List.{flat_map, range_with_len}
-use Rattle.gpu_store.specs.Picture.{Picture, texel_row}
+use Rattle.gpu_store.specs.Picture.{Picture}
 use Rattle.gpu_plan.specs.Plans.{PlansData}
-use Rattle.wait_hooks.specs.Marks.{mark}
 use Rattle.gpu_journal.specs.declared.event.Event.{Event}
-use Rattle.gpu_journal.specs.World.{state_of, replay}
-use Rattle.gpu_journal.specs.Waits.{endings_in}
-use Rattle.gpu_journal.specs.Ended.{streams_of, end_of}
+use Rattle.gpu_journal.specs.World.{replay}
+use Rattle.gpu_journal.specs.Ended.{streams_of}
 use Rattle.gpu_journal.specs.Dumps.{MayDump, dumps_of}
-use Rattle.journal_text.specs.Text.{tally_of, stream_text}
-use Rattle.journal_text.specs.Picture.{head_text, row_text}
-use Rattle.journal_text.specs.Lines.{mark_text, dump_text, view_text}
+use Rattle.journal_text.specs.Lines.{dump_text, view_text}
+use Rattle.journal_text.specs.Parts.{image_lines, lines_of_streams, lines_of_marks}
 use Rattle.journal_verify.specs.Followed.{sum_after}
 use Rattle.verify_input.specs.Parts.{words_on}
 use Rattle.verify_input.specs.Found.{head_of}
@@ -56,22 +53,13 @@ MayStand p h (LastLook viewer) least line then =
 abbrev pub same_lines : What → List (List ℕ) → List Due
 same_lines part lines = map (λ line. Same part line) lines
 
--- an image: its own line, and the line of each of its rows
+-- the lines of an image
 abbrev pub lines_of_image : ℕ × Picture → List (List ℕ)
-lines_of_image entry =
-    head_text entry.0 entry.1.width entry.1.height ∷ map (λ y. row_text (texel_row entry.1 y)) (range_with_len 0 entry.1.height)
+lines_of_image entry = image_lines entry.0 (Some entry.1)
 
 -- the lines of all images
 abbrev pub picture_lines : PlansData → List Event → List (List ℕ)
 picture_lines p h = flat_map lines_of_image (replay p h)
-
--- the line of each stream
-abbrev pub end_lines : PlansData → List Event → List (List ℕ)
-end_lines p h = map (λ s. stream_text s (tally_of (state_of p h s)) (end_of h s)) (streams_of p)
-
--- the line of each ending, with its mark over a base
-abbrev pub ending_lines : PlansData → ℕ → List Event → List (List ℕ)
-ending_lines p base h = map (λ ending. mark_text ending (mark base ending)) (endings_in p h)
 
 -- the dumps of a stream
 abbrev pub dumps_due : PlansData → List Event → ℕ → List Due
@@ -86,10 +74,10 @@ abbrev pub images_due : PlansData → List Event → List Due
 images_due p h = same_lines what.Image (picture_lines p h)
 
 abbrev pub streams_due : PlansData → List Event → List Due
-streams_due p h = same_lines what.Stream (end_lines p h)
+streams_due p h = same_lines what.Stream (lines_of_streams p h)
 
 abbrev pub marks_due : PlansData → ℕ → List Event → List Due
-marks_due p base h = same_lines what.Mark (ending_lines p base h)
+marks_due p base h = same_lines what.Mark (lines_of_marks p base h)
 
 abbrev pub all_dumps_due : PlansData → List Event → List Due
 all_dumps_due p h = flat_map (dumps_due p h) (streams_of p)

@@ -1,15 +1,14 @@
 -- The verdict on an input.
-use Rattle.std.specs.Prelude.{◌≡◌, ◌≢◌, ℕ, zero, suc, ◌+◌, ◌==◌, List, [], ◌∷◌, ◌++◌, length, map, reverse, Option, Some, None, Result, Ok, Err, if◌then◌else◌}
+use Rattle.std.specs.Prelude.{◌≡◌, ◌≢◌, ℕ, zero, suc, ◌+◌, ◌==◌, List, [], ◌∷◌, ◌++◌, length, reverse, Option, Some, None, Result, Ok, Err, if◌then◌else◌}
 use Rattle.std.specs.List.{All, concat}
 use Rattle.gpu_store.specs.Images.{Pictures}
 use Rattle.script_lines.specs.declared.fault.Kind.{Kind}
-use Rattle.gpu_plan.specs.Plans.{PlansData, plan_of}
+use Rattle.gpu_plan.specs.Plans.{PlansData}
 use Rattle.gpu_plan.specs.Script.{script_of}
 use Rattle.gpu_journal.specs.declared.event.Event.{Event}
-use Rattle.gpu_journal.specs.Ended.{streams_of}
 use Rattle.gpu_journal.specs.World.{replay}
 use Rattle.journal_text.specs.Text.{journal_text}
-use Rattle.journal_text.specs.Lines.{journal_head, name_text}
+use Rattle.journal_text.specs.Parts.{heads}
 use Rattle.verify_input.specs.Reading.{HasNumbersOfWords, IsFirstBad, whole_lines}
 use Rattle.verify_input.specs.declared.fault.JournalFault.{JournalFault}
 use Rattle.verify_input.specs.declared.fault.JournalFault.TheVariants as faults
@@ -24,7 +23,7 @@ script_in input = script_of (concat (script_part input))
 
 -- the lines that a journal text begins with: in version 2 the head line, and the name line of each stream
 abbrev pub head_of : PlansData → List (List ℕ)
-head_of p = if p.version == 2 then journal_head ∷ map (λ s. name_text s (plan_of p s).name) (streams_of p) else []
+head_of p = if p.version == 2 then heads p else []
 
 -- the lines are those of the head, and of the journal text of these events, each of numbers of 32 bits
 pub record TellsBehind (heads text : List (List ℕ)) (events : List Event) : Type 0 where

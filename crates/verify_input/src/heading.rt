@@ -8,7 +8,7 @@ use crate::rest::{Bad, Rest};
 use crate::sections::take_names;
 use gpu_journal::Journal;
 use gpu_plan::{MOST_BYTES, Plans};
-use journal_text::Line;
+use journal_text::Sheet;
 use std::alloc::Global;
 
 /// The events of a journal text with the head that these plans ask for. The text has at most 16,777,216 bytes.
@@ -27,9 +27,9 @@ pub(crate) fn read_behind_head(
     ensures err { IfErr result
         (λ fault. IsOtherAt (head_of plans.now) (whole_lines text.now) fault) }
 {
-    let mut line = Line::make(alloc)?;
+    let mut sheet = Sheet::make(alloc, 0)?;
     let mut rest = Rest { text, line: 1 };
-    match take_names(&mut rest, &mut line, plans) {
+    match take_names(&mut rest, &mut sheet, plans) {
         Ok(()) => {}
         Err(Bad::Off { line, .. }) => return Err(JournalFault::Refused { line }),
         Err(Bad::Memory(memory)) => return Err(JournalFault::Memory(memory)),

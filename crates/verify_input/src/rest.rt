@@ -1,8 +1,10 @@
 ghost use Rattle.std.specs.Prelude.{◌≡◌, ◌≢◌, ◌+◌, ◌≤◌, List, ◌∷◌, [], length, OnOk, OnErr, IfErr};
+ghost use Rattle.std.specs.List.{All};
 
 use crate::cut::behind_line;
 use crate::what::What;
 use gpu_word::Memory;
+use journal_text::{Lines, Sheet};
 
 /// The most bytes of an input with a whole output.
 pub const MOST_WHOLE_BYTES: usize = 67_108_864;
@@ -68,6 +70,27 @@ impl Rest<'_> {
         };
         self.text = text;
         self.line += 1;
+        Ok(())
+    }
+
+    /// Takes lines that are due, one after the other. Each is made on the sheet alone.
+    pub(crate) fn take_all<L: Lines>(
+        &mut self,
+        sheet: &mut Sheet,
+        lines: &L,
+        what: What,
+    ) -> Result<(), Bad>
+        requires fits { L.fits lines.now }
+        requires each { All IsLine (L.lines lines.now) }
+        requires other { what ≢ What.More }
+        ensures { (p : PlansData) (h : List Event)
+            → Judges p h (same_lines what (L.lines lines.now)) self.old self.new result }
+    {
+        for index in 0..lines.count() {
+            sheet.clear();
+            lines.make(index, sheet);
+            self.take(sheet.bytes(), what)?;
+        }
         Ok(())
     }
 

@@ -1,21 +1,17 @@
 //! The parts of an output after its journal, line by line.
-ghost use Rattle.std.specs.Prelude.{◌≡◌, ◌≤◌, List, [], ◌∷◌, Some, IsSome, IfOk, IfErr, Contains, length, map, take};
+ghost use Rattle.std.specs.Prelude.{◌≡◌, ◌≤◌, List, [], ◌∷◌, Some, IfOk, IfErr, Contains, length, map, take};
 ghost use Rattle.std.specs.Bool.{Decides};
 ghost use Rattle.std.specs.List.{flat_map, range_with_len};
-ghost use Rattle.gpu_store.specs.Images.{picture_of};
-ghost use Rattle.gpu_store.specs.Picture.{Picture};
 ghost use Rattle.gpu_plan.specs.Plans.{PlansData, plan_of};
 ghost use Rattle.gpu_plan.specs.Passes.{flush_count, flushes};
 ghost use Rattle.gpu_plan.specs.declared.acting.TheConstants.{MOST_ACTIONS};
 ghost use Rattle.gpu_journal.specs.declared.event.Event.{Event};
 ghost use Rattle.sync_core.specs.Standing.{IsKnown};
 ghost use Rattle.gpu_journal.specs.Ended.{streams_of};
-ghost use Rattle.journal_text.specs.Lines.{mark_text};
 ghost use Rattle.journal_verify.specs.Followed.{sum_after};
 ghost use Rattle.verify_input.specs.Due as Due;
-ghost use Rattle.verify_input.specs.Due.{same_lines, lines_of_image, end_lines, heads_due, dumps_due, looks_due};
+ghost use Rattle.verify_input.specs.Due.{same_lines, lines_of_image, heads_due, dumps_due, looks_due};
 ghost use Rattle.verify_input.specs.Taking.{HasTaken, IsBad, Judges, IsHistory, IsLook, is_lost, past_of};
-ghost use Rattle.wait_hooks.specs.Marks.{mark};
 
 use crate::reading_lines::{first_look, value_before_end};
 use crate::rest::{Bad, Rest};
@@ -24,114 +20,76 @@ use gpu_journal::{End, Journal, replay};
 use gpu_plan::{Action, Plan, Plans};
 use gpu_store::{Images, texel_sum};
 use gpu_word::Memory;
-use journal_text::Line;
+use journal_text::{Ended, ImageLines, NameLines, Sheet};
 use journal_verify::Followed;
 use live_view::{LOOKS, MOST_VIEWERS};
 use std::alloc::Global;
+use stream_state::StreamState;
 use sync_core::Ending;
 use wait_hooks::mark;
 
-/// What an output is judged by: its script, its events, and what these leave.
+/// What an output is judged by: its script, the base of its marks, its events, and what these leave.
 #[derive(Clone, Copy)]
 pub(crate) struct History<'a> {
     pub(crate) plans: &'a Plans,
+    pub(crate) base: u32,
     pub(crate) journal: &'a Journal,
     pub(crate) followed: &'a Followed,
     pub(crate) ends: &'a [End],
 }
 
+impl Ended for History<'_> {
+    ghost plans = { λ history. history.plans.now };
+
+    ghost base = { λ history. history.base };
+
+    ghost past = { past_of };
+
+    ghost fits = { IsHistory };
+
+    fn plans(&self) -> &Plans {
+        self.plans
+    }
+
+    fn stream(&self, stream: u32) -> &StreamState {
+        self.followed.state(stream)
+    }
+
+    fn ends(&self) -> &[End] {
+        self.ends
+    }
+
+    fn endings(&self) -> &[Ending] {
+        self.followed.endings()
+    }
+
+    fn mark(&self, index: usize) -> u32 {
+        mark(self.base, self.followed.endings()[index])
+    }
+}
+
 /// The head line and the name lines, of a script of version 2.
-pub(crate) fn take_names(rest: &mut Rest<'_>, line: &mut Line, plans: &Plans) -> Result<(), Bad>
+pub(crate) fn take_names(rest: &mut Rest<'_>, sheet: &mut Sheet, plans: &Plans) -> Result<(), Bad>
     ensures { (h : List Event)
         → Judges plans.now h (heads_due plans.now) rest.old rest.new result }
 {
     if plans.version() != 2 {
         return Ok(());
     }
-    line.put_head();
-    rest.take(line.bytes(), What::Name)?;
-    for index in 0..plans.count() {
-        line.put_name(index + 1, plans.name(index + 1));
-        rest.take(line.bytes(), What::Name)?;
-    }
-    Ok(())
-}
-
-// How many rows an image has.
-fn height_of(images: &Images, image: u32) -> u32
-    requires { IsSome (picture_of images.now image) }
-    ensures { (picture : Picture) → picture_of images.now image ≡ Some picture
-        → result ≡ picture.height }
-{
-    let (_, height) = images.size(image).unwrap();
-    height
-}
-
-// The lines of an image.
-fn take_image(rest: &mut Rest<'_>, line: &mut Line, images: &Images, image: u32) -> Result<(), Bad>
-    requires { IsSome (picture_of images.now image) }
-    ensures { (picture : Picture) (p : PlansData) (h : List Event)
-        → picture_of images.now image ≡ Some picture
-        → Judges p h (same_lines What.Image (lines_of_image (image, picture))) rest.old rest.new result }
-{
-    line.put_image(images, image);
-    rest.take(line.bytes(), What::Image)?;
-    let height = height_of(images, image);
-    for y in 0..height {
-        line.put_row(images, image, y);
-        rest.take(line.bytes(), What::Image)?;
-    }
-    Ok(())
+    rest.take_all(sheet, &NameLines::of(plans), What::Name)
 }
 
 /// The lines of all images.
-pub(crate) fn take_images(rest: &mut Rest<'_>, line: &mut Line, images: &Images) -> Result<(), Bad>
+pub(crate) fn take_images(
+    rest: &mut Rest<'_>,
+    sheet: &mut Sheet,
+    images: &Images,
+) -> Result<(), Bad>
     ensures { (p : PlansData) (h : List Event)
         → Judges p h (same_lines What.Image (flat_map lines_of_image images.now)) rest.old rest.new result }
 {
     for image in images.numbers() {
-        take_image(rest, line, images, image)?;
-    }
-    Ok(())
-}
-
-/// The line of each stream.
-pub(crate) fn take_streams(
-    rest: &mut Rest<'_>,
-    line: &mut Line,
-    history: History<'_>,
-) -> Result<(), Bad>
-    requires history { IsHistory history }
-    ensures { Judges history.entry.plans.now (past_of history.entry)
-        (same_lines What.Stream (end_lines history.entry.plans.now (past_of history.entry)))
-        rest.old rest.new result }
-{
-    for index in 0..history.plans.count() {
-        let stream = index + 1;
-        line.put_stream(
-            stream,
-            history.followed.state(stream),
-            history.ends[index as usize],
-        );
-        rest.take(line.bytes(), What::Stream)?;
-    }
-    Ok(())
-}
-
-/// The line of each ending, with its mark over a base.
-pub(crate) fn take_marks(
-    rest: &mut Rest<'_>,
-    line: &mut Line,
-    endings: &[Ending],
-    base: u32,
-) -> Result<(), Bad>
-    ensures { (p : PlansData) (h : List Event) → Judges p h
-        (same_lines What.Mark (map (λ ending. mark_text ending (mark base ending)) endings.now))
-        rest.old rest.new result }
-{
-    for ending in endings {
-        line.put_mark(ending, mark(base, *ending));
-        rest.take(line.bytes(), What::Mark)?;
+        rest.take_all(sheet, &ImageLines::of(images, image), What::Image)?;
     }
     Ok(())
 }
@@ -162,7 +120,7 @@ fn flushes_in(actions: &[Action]) -> u32
 // The line of a dump of a stream, before whose action this number of flushes stands.
 fn take_dump(
     rest: &mut Rest<'_>,
-    line: &mut Line,
+    sheet: &mut Sheet,
     history: History<'_>,
     stream: u32,
     dump: (u32, u32),
@@ -176,19 +134,21 @@ fn take_dump(
         rest.old rest.new result }
 {
     let (action, place) = dump;
-    line.put_dump(stream, action, place, 0);
-    let value = value_before_end(rest.text, line.bytes().len());
+    sheet.clear();
+    sheet.put_dump(stream, action, place, 0);
+    let value = value_before_end(rest.text, sheet.bytes().len());
     if !history.followed.may_be_told(stream, place, least, value) {
         return Err(rest.off(What::Dump));
     }
-    line.put_dump(stream, action, place, value);
-    rest.take(line.bytes(), What::Dump)
+    sheet.clear();
+    sheet.put_dump(stream, action, place, value);
+    rest.take(sheet.bytes(), What::Dump)
 }
 
 // The lines of the dumps of a stream, whose plan this is.
 fn take_dumps_of(
     rest: &mut Rest<'_>,
-    line: &mut Line,
+    sheet: &mut Sheet,
     history: History<'_>,
     stream: u32,
     plan: &Plan,
@@ -207,7 +167,7 @@ fn take_dumps_of(
         least += flushes_in(passed);
         left = more;
         done = dump.0;
-        take_dump(rest, line, history, stream, *dump, least)?;
+        take_dump(rest, sheet, history, stream, *dump, least)?;
     }
     Ok(())
 }
@@ -225,7 +185,7 @@ fn is_lost(end: End) -> bool
 // The lines of the dumps of a stream, unless it is lost.
 fn take_dumps_in(
     rest: &mut Rest<'_>,
-    line: &mut Line,
+    sheet: &mut Sheet,
     history: History<'_>,
     stream: u32,
 ) -> Result<(), Bad>
@@ -239,13 +199,13 @@ fn take_dumps_in(
         return Ok(());
     }
     let plan = history.plans.plan(stream);
-    take_dumps_of(rest, line, history, stream, plan)
+    take_dumps_of(rest, sheet, history, stream, plan)
 }
 
 /// The lines of all dumps. A stream that is lost has none.
 pub(crate) fn take_dumps(
     rest: &mut Rest<'_>,
-    line: &mut Line,
+    sheet: &mut Sheet,
     history: History<'_>,
 ) -> Result<(), Bad>
     requires history { IsHistory history }
@@ -254,7 +214,7 @@ pub(crate) fn take_dumps(
         (streams_of history.entry.plans.now)) rest.old rest.new result }
 {
     for index in 0..history.plans.count() {
-        take_dumps_in(rest, line, history, index + 1)?;
+        take_dumps_in(rest, sheet, history, index + 1)?;
     }
     Ok(())
 }
@@ -297,7 +257,7 @@ fn may_be_seen(
 fn take_look(
     alloc: Global,
     rest: &mut Rest<'_>,
-    line: &mut Line,
+    sheet: &mut Sheet,
     history: History<'_>,
     viewer: u32,
     least: u32,
@@ -314,8 +274,9 @@ fn take_look(
         return Err(rest.off(What::View));
     }
     let (events, sum) = look;
-    line.put_view(viewer, events, sum);
-    rest.take(line.bytes(), What::View)?;
+    sheet.clear();
+    sheet.put_view(viewer, events, sum);
+    rest.take(sheet.bytes(), What::View)?;
     Ok(events)
 }
 
@@ -323,7 +284,7 @@ fn take_look(
 fn take_viewer(
     alloc: Global,
     rest: &mut Rest<'_>,
-    line: &mut Line,
+    sheet: &mut Sheet,
     history: History<'_>,
     viewer: u32,
 ) -> Result<(), Bad>
@@ -333,11 +294,11 @@ fn take_viewer(
 {
     let mut least = 0;
     for _look in 0..LOOKS {
-        least = take_look(alloc, rest, line, history, viewer, least)?;
+        least = take_look(alloc, rest, sheet, history, viewer, least)?;
     }
     // The last look is of all events.
     let all = history.journal.count() as u32;
-    take_look(alloc, rest, line, history, viewer, all)?;
+    take_look(alloc, rest, sheet, history, viewer, all)?;
     Ok(())
 }
 
@@ -345,7 +306,7 @@ fn take_viewer(
 pub(crate) fn take_viewers(
     alloc: Global,
     rest: &mut Rest<'_>,
-    line: &mut Line,
+    sheet: &mut Sheet,
     history: History<'_>,
     viewers: u32,
 ) -> Result<(), Bad>
@@ -355,7 +316,7 @@ pub(crate) fn take_viewers(
         (flat_map looks_due (range_with_len 1 viewers)) rest.old rest.new result }
 {
     for index in 0..viewers {
-        take_viewer(alloc, rest, line, history, index + 1)?;
+        take_viewer(alloc, rest, sheet, history, index + 1)?;
     }
     Ok(())
 }

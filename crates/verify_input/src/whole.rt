@@ -12,13 +12,12 @@ use crate::finding::Finding;
 use crate::looks::view_lines;
 use crate::reading::read_journal;
 use crate::rest::{Bad, MOST_WHOLE_BYTES, Rest};
-use crate::sections::{
-    History, take_dumps, take_images, take_marks, take_names, take_streams, take_viewers,
-};
+use crate::sections::{History, take_dumps, take_images, take_names, take_viewers};
+use crate::what::What;
 use gpu_journal::Journal;
 use gpu_plan::{Plans, ScriptFault, parse};
 use gpu_word::Memory;
-use journal_text::Line;
+use journal_text::{MarkLines, Sheet, StreamLines};
 use journal_verify::{Ruling, ends_of, follow};
 use live_view::MOST_VIEWERS;
 use std::alloc::Global;
@@ -27,21 +26,20 @@ use std::alloc::Global;
 fn take_rest(
     alloc: Global,
     rest: &mut Rest<'_>,
-    line: &mut Line,
+    sheet: &mut Sheet,
     history: History<'_>,
-    base: u32,
     viewers: u32,
 ) -> Result<(), Bad>
     requires history { IsHistory history }
     requires few { viewers ≤ MOST_VIEWERS }
     ensures { JudgesAll history.entry.plans.now (past_of history.entry)
-        (dues history.entry.plans.now base (past_of history.entry) viewers) rest.old result }
+        (dues history.entry.plans.now history.entry.base (past_of history.entry) viewers) rest.old result }
 {
-    take_images(rest, line, history.followed.images())?;
-    take_streams(rest, line, history)?;
-    take_marks(rest, line, history.followed.endings(), base)?;
-    take_dumps(rest, line, history)?;
-    take_viewers(alloc, rest, line, history, viewers)?;
+    take_images(rest, sheet, history.followed.images())?;
+    rest.take_all(sheet, &StreamLines::of(&history), What::Stream)?;
+    rest.take_all(sheet, &MarkLines::of(&history), What::Mark)?;
+    take_dumps(rest, sheet, history)?;
+    take_viewers(alloc, rest, sheet, history, viewers)?;
     rest.end()
 }
 
@@ -51,7 +49,7 @@ fn judge_all(
     plans: &Plans,
     journal: &Journal,
     rest: Rest<'_>,
-    line: &mut Line,
+    sheet: &mut Sheet,
     base: u32,
 ) -> Result<Finding, Memory>
     requires { length journal.now.events < 2 ^ 32 }
@@ -68,11 +66,12 @@ fn judge_all(
     };
     let history = History {
         plans,
+        base,
         journal,
         followed: &followed,
         ends: ends.as_slice(),
     };
-    match take_rest(alloc, &mut rest, line, history, base, views.viewers) {
+    match take_rest(alloc, &mut rest, sheet, history, views.viewers) {
         Ok(()) => Ok(Finding::Yes {
             images: followed.into_images(),
             events: journal.count() as u32,
@@ -108,12 +107,12 @@ fn examine_output(
     ensures { (input : List ℕ) → IsAfterScript input plans.now lines (whole_lines text.now)
         → IfOk result (λ finding. FindsWhole base input finding) }
 {
-    let mut line = Line::make(alloc)?;
+    let mut sheet = Sheet::make(alloc, 0)?;
     let mut rest = Rest {
         text,
         line: lines + 2,
     };
-    match take_names(&mut rest, &mut line, plans) {
+    match take_names(&mut rest, &mut sheet, plans) {
         Ok(()) => {}
         Err(Bad::Off { line, what }) => return Ok(Finding::Differs { line, what }),
         Err(Bad::Memory(memory)) => return Err(memory),
@@ -129,7 +128,7 @@ fn examine_output(
         Err(JournalFault::Memory(memory)) => return Err(memory),
     };
     let after = after_part(rest, cut.part, cut.lines);
-    judge_all(alloc, plans, &journal, after, &mut line, base)
+    judge_all(alloc, plans, &journal, after, &mut sheet, base)
 }
 
 /// The verdict on an input of at most 67,108,864 bytes: a script, a line whose only word is `journal`, and a whole output with

@@ -3,7 +3,8 @@ use Rattle.std.specs.List.{flat_map}
 use Rattle.std.proofs.Math.Seq.{take-length}
 use Rattle.run_output.specs.Parts.{dump_texts, dump_read_text}
 use Rattle.run_output.proofs.Pieces.{line_put, line_failed}
-use Rattle.run_output.proofs.Texts.{concat-map, dumps_at, length-dump_texts}
+use Rattle.journal_text.proofs.Parts.{concat-map}
+use Rattle.run_output.proofs.Texts.{dumps_at, length-dump_texts}
 use Rattle.run_output.proofs.output.put_dumps.Goals as goal
 
 pub returns-in_err-put_all : goal.returns-in_err-put_all

@@ -6,7 +6,8 @@ use Rattle.std.proofs.Math.Seq.{take-length}
 use Rattle.live_view.specs.declared.look.Look.{Look}
 use Rattle.run_output.specs.Parts.{view_texts, look_text}
 use Rattle.run_output.proofs.Pieces.{line_put, line_failed}
-use Rattle.run_output.proofs.Texts.{concat-map, looks_at, length-view_texts}
+use Rattle.journal_text.proofs.Parts.{concat-map}
+use Rattle.run_output.proofs.Texts.{looks_at, length-view_texts}
 use Rattle.run_output.proofs.output.put_looks.Goals as goal
 
 pub returns-in_err-put_all : goal.returns-in_err-put_all

@@ -1,5 +1,6 @@
 use Rattle.verify_input.proofs.Names.{◌≡◌, true, length, sym, ap, subst, ◌∙◌, [], ◌∷◌, dump_text, may_be_told, told_decides, IsLine, Dump, EndsWith, IsBad, past_of}
 use Rattle.verify_input.proofs.Feeds.{dump_line}
+use Rattle.verify_input.proofs.Dues.{alone}
 use Rattle.verify_input.proofs.Telling.{Told, dump_bad, dump_judged}
 use Rattle.verify_input.proofs.sections.take_dump.Goals as goal
 use Rattle.verify_input.proofs.sections.take_dump.Goals.{After-may_be_told}
@@ -13,7 +14,7 @@ told c =
     let dump = c.args.dump in
     let followed = c.args.history.followed.now in
     let decides = told_decides p h followed s dump c.requires.history.followed c.requires.known c.requires.there in
-    let count : length c.bytes.result.now ≡ length (dump_text s dump.0 dump.1 0) = ap length (c.bytes.ensures ∙ c.put_dump.ensures) in
+    let count : length c.bytes.result.now ≡ length (dump_text s dump.0 dump.1 0) = ap length (alone c.bytes.ensures c.put_dump.ensures.bytes c.clear.ensures.bytes) in
     record {
       reads = λ other ends. c.value_before_end-value.ensures other (subst (λ n. EndsWith c.args.rest.now.text.now n other) (sym count) ends);
       small = λ other may. c.may_be_told.ensures.small other (subst (λ n. may_be_told followed s dump.1 n other ≡ true) (sym c.requires.least) ((decides other).1 may));
@@ -29,9 +30,9 @@ returns-then-not-may_be_told c = record {
 }
 
 pub take-requires : goal.take-requires
-take-requires c = record { line = subst IsLine (sym (c.bytes-2.ensures ∙ c.put_dump-2.ensures)) (dump_line _ _ _ _); other = λ e. cc }
+take-requires c = record { line = subst IsLine (sym (alone c.bytes-2.ensures c.put_dump-2.ensures.bytes c.clear-2.ensures.bytes)) (dump_line _ _ _ _); other = λ e. cc }
 
 pub returns : goal.returns
 returns c =
     dump_judged (told (goal.at.returns c).After-may_be_told) c.if-not-may_be_told.false c.take.result
-    (rw (c.bytes-2.ensures ∙ c.put_dump-2.ensures) at (c.take.ensures c.args.history.plans.now (past_of c.args.history)))
+    (rw (alone c.bytes-2.ensures c.put_dump-2.ensures.bytes c.clear-2.ensures.bytes) at (c.take.ensures c.args.history.plans.now (past_of c.args.history)))

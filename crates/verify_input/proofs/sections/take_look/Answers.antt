@@ -1,5 +1,5 @@
-use Rattle.verify_input.proofs.Names.{◌∷◌, [], subst, sym, ◌∙◌, err_from_is_err_and, IsLine, Look, IsBad, past_of}
-use Rattle.verify_input.proofs.Dues.{no_memory}
+use Rattle.verify_input.proofs.Names.{◌∷◌, [], subst, sym, err_from_is_err_and, IsLine, Look, IsBad, past_of}
+use Rattle.verify_input.proofs.Dues.{alone, no_memory}
 use Rattle.verify_input.proofs.Feeds.{view_line}
 use Rattle.verify_input.proofs.Telling.{Seen, look_bad, look_taken, look_off}
 use Rattle.verify_input.proofs.sections.take_look.Goals as goal
@@ -14,7 +14,7 @@ read c = record {
 }
 
 pub take-requires : goal.take-requires
-take-requires c = record { line = subst IsLine (sym (c.bytes.ensures ∙ c.put_view.ensures)) (view_line _ _ _); other = λ e. cc }
+take-requires c = record { line = subst IsLine (sym (alone c.bytes.ensures c.put_view.ensures.bytes c.clear.ensures.bytes)) (view_line _ _ _); other = λ e. cc }
 
 pub returns-then-not-seen-clause-err : goal.returns-then-not-seen-clause-err
 returns-then-not-seen-clause-err c =
@@ -31,9 +31,9 @@ pub returns-in_err-take-clause-err : goal.returns-in_err-take-clause-err
 returns-in_err-take-clause-err c =
     let exit = err_from_is_err_and c.from_residual-in_err-take.result c.from_residual-in_err-take.ensures.1 in
     rw (exit.1, exit.2) (look_off (read (goal.at.returns-in_err-take-clause-err c).After-first_look-look)
-    (rw (c.bytes.ensures ∙ c.put_view.ensures) at (c.in_err-take.ensures c.args.history.plans.now (past_of c.args.history)).err))
+    (rw (alone c.bytes.ensures c.put_view.ensures.bytes c.clear.ensures.bytes) at (c.in_err-take.ensures c.args.history.plans.now (past_of c.args.history)).err))
 
 pub returns-clause-ok : goal.returns-clause-ok
 returns-clause-ok c =
     look_taken (read (goal.at.returns-clause-ok c).After-first_look-look) (c.in_ok-seen.ensures.0 c.if-not-seen.false)
-    (rw (c.bytes.ensures ∙ c.put_view.ensures) at (c.in_ok-take.ensures c.args.history.plans.now (past_of c.args.history)).ok)
+    (rw (alone c.bytes.ensures c.put_view.ensures.bytes c.clear.ensures.bytes) at (c.in_ok-take.ensures c.args.history.plans.now (past_of c.args.history)).ok)

@@ -1,6 +1,0 @@
-use Rattle.std.proofs.Common.{sym}
-use Rattle.run_output.proofs.Parts.{length-image}
-use Rattle.run_output.proofs.image_lines.ImageLinesLines.count.Goals as goal
-
-pub returns : goal.returns
-returns c = sym (length-image c.args.self.now.image c.args.self.now.height _ c.args.self.now.there)

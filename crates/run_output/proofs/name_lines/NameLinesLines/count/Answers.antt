@@ -1,6 +1,0 @@
-use Rattle.std.proofs.Common.{arith}
-use Rattle.run_output.proofs.Parts.{length-heads}
-use Rattle.run_output.proofs.name_lines.NameLinesLines.count.Goals as goal
-
-pub returns : goal.returns
-returns c = omega (arith, length-heads c.args.self.now.plans.now, c.args.self.now.counted)
