@@ -23,8 +23,9 @@ from .waits import Names, Wait, Waits
 RELEASE, SET_TOKEN, NAMED_WAIT = (
     NAMED[name].id for name in ("InsertFence", "SetToken", "WaitSyncToken"))
 WAITS = (NAMED["WaitToken"].id, NAMED_WAIT)
-# by id of the commands that matter here, how many entries they have
+# by id of the commands that matter here, how many entries they have, and the most of them
 DEEDS = {number: TABLE[number].size for number in (*PLACES, *WAITS, RELEASE, SET_TOKEN)}
+MOST = max(DEEDS.values())
 NO_STEP = "the step has no whole command"
 
 
@@ -40,6 +41,7 @@ class Conflict(NamedTuple):
 class Lane:
     """A stream: its numbers, its releases and its clock."""
 
+    plan: Plan
     client: Client
     clock: list[int]
     open: deque[int] = field(default_factory=deque)
@@ -57,10 +59,6 @@ class Lane:
     def front(self) -> int | None:
         """The first unprocessed number."""
         return self.open[0] if self.open else None
-
-    @property
-    def plan(self) -> Plan:
-        return self.client.plan
 
     def step_of(self, release: int) -> int:
         """Which of its releases came to a count, or how many there are."""
@@ -81,7 +79,8 @@ class Clocks:
 
     def __init__(self, output: Output, script: Script) -> None:
         self.count = 0  # how many events there were
-        self.lanes = [Lane(Client(plan), [-1] * len(script.plans)) for plan in script.plans]
+        self.lanes = [Lane(plan, Client(plan), [-1] * len(script.plans)) for plan in script.plans]
+        self.stream = dict(enumerate(self.lanes, 1)).get  # of a number, where there is one
         self.numbers = {name: number for number, name in enumerate(script.names, 1)}
         self.waits = Waits(self, Names(tuple(script.names)))
         self.number_of: list[int] = []  # the order number that each event is of, or 0
@@ -90,16 +89,12 @@ class Clocks:
         self.races: list[Conflict] = []  # those that nothing orders
         self.ordered: dict[tuple[int, int], list[Conflict]] = {}  # the others, by both streams
         take = {"order": self.take_order, "step": self.take_step, "finish": self.take_finish}
-        for event in output.events:
+        for self.count, event in enumerate(output.events):
             lane = self.stream(event.stream)
             if lane is None or lane.gone is not None:
                 raise OutputRefused(event.line, "there is no such stream, or it is lost or closed")
             self.number_of.append(lane.open[0] if lane.open else 0)
             take.get(event.kind, self.take_end)(event, lane)
-            self.count += 1
-
-    def stream(self, number: int) -> Lane | None:
-        return self.lanes[number - 1] if 1 <= number <= len(self.lanes) else None
 
     def take_order(self, event: Event, lane: Lane) -> None:
         self.drawn += 1
@@ -113,7 +108,7 @@ class Clocks:
         lane.open.append(event.number)
 
     def take_step(self, event: Event, lane: Lane) -> None:
-        pieces = event.text.split(":")  # after the first one each begins with a value
+        pieces = event.text.split(":", MOST)  # after the first one each begins with a value
         if not lane.open or len(pieces) < 2:
             raise OutputRefused(event.line, NO_STEP)
         if lane.due:
@@ -124,12 +119,14 @@ class Clocks:
         number, size = parts_of(int(pieces[1][:8], 16))
         if number not in DEEDS:
             return
-        if size < DEEDS[number] or len(pieces) <= DEEDS[number]:
+        wanted = DEEDS[number]
+        if size < wanted or len(pieces) <= wanted:
             raise OutputRefused(event.line, NO_STEP)
+        arguments = [int(piece[:8], 16) for piece in pieces[2:wanted + 1]]
         if number in PLACES:
-            self.touch(event.stream, lane, number, pieces)
+            self.touch(event.stream, lane, number, arguments)
         else:
-            self.execute(event, lane, number, [int(piece[:8], 16) for piece in pieces[2:]])
+            self.execute(event, lane, number, arguments)
 
     def execute(self, event: Event, lane: Lane, number: int, values: list[int]) -> None:
         """Does what a step does to the tokens, the releases and the waits, by its arguments."""
@@ -138,7 +135,7 @@ class Clocks:
         elif number == RELEASE:
             self.raise_count(event, lane, values[0] + (values[1] << 32))
         else:
-            *on, low, high = values[:DEEDS[number] - 1]
+            *on, low, high = values
             name = (on[0], on[1] + (on[2] << 32)) if number == NAMED_WAIT else None
             target = self.numbers.get(name, 0) if name else on[0]
             self.make(event, lane, lane.open[0], target, low + (high << 32),
@@ -184,7 +181,7 @@ class Clocks:
             target = self.stream(wait.target)
             if target is not None and self.is_ordering(wait, target):
                 clock = target.clocks[target.step_of(wait.release)]
-                lane.clock[:] = [max(pair) for pair in zip(lane.clock, clock)]
+                lane.clock = [max(pair) for pair in zip(lane.clock, clock)]
 
     @staticmethod
     def is_ordering(wait: Wait, target: Lane) -> bool:
@@ -194,13 +191,11 @@ class Clocks:
 
     # --- Conflicts ---
 
-    def touch(self, here: int, lane: Lane, number: int, pieces: list[str]) -> None:
+    def touch(self, here: int, lane: Lane, number: int, arguments: list[int]) -> None:
         """Compares a step with the latest ones of other streams that it conflicts with."""
         found: dict[tuple[int, int], int] = {}  # by image and event, the other stream
-        for image, part, writes in touches_of(number, pieces):
-            of_image = self.images.get(image)
-            if of_image is None:
-                of_image = self.images[image] = {}
+        for image, part, writes in touches_of(number, arguments):
+            of_image = self.images.setdefault(image, {})
             for stream, traces in of_image.items():
                 if stream != here and (first := traces.conflict(part, writes)) >= 0:
                     found[image, first] = stream
@@ -208,7 +203,7 @@ class Clocks:
                 of_image[here] = Traces()
             of_image[here].note(part, writes, self.count)
         if number == CREATE:
-            self.texels += int(pieces[3][:8], 16) * int(pieces[4][:8], 16)
+            self.texels += arguments[1] * arguments[2]
         for (image, first), stream in found.items():
             conflict = Conflict(image, first, self.count)
             if first > lane.clock[stream - 1]:

@@ -4,17 +4,19 @@ Nothing is judged here. Words that are no command are shown as they are.
 """
 
 from collections.abc import Iterable
-from functools import lru_cache
+from dataclasses import dataclass
+from functools import cached_property
 from typing import NamedTuple
 
 from .plain import counted
 from .table import BYTES_OF_FORMAT, ERRORS, FORMATS, NOOP, TABLE, WIDE
 
 __all__ = ["BYTES_OF_FORMAT", "ERRORS", "FORMATS", "NOOP", "TABLE", "WIDE", "Command", "Words",
-           "decode", "entries_wanted", "place_of", "read", "sentence", "sentence_of"]
+           "decode", "entries_wanted", "parse", "place_of"]
 
 
-class Command(NamedTuple):
+@dataclass
+class Command:
     """The words of a command, read by the table."""
 
     id: int
@@ -23,6 +25,20 @@ class Command(NamedTuple):
     values: dict[str, int]  # its arguments by their names
     data: int  # how many entries of data follow the arguments
     transfer: int  # how many words of a memory follow the entries
+
+    @cached_property
+    def sentence(self) -> str:
+        """The command as one line of plain words."""
+        parts = [shown(field, value) for field, value in self.values.items()]
+        if self.name == "no command":
+            return f"no command has the id {self.id} (size {self.size})"
+        if self.id == NOOP:
+            parts.append(counted(self.size, "entry", "entries"))
+        if self.data:
+            parts.append(counted(self.data, "entry of data", "entries of data"))
+        if self.transfer:
+            parts.append(counted(self.transfer, "word of the memory", "words of the memory"))
+        return f"{self.name}: " + ", ".join(parts) if parts else self.name
 
 
 def entries_wanted(number: int, size: int) -> int:
@@ -66,31 +82,11 @@ class Words(NamedTuple):
     command: Command
 
 
-SHORT, KNOWN = 256, 8192  # the number of short texts that are kept
-
-
 def parse(words: str) -> Words:
     """Words as they are printed."""
     texts = words.split()
     values = [int(text[-8:], 16) for text in texts]
     return Words(int(texts[0][:-9]) if texts else 0, values, command_of(values))
-
-
-def explained(words: str) -> str:
-    return sentence(read(words).command)
-
-
-parse_short, explained_short = lru_cache(KNOWN)(parse), lru_cache(KNOWN)(explained)
-
-
-def read(words: str) -> Words:
-    """The same as `parse`, where short texts that come again are read once."""
-    return parse_short(words) if len(words) <= SHORT else parse(words)
-
-
-def sentence_of(words: str) -> str:
-    """The sentence of a command, by its words as they are printed."""
-    return explained_short(words) if len(words) <= SHORT else explained(words)
 
 
 def place_of(command: Command, field: str) -> int:
@@ -109,17 +105,3 @@ def shown(field: str, value: int) -> str:
     if field == "format":
         return f"format {value} ({FORMATS.get(value, 'none')})"
     return f"{field.replace('_', ' ')} {value}"
-
-
-def sentence(command: Command) -> str:
-    """A command as one line of plain words."""
-    parts = [shown(field, value) for field, value in command.values.items()]
-    if command.name == "no command":
-        return f"no command has the id {command.id} (size {command.size})"
-    if command.id == NOOP:
-        parts.append(counted(command.size, "entry", "entries"))
-    if command.data:
-        parts.append(counted(command.data, "entry of data", "entries of data"))
-    if command.transfer:
-        parts.append(counted(command.transfer, "word of the memory", "words of the memory"))
-    return f"{command.name}: " + ", ".join(parts) if parts else command.name

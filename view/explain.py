@@ -11,7 +11,7 @@ from pathlib import Path
 
 from zorvleid import console, verdict
 from zorvleid.errors import printable
-from zorvleid.output import HEAD, NO_LINE_FEED, Event, Lines, read_event
+from zorvleid.output import HEAD, NO_LINE_FEED, Lines, events_of
 from zorvleid.script import BYTES_AT_MOST
 
 from . import commands, due, files, programs, rules, sources, whole
@@ -42,17 +42,7 @@ class Input:
             self.heads = [HEAD,
                           *(f"name {number} {space} {name}" for number, (space, name) in names)]
         first = (self.journal or 0) + len(self.heads)
-        self.events = self.read_events(first) if self.journal else []
-
-    def read_events(self, first: int) -> list[Event]:
-        """The events from a line on, up to one that is no event's."""
-        events = []
-        for number, line in enumerate(self.lines[first:], first + 1):
-            event = read_event(line, number)
-            if event is None:
-                break
-            events.append(event)
-        return events
+        self.events = events_of(self.lines[first:], first + 1) if self.journal else []
 
     def place(self, line: int) -> str:
         """A line in words: of the file of the journal, where that has one, or of the input."""
@@ -80,7 +70,7 @@ def on_no(given: Input, number: int, rule: int) -> Iterator[str]:
     yield f"    {event.text}"
     yield f"stream: {event.stream}"
     if event.words:
-        yield f"words: {commands.sentence_of(event.words)}"
+        yield f"words: {commands.parse(event.words).command.sentence}"
     yield f"rule {rule}{f' (of {of_events})' if of_events else ''}: {sentence}"
     standing = standing_of(given, number - 1)
     for line in due.wanted(rule, event, standing):

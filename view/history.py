@@ -29,14 +29,16 @@ COUNTS = ("entries", "release", "token", "words", "error 0501", "error 0502", "e
 def rings(output: Output) -> list[int | None]:
     """The ring of each stream, where its steps went round it."""
     found: list[int | None] = [None] * len(output.streams)
-    ends = [0] * len(output.streams)
+    firsts = {number: f"step {number} 0:" for number in range(1, len(found) + 1)}
+    before: dict[int, Event] = {}
     for event in output.events:
-        if event.kind != "step" or not 1 <= event.stream <= len(ends):
+        if event.kind != "step" or event.stream not in firsts:
             continue
-        place, _, rest = event.words[1:].partition(":")
-        if place == "0" and ends[event.stream - 1]:
-            found[event.stream - 1] = ends[event.stream - 1]
-        ends[event.stream - 1] = int(place or 0) + int(rest[:8] or "0", 16) % 2**21
+        if event.text.startswith(firsts[event.stream]) and event.stream in before:
+            place, _, rest = before[event.stream].words[1:].partition(":")
+            end = int(place or 0) + int(rest[:8] or "0", 16) % 2**21
+            found[event.stream - 1] = end or found[event.stream - 1]
+        before[event.stream] = event
     return found
 
 

@@ -41,10 +41,10 @@ def what(history: History, place: int) -> str:
     """The kind and the work of an event, in words."""
     event, deed = history.output.events[place], history.deeds[place]
     if event.kind == "step" and deed.command is not None:
-        return f"{commands.sentence_of(event.words)}; {history.text(place)}"
+        return f"{deed.command.sentence}; {deed.text}"
     if event.kind == "lost":
         is_known = deed.command is not None and deed.command.id in commands.TABLE
-        at = f" at {commands.sentence(deed.command)}" if deed.command and is_known else ""
+        at = f" at {deed.command.sentence}" if deed.command and is_known else ""
         return f"lost by {deed.error}{at}; {history.text(place)}"
     return f"{event.kind}: {history.text(place)}"
 

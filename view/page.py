@@ -108,7 +108,8 @@ def naming(history: History, fields: Sequence[str]) -> dict[int, list[int]]:
     for place, deed in enumerate(history.deeds):
         if deed.command is not None and (named := fields_of.get(deed.command.id)):
             told = deed.command.values
-            for value in {told[field] for field in named if field in told}:
+            values = [told[field] for field in named if field in told]
+            for value in values if len(values) == 1 else set(values):
                 found.setdefault(value, []).append(place)
     return found
 

@@ -145,9 +145,9 @@ class Races:
 
     def step(self, place: int) -> tuple[str, list[Touch]]:
         """The name of the command of a step, and what it touches."""
-        pieces = self.output.events[place].text.split(":")
-        number, _ = parts_of(int(pieces[1][:8], 16))
-        return TABLE[number].name, touches_of(number, pieces)
+        (_, header), *words = self.output.events[place].fetched()
+        number, _ = parts_of(header)
+        return TABLE[number].name, touches_of(number, [value for _, value in words])
 
     def facts(self, conflict: Conflict) -> dict[str, Any]:
         """The image, what both steps touch of it, and the steps."""

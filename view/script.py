@@ -3,18 +3,20 @@
 Scripts that may be unlawful are not read here.
 """
 
+import re
 from bisect import bisect_left, bisect_right
 from collections.abc import Iterable, Iterator
 from dataclasses import dataclass, field
 from functools import cached_property
-from itertools import count, repeat
+from itertools import count
 
+HEXADECIMAL = re.compile("[0-9a-fA-F]+").fullmatch
 Target = int | tuple[int, int]  # a stream by its number, or by its name
 
 
 # A line of a script with actions: their kind, and an argument; of puts that is the first place, and
-# each action has a value.
-Line = tuple[str, int, list[int]]
+# each action has a value, which is kept as its hexadecimal digits.
+Line = tuple[str, int, list[str]]
 
 
 @dataclass(eq=False)
@@ -54,7 +56,7 @@ class Plan:
     @cached_property
     def actions(self) -> list[tuple[str, int, int]]:
         """All of them: the kind, the argument or the place, and the value."""
-        return [(kind, argument + at, value) for kind, argument, values in self.acts
+        return [(kind, argument + at, int(value, 16)) for kind, argument, values in self.acts
                 for at, value in enumerate(values)]
 
     def closes(self) -> bool:
@@ -151,21 +153,21 @@ class Script:
             plan.results[number] = (sum(size for _, size in plan.results.values()), words)
 
     def act(self, plan: Plan, first: str, rest: list[str]) -> None:
-        line: Line = (first, 0, [0])
+        line: Line = (first, 0, ["0"])
         if first == "put":
-            line = (first, int(rest[0]), numbers(rest[1:]))
+            line = (first, int(rest[0]), values_of(rest[1:]))
         elif first == "fill":
-            line = ("put", plan.memories[int(rest[0])][0] + int(rest[1]), numbers(rest[2:]))
+            line = ("put", plan.memories[int(rest[0])][0] + int(rest[1]), values_of(rest[2:]))
         elif first == "flush":
-            line = (first, int(rest[0]), [0])
+            line = (first, int(rest[0]), ["0"])
             if len(rest) > 1:
                 plan.fences[plan.size] = self.fences(rest[1:])
             plan.flushes.append(plan.size)
         else:
             if first == "token":
-                line = (first, int(rest[0]), [0])
+                line = (first, int(rest[0]), ["0"])
             elif first == "dump":
-                line = ("finish", 0, [0])
+                line = ("finish", 0, ["0"])
                 plan.dumps.append((plan.size, plan.results[int(rest[0])][0] + int(rest[1])))
             plan.awaits.append((plan.size, len(plan.flushes), line))
         plan.add(self.line, line)
@@ -178,6 +180,8 @@ class Script:
         return list(zip(zip(numbers[::3], numbers[1::3]), numbers[2::3]))
 
 
-def numbers(words: list[str]) -> list[int]:
-    """Words of hexadecimal digits."""
-    return list(map(int, words, repeat(16)))
+def values_of(words: list[str]) -> list[str]:
+    """Words, which have to be hexadecimal digits."""
+    if not HEXADECIMAL("".join(words)):
+        raise ValueError(f"other than hexadecimal digits: {' '.join(words)}")
+    return words

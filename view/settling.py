@@ -50,12 +50,13 @@ class Client:
         """Keeps the puts after a flush that the client can have come to. Neither end falls."""
         self.passed = self.plan.passed(self.finished, self.token, self.passed)
         reach = self.plan.reach(self.passed)
-        for _, place in self.plan.puts(self.low, min(flush, self.high)):
+        for _, place in self.plan.puts(self.low, min(flush, self.high)) if self.puts else ():
             self.puts[place].popleft()
             if not self.puts[place]:
                 del self.puts[place]
         self.low = flush
-        for at, place in self.plan.puts(max(flush, self.high), reach):
+        first = max(flush + 1, self.high)  # the flush itself puts nothing
+        for at, place in self.plan.puts(first, reach) if first < reach else ():
             self.puts.setdefault(place, deque()).append(at)
         self.high = max(flush, reach)
 

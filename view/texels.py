@@ -115,7 +115,7 @@ def lines(writes: Writes, texel: Texel, value: int) -> Iterator[str]:
     wide = len(str(writes.count))
     for write, of in writes.chain(texel):
         yield (f"{write.place + 1:>{wide}}  stream {write.event.stream}  order {write.order}  "
-               f"{commands.sentence(write.command)}; {write.text}")
+               f"{write.command.sentence}; {write.text}")
         yield f"{'':>{wide}}  {origin(write, of, value)}"
 
 

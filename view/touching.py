@@ -3,9 +3,10 @@
 A command that fails touches what it names too, since its failing depends on what is there.
 """
 
-from collections.abc import Iterator
+from collections.abc import Callable, Iterator
 from dataclasses import dataclass, field
 from itertools import product
+from operator import itemgetter
 
 from zorvleid.commands import NAMED
 
@@ -28,34 +29,25 @@ NAMED_PARTS = {
     "UploadBuffer": (("image", "x", "y", True),),
 }
 CREATE = NAMED["CreateImage"].id
-# By id of a command: where the image and the part stand. The pieces of the text of a step between
-# its colons are counted, and that at 1 begins with the header.
-Places = tuple[int, tuple[int, int, int, int] | None, bool]
+# Where the image stands among the arguments of a command, its part, and whether that is written.
+Places = tuple[int, Callable[[list[int]], Rectangle] | None, bool]
 
 
 def places_of(name: str) -> Iterator[Places]:
     keys = NAMED[name].keys
     for image, x, y, writes in NAMED_PARTS[name]:
-        part = None
-        if x:
-            part = (2 + keys.index(x), 2 + keys.index(y), 2 + keys.index("w"), 2 + keys.index("h"))
-        yield 2 + keys.index(image), part, writes
+        part = itemgetter(*map(keys.index, (x, y, "w", "h"))) if x else None
+        yield keys.index(image), part, writes
 
 
+# by id of a command
 PLACES = {NAMED[name].id: list(places_of(name)) for name in NAMED_PARTS}
 
 
-def touches_of(number: int, pieces: list[str]) -> list[Touch]:
-    """What a command of this id touches, by the pieces of the text of its step."""
-    found: list[Touch] = []
-    for image, at, writes in PLACES[number]:
-        part = None
-        if at is not None:
-            x, y, w, h = at
-            part = (int(pieces[x][:8], 16), int(pieces[y][:8], 16), int(pieces[w][:8], 16),
-                    int(pieces[h][:8], 16))
-        found.append((int(pieces[image][:8], 16), part, writes))
-    return found
+def touches_of(number: int, arguments: list[int]) -> list[Touch]:
+    """What a command of this id touches."""
+    return [(arguments[image], part(arguments) if part else None, writes)
+            for image, part, writes in PLACES[number]]
 
 
 def meeting(one: Rectangle | None, other: Rectangle | None) -> Rectangle | None:
@@ -75,7 +67,9 @@ def meet(one: Touch, other: Touch) -> bool:
     return one[0] == other[0] and (one[2] or other[2]) and is_some
 
 
+# The latest event of each rectangle of a cell, and of each cell; what was touched last comes last.
 Cell = dict[Rectangle, int]
+Newest = dict[tuple[int, int], int]
 
 
 @dataclass(eq=False, slots=True)
@@ -88,8 +82,10 @@ class Rectangles:
     """
 
     # by the powers: the cells by their column and row, and the latest event in each
-    levels: dict[tuple[int, int], tuple[dict[tuple[int, int], Cell], dict[tuple[int, int], int]]] \
+    levels: dict[tuple[int, int], tuple[dict[tuple[int, int], Cell], Newest]] \
         = field(default_factory=dict)
+    # of each rectangle: its cell, and where that is
+    homes: dict[Rectangle, tuple[Cell, Newest, tuple[int, int]]] = field(default_factory=dict)
     # around all of them: the least x and y, and the ends of the greatest
     left: int = 1 << 40
     top: int = 1 << 40
@@ -97,31 +93,29 @@ class Rectangles:
     bottom: int = 0
 
     def note(self, part: Rectangle, event: int) -> None:
-        x, y, w, h = part
-        sides = (w - 1).bit_length(), (h - 1).bit_length()
-        if sides not in self.levels:
-            self.levels[sides] = {}, {}
-        cells, newest = self.levels[sides]
-        key = x >> sides[0], y >> sides[1]
+        if part not in self.homes:
+            self.house(part)
+        cell, newest, key = self.homes[part]
         newest.pop(key, None)
         newest[key] = event
-        if key in cells:
-            cells[key].pop(part, None)
-            cells[key][part] = event
-        else:
-            cells[key] = {part: event}
-        if x < self.left:
-            self.left = x
-        if y < self.top:
-            self.top = y
-        if x + w > self.right:
-            self.right = x + w
-        if y + h > self.bottom:
-            self.bottom = y + h
+        cell.pop(part, None)
+        cell[part] = event
+
+    def house(self, part: Rectangle) -> None:
+        """Takes a rectangle that was not touched before."""
+        x, y, w, h = part
+        sides = (w - 1).bit_length(), (h - 1).bit_length()
+        cells, newest = self.levels.setdefault(sides, ({}, {}))
+        key = x >> sides[0], y >> sides[1]
+        self.homes[part] = cells.setdefault(key, {}), newest, key
+        self.left, self.top = min(x, self.left), min(y, self.top)
+        self.right, self.bottom = max(x + w, self.right), max(y + h, self.bottom)
 
     def latest(self, part: Rectangle, least: int) -> int:
         """The latest event above `least` that touched a texel of a rectangle, or `least`."""
         x, y, w, h = part
+        if not (x < self.right and y < self.bottom and x + w > self.left and y + h > self.top):
+            return least
         for (wide, high), (cells, newest) in self.levels.items():
             columns = range(x + 1 - (1 << wide) >> wide, (x + w - 1 >> wide) + 1)
             rows = range(y + 1 - (1 << high) >> high, (y + h - 1 >> high) + 1)
@@ -162,22 +156,23 @@ class Traces:
         if part is None:
             self.whole, self.reads, self.writes = event, None, None
         elif part[2] and part[3]:
-            if writes:
-                self.writes = self.writes or Rectangles()
-                self.writes.note(part, event)
-            else:
-                self.reads = self.reads or Rectangles()
-                self.reads.note(part, event)
+            around = self.writes if writes else self.reads
+            if around is None:
+                around = Rectangles()
+                if writes:
+                    self.writes = around
+                else:
+                    self.reads = around
+            around.note(part, event)
 
     def conflict(self, part: Rectangle | None, writes: bool) -> int:
         """The latest event of the stream that conflicts with a touch of another one, or -1."""
         if part is None:
             return self.latest
         found = self.whole
-        x, y, w, h = part
-        for around in (self.writes, self.reads if writes else None):
-            if around is not None and w and h and (
-                    x < around.right and y < around.bottom
-                    and x + w > around.left and y + h > around.top):
-                found = around.latest(part, found)
+        if part[2] and part[3]:
+            if self.writes is not None:
+                found = self.writes.latest(part, found)
+            if writes and self.reads is not None:
+                found = self.reads.latest(part, found)
         return found

@@ -25,8 +25,6 @@ class Names:
     """The names of the streams of a run, by their numbers."""
 
     names: "tuple[Name, ...]" = ()
-    # what was called already, since many waits are for the same stream
-    said: "dict[tuple[int, Name | None], str]" = field(default_factory=dict, compare=False)
 
     def at(self, number: int) -> "Name | None":
         """The name of a stream, where it says more than its number."""
@@ -37,11 +35,8 @@ class Names:
         """A stream in words: by its number, and by its name where that says more."""
         if number:
             name = self.at(number)
-        if (number, name) not in self.said:
-            parts = [f"({name[0]}, {name[1]})"] if name else []
-            words = ["stream", *([str(number)] if number or not name else []), *parts]
-            self.said[number, name] = " ".join(words)
-        return self.said[number, name]
+        of = f" ({name[0]}, {name[1]})" if name else ""
+        return f"stream {number}{of}" if number or not name else f"stream{of}"
 
 
 class Streams(Protocol):
@@ -53,7 +48,7 @@ class Streams(Protocol):
         """The stream of a number, where there is one."""
 
 
-@dataclass(eq=False)
+@dataclass(eq=False, slots=True)
 class Wait:
     """The wait of a number for a stream to come to a release.
 
@@ -67,6 +62,7 @@ class Wait:
     by: str  # `fence`, or the name of the command
     made: int  # the event that made it
     position: int  # among the waits of its number
+    names: Names
     # or `release`, `guard`, `closed`, `gone` with its own stream, or `dropped`
     how: str = "pending"
     why: str = ""  # of a wait that was dropped
@@ -74,8 +70,16 @@ class Wait:
     lets: int = -1  # the event of the waiter that could come then
     mark: "Mark | None" = None
     name: "Name | None" = None  # of the stream that is waited for, where it is known
-    called: str = ""  # that stream, in words, and the one that waits
-    caller: str = ""
+
+    @property
+    def called(self) -> str:
+        """The stream that is waited for, in words."""
+        return self.names.called(self.target, self.name)
+
+    @property
+    def caller(self) -> str:
+        """The stream that waits, in words."""
+        return self.names.called(self.stream)
 
     def __str__(self) -> str:
         return f"{self.called} to come to release {self.release}"
@@ -111,9 +115,8 @@ class Waits:
     ) -> Wait:
         """A new wait, which is kept or dropped."""
         position = self.made[number] = self.made.get(number, -1) + 1
-        wait = Wait(stream, number, target, release, by, self.standing.count, position,
-                    name=name or self.names.at(target),
-                    called=self.names.called(target, name), caller=self.names.called(stream))
+        wait = Wait(stream, number, target, release, by, self.standing.count, position, self.names,
+                    name=name or self.names.at(target))
         wait.why = self.why_dropped(wait)
         if wait.why:
             wait.how, wait.ended = "dropped", wait.made

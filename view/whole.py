@@ -140,7 +140,7 @@ def on_row(
         event = replay.events[number - 1]
         yield f"last written by event {number} of the journal, {given.place(event.line)}:"
         yield f"    {event.text}"
-        yield f"    {commands.sentence_of(event.words)}"
+        yield f"    {commands.parse(event.words).command.sentence}"
 
 
 def on_view(replay: Replay, place: int, before: str, text: str) -> Iterator[str]:

@@ -1,6 +1,8 @@
 """The work of the commands of a journal, done and described in words."""
 
 from collections.abc import Iterable, Sequence
+from functools import lru_cache
+from operator import itemgetter
 from typing import TYPE_CHECKING, NamedTuple
 
 from zorvleid.output import Event
@@ -26,6 +28,19 @@ class Deed(NamedTuple):
     ended: "tuple[Wait, ...]" = ()
 
 
+class Step(NamedTuple):
+    """The words of a step, and what follows from them wherever they come."""
+
+    place: int
+    values: list[int]
+    command: commands.Command
+    given: list[int]  # the entries of data after four entries
+    data: bytes  # the words of a memory
+    has_store: bool  # whether it works on a bucket or a buffer
+    wrong: Deed | None  # where the words are no whole command, or fail a check by themselves
+
+
+SHORT, KNOWN = 256, 8192  # so many short texts are kept, since the same ones come again
 HOW = {"release": "by a release", "guard": "by a guard", "closed": "by a close"}
 
 
@@ -55,22 +70,41 @@ def dropped_numbers(left: list[int]) -> str:
     )
 
 
+def parsed(words: str) -> Step:
+    """A step of its words as they are printed."""
+    place, values, command = commands.parse(words)
+    size = commands.entries_wanted(command.id, command.size)
+    data = b"".join([value.to_bytes(4, "little") for value in values[size:]])
+    wrong = None
+    if command.id not in TABLE or command.size < TABLE[command.id][1] or len(values) < size:
+        wrong = Deed(
+            "these words are no whole command, and nothing is done", "failed", "no command", command
+        )
+    elif (fault := faults.fault_of_arguments(command)) is not None:
+        wrong = wrong_deed(command, fault)
+    has_store = "bucket" in command.values or "buffer" in command.values
+    return Step(place, values, command, values[4:size], data, has_store, wrong)
+
+
+parsed_short = lru_cache(KNOWN)(parsed)
+
+
+def wrong_deed(command: commands.Command, fault: faults.Fault) -> Deed:
+    why = f"these words fail check {fault.check}, and nothing is done: {fault.why}"
+    return Deed(why, "failed", f"check {fault.check}", command)
+
+
 def execute(standing: "Standing", event: Event, words: str, stand: "Stand") -> Deed:
     """Does what a step does. Words that are no whole command do nothing."""
-    place, values, command = commands.read(words)
+    place, values, command, given, data, has_store, wrong = (
+        parsed_short(words) if len(words) <= SHORT else parsed(words))
     stand.at = place + command.size
     stand.entries += command.size
     stand.fetched += len(values)
-    size = commands.entries_wanted(command.id, command.size)
-    if command.id not in TABLE or command.size < TABLE[command.id][1] or len(values) < size:
-        return Deed(
-            "these words are no whole command, and nothing is done", "failed", "no command", command
-        )
-    fault = faults.fault_of_arguments(command) or faults.fault_of_store(command, stand)
-    if fault is not None:
-        why = f"these words fail check {fault.check}, and nothing is done: {fault.why}"
-        return Deed(why, "failed", f"check {fault.check}", command)
-    data = b"".join([value.to_bytes(4, "little") for value in values[size:]])
+    if wrong is not None:
+        return wrong
+    if has_store and (fault := faults.fault_of_store(command, stand)) is not None:
+        return wrong_deed(command, fault)
     if command.name in IMAGE_COMMANDS:
         return draw(standing, command, stand, data)
     match command.name:
@@ -82,7 +116,7 @@ def execute(standing: "Standing", event: Event, words: str, stand: "Stand") -> D
             return release(standing, event, command, stand)
         case "WaitToken" | "WaitSyncToken":
             return wait(standing, event, command, stand)
-    return Deed(keep(command, stand, values[4:size], data), command=command)
+    return Deed(keep(command, stand, given, data), command=command)
 
 
 def set_token(command: commands.Command, stand: "Stand") -> str:
@@ -120,6 +154,8 @@ def wait(standing: "Standing", event: Event, command: commands.Command, stand: "
 
 IMAGE_COMMANDS = {"CreateImage", "DeleteImage", "ClearRect", "CopyRect", "UploadRect",
                   "UploadBucket", "UploadBuffer"}
+RECTANGLE = itemgetter("image", "x", "y", "w", "h")
+COPIED = itemgetter("source", "x", "y", "target", "x2", "y2", "w", "h")
 
 
 def draw(standing: "Standing", command: commands.Command, stand: "Stand", data: bytes) -> Deed:
@@ -141,10 +177,8 @@ def written_by(
     if command.name == "DeleteImage":
         return images.delete(told["image"])
     if command.name == "CopyRect":
-        return images.copy(
-            *(told[field] for field in ("source", "x", "y", "target", "x2", "y2", "w", "h"))
-        )
-    image, x, y, w, h = (told[field] for field in ("image", "x", "y", "w", "h"))
+        return images.copy(*COPIED(told))
+    image, x, y, w, h = RECTANGLE(told)
     images.inside(image, x, y, w, h)
     if command.name == "ClearRect":
         return images.write(image, x, y, w, h, told["texel"].to_bytes(4, "big"))

@@ -6,8 +6,9 @@ not compare lines, such as a step and the order number that it belongs to.
 """
 
 import re
+from collections.abc import Iterable
 from dataclasses import dataclass, field
-from itertools import islice
+from itertools import islice, takewhile
 from typing import NamedTuple, NoReturn
 
 from .commands import decode
@@ -29,16 +30,12 @@ def up_to(greatest: int) -> str:
 NUMBER = f"({up_to(2**32 - 1)})"
 LONG_NUMBER = f"({up_to(2**64 - 1)})"
 VALUE = "([0-9a-f]{8})"
-WORDS = f"((?: {up_to(2**32 - 1)}:[0-9a-f]{{8}})*)"
+WORDS = f"(?: {up_to(2**32 - 1)}:[0-9a-f]{{8}})*+"
 
-EVENTS = {
-    "order": re.compile(f"order {NUMBER} {NUMBER} {NUMBER}"),
-    "step": re.compile(f"step {NUMBER}{WORDS}"),
-    "finish": re.compile(f"finish {NUMBER} {NUMBER}"),
-    "lost": re.compile(f"lost {NUMBER} (memory|[12346]{WORDS})"),
-    "close": re.compile(f"close {NUMBER}"),
-}
-KINDS = {kind: kind for kind in EVENTS}  # one string of each, for all events
+EVENT = re.compile(
+    f"step {NUMBER}{WORDS}|order {NUMBER} {NUMBER} {NUMBER}|finish {NUMBER} {NUMBER}|"
+    f"lost {NUMBER} (memory|[12346]{WORDS})|close {NUMBER}"
+)
 HEAD = "gpu-journal 2"
 NAME = re.compile(f"name {NUMBER} {NUMBER} {LONG_NUMBER}")
 VERDICT = re.compile(f"yes events {NUMBER}")
@@ -246,21 +243,27 @@ def words_of(text: str) -> list[tuple[int, int]]:
     return [(int(word[:-9]), int(word[-8:], 16)) for word in text.split()]
 
 
-def read_event(text: str, line: int) -> Event | None:
-    """The event of a line, or None where it is no event's."""
-    kind = KINDS.get(text.partition(" ")[0], "")
-    found = EVENTS[kind].fullmatch(text) if kind else None
-    if found is None:
-        return None
-    number, actions, code = 0, 0, ""
-    match kind:
-        case "order":
-            number, actions = int(found[2]), int(found[3])
-        case "finish":
-            number = int(found[2])
-        case "lost":
-            code = found[2].partition(" ")[0]
-    return Event(kind, int(found[1]), number, actions, code, line, text)
+def event_of(found: re.Match[str], line: int) -> Event:
+    """The event of a line, by the last of its numbers, the code or the words."""
+    match found.lastindex:
+        case 1:
+            return Event("step", int(found[1]), 0, 0, "", line, found.string)
+        case 4:
+            return Event(
+                "order", int(found[2]), int(found[3]), int(found[4]), "", line, found.string
+            )
+        case 6:
+            return Event("finish", int(found[5]), int(found[6]), 0, "", line, found.string)
+        case 8:
+            code = found[8].partition(" ")[0]
+            return Event("lost", int(found[7]), 0, 0, code, line, found.string)
+    return Event("close", int(found[9]), 0, 0, "", line, found.string)
+
+
+def events_of(lines: Iterable[str], first: int) -> list[Event]:
+    """The events of lines, up to one that is no event's. The first line has this number."""
+    found = takewhile(bool, map(EVENT.fullmatch, lines))
+    return [event_of(one, number) for number, one in enumerate(found, first) if one]
 
 
 def read_head(lines: Lines, output: Output) -> None:
@@ -278,11 +281,7 @@ def read_head(lines: Lines, output: Output) -> None:
 
 def read_events(lines: Lines, output: Output) -> None:
     """The journal."""
-    for number, text in enumerate(islice(lines.lines, lines.at, None), lines.number):
-        event = read_event(text, number)
-        if event is None:
-            break
-        output.events.append(event)
+    output.events = events_of(islice(lines.lines, lines.at, None), lines.number)
     output.event_count = len(output.events)
     lines.at += output.event_count
 

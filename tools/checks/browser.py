@@ -16,7 +16,7 @@ from typing import Any
 from tools.checks import clock
 
 NAMES = ("chromium", "chromium-browser", "google-chrome")
-SECONDS = 120
+SECONDS = 300
 BAD = ("error", "warning", "assert")  # kinds of lines on the console
 HIGH = 10  # the least number of a pipe that is out of the way
 

@@ -21,7 +21,7 @@ AWAITED = "reading standard input, up to Ctrl-D"
 ODD, SHOWN = "no\nfi\x7fle", "no\\x0afi\\x7fle"
 NAMING = (["run"], ["check"], ["verify"], ["log"], ["assemble"], ["disassemble"],
           ["compare", OUTPUT])
-SECONDS = 120
+SECONDS = 300
 
 
 def check(top: Path, program: Path, tally: Tally) -> None:

@@ -22,7 +22,7 @@ CLIENT, SERVICE, CALLS = (
 WARNINGS = ("-Wall", "-Wextra", "-Wpedantic", "-Werror", "-O1")
 LANGUAGES = {"C99": ("-std=c99",), "C++": ("-x", "c++")}
 SANITIZER = "-fsanitize=address"
-SECONDS = 60
+SECONDS = 300
 INCLUDED = ("errno", "stddef", "stdint", "stdio", "string")
 HEADERS = {  # what a compiler brings along, for one that has come without
     "stddef.h": "typedef __SIZE_TYPE__ size_t;\ntypedef __PTRDIFF_TYPE__ ptrdiff_t;\n"

@@ -88,7 +88,7 @@ FORBIDDEN = (
 INTERRUPTED = (("zorvleid", "log"), ("zorvleid", "assemble"), ("zorvleid", "--help"),
                ("tools/preview", "run"))
 DELAYS = [0.03 * count for count in range(11)]
-SECONDS, WORKERS = 60, 4
+SECONDS, WORKERS = 300, 4
 
 
 def check(top: Path, program: Path, tally: Tally) -> None:

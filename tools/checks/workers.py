@@ -56,7 +56,7 @@ WHOLE = ("hostile/*", "large/largest_*", "large/widest_spans", "lost/*", "refuse
 # flushes, for a token, for the value of a dump. Where one does not end, no other case is run.
 WAITING = ("runs/full_queue", "runs/write_is_read_back", "runs/falling_token",
            "results/results_during_the_run")
-WAITING_SECONDS = 20.0
+WAITING_SECONDS = 60.0
 
 # How often each line comes, and its pattern; a line belongs to the first pattern that fits it.
 SHAPES = {

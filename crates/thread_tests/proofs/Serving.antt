@@ -35,7 +35,7 @@ fresh_results p tables writer one named is =
       record {
         shared = sym (ap (λ (row : List TableId). table_at row 1) named);
         takes_all = λ place few. grind (arith, nat_tests, many, few);
-        none_written = λ list told. grind (told, ap (λ (w : ResultWriterData). w.written) is);
+        none_written = λ list told. grind (arith, told, ap (λ (w : ResultWriterData). w.written) is);
       },
       tt,
     )

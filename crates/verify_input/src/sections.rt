@@ -1,5 +1,5 @@
 //! The parts of an output after its journal, line by line.
-ghost use Rattle.std.specs.Prelude.{◌≡◌, ◌≤◌, List, [], ◌∷◌, Some, IfOk, IfErr, Contains, length, map, take};
+ghost use Rattle.std.specs.Prelude.{◌≡◌, ◌≤◌, List, [], ◌∷◌, IfOk, IfErr, Contains, length, map, take};
 ghost use Rattle.std.specs.Bool.{Decides};
 ghost use Rattle.std.specs.List.{flat_map, range_with_len};
 ghost use Rattle.gpu_plan.specs.Plans.{PlansData, plan_of};
