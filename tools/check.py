@@ -11,10 +11,10 @@
                                   with --only workers the faults of this part alone, with no copy
 
 Each part is a module of tools/checks/, which says at its head what it checks. The parts run side by
-side, one for each processor, those that take longest first. A line tells what came of a part as it
-ends: how many items passed and failed, the seconds by the clock, and those of a processor, which do
-not count what else this machine does. On a terminal one line tells how far the check is. A part
-that fails beside others is tried once more by itself after all others, and only that counts.
+side, one for each processor, the slowest first. As a part ends, a line says how many items passed
+and failed, and the seconds by the clock and of a processor; the latter do not count what else this
+machine does. On a terminal one line says how far the check is. A part that fails beside others is
+tried once more by itself after all others, and only that counts.
 
 Most cases of `run` are run with 1, 2, 4 and 8 workers too, and 200 random ones with 1 and 4, some
 of them with viewers. Such a run may print one of many histories. tools/checks/workers.py checks it
@@ -22,7 +22,7 @@ by `verify`, by tests/model_history.py, and by what is fixed for the case.
 
 A check whose own tool is missing, as Chromium or a C compiler, is skipped with a line that says so.
 The last lines name each item that failed once more, and then come 'N passed, N failed'. The status
-is 1 where anything failed.
+is 1 if anything failed.
 """
 
 import argparse

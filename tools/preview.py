@@ -4,13 +4,13 @@
 
 The first time, the toolchain compiles the program in one to two minutes, with a sanitizer, which
 stops at the first bad access. It proves nothing. The program is kept beside the built one, by the
-sum of its sources and of the toolchain. So later looks begin at once, until one of these changes.
+sum of its sources and of the toolchain. So later runs begin at once, until one of these changes.
 
-A toolchain may show no program that can be kept. Then each look compiles anew, what the program
+A toolchain may give no program that can be kept. Then each run compiles anew, what the program
 writes comes when it has ended, and an output above 1 MiB does not come.
 
-The status is the program's own. It is 126 where the program does not compile or gives no answer;
-127 where the toolchain is missing; and 3 where FILE cannot be read.
+The status is the program's own. It is 126 if the program does not compile or gives no answer; 127
+if the toolchain is missing; and 3 if FILE cannot be read.
 """
 
 import os

@@ -1,10 +1,11 @@
 """Proves the crates that the program is made of, side by side, and builds it.
 
-tools/build calls this where the program is missing or older than a source, and lists its statuses.
+tools/build calls this if the program is missing or older than a source, and lists its statuses.
 Each crate is proved in a room of its own (tools/building/rooms.py), once all crates that it stands
 on are proved. The longest chain of crates comes first, and with the most jobs
 (tools/building/plan.py). Proved libraries are in the crates' folders out. So a build that was cut
-off goes on from there, and after a change only the changed crates are proved, and those above them.
+off goes on from there, and after a change only the changed crates and the crates above them are
+proved.
 """
 
 import argparse

@@ -3,10 +3,10 @@
     tools/refuse_io [--program PATH] [--workers N] [--views V] [--seconds 60] [CASE ..]
 
 CASE is a case of tests/cases without its ending, as waits/guard_and_release. It is run with no
-workers, and with two or with --workers N; --views adds viewers to the latter. The checks are those
-of tools/checks/refuse_io.py, and tools/check runs few cases. A run that takes longer than a minute,
-or than --seconds, has failed. The status is 1 where anything failed, or where a C compiler is
-missing.
+workers, and with two or with --workers N; --views adds viewers to the latter.
+tools/checks/refuse_io.py has the checks, and tools/check runs few cases. A run that takes longer
+than a minute, or than --seconds, has failed. The status is 1 if anything failed, or if a C compiler
+is missing.
 """
 
 import argparse

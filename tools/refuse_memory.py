@@ -4,9 +4,9 @@
     tools/refuse_memory --workers N [--views V] [--program PATH] [--seconds 60] [CASE ..]
 
 CASE is a case of tests/cases without its ending, as waits/guard_and_release; --views is for the
-case that has viewers. The checks are those of tools/checks/refuse_memory.py, and tools/check runs
-few cases. A run that takes longer than a minute, or than --seconds, has failed. The status is 1
-where anything failed, or where a C compiler is missing.
+case that has viewers. tools/checks/refuse_memory.py has the checks, and tools/check runs few cases.
+A run that takes longer than a minute, or than --seconds, has failed. The status is 1 if anything
+failed, or if a C compiler is missing.
 """
 
 import argparse

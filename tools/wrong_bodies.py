@@ -3,13 +3,13 @@
     tools/wrong_bodies            those of all crates
     tools/wrong_bodies CRATE..    those of these crates
 
-The gate tries those in the folders must-fail. Those in the folders wrong-bodies are of crates whose
-second proof takes long. Each crate is tried in a room (tools/building/rooms.py), over the libraries
-below it, which must be built. It begins with what `rt check` kept in the crate's folder out, where
-that is there; else the crate is proved once more. A line of rt says what each body came to.
+The gate tries the folders must-fail. The folders wrong-bodies are in crates whose second proof
+takes long. Each crate is tried in a room (tools/building/rooms.py), over the libraries below it,
+which must be built. It reuses what `rt check` kept in the crate's folder out, if that is there;
+else the crate is proved once more. A line of rt says how each try ended.
 
-The status is 1 where a body was not refused or could not be tried, 2 for wrong words, 126 where a
-library is missing, and 130 where it was interrupted. `rt` must be on the path.
+The status is 1 if a body was not refused or could not be tried, 2 for wrong words, 126 if a library
+is missing, and 130 if it was interrupted. `rt` must be on the path.
 """
 
 import argparse

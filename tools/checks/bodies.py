@@ -1,7 +1,8 @@
 """Checks that each wrong body of the folders wrong-bodies still fits its crate.
 
-The toolchain looks at those of must-fail in each gate. Those of wrong-bodies are tried before a
-release only, by tools/wrong_bodies. So each of their old texts must stand once in its file here.
+The toolchain tries the folders must-fail in each gate. The folders wrong-bodies are tried only
+before a release, by tools/wrong_bodies. So this checks that each of their old texts stands once in
+its file.
 """
 
 import re

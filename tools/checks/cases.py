@@ -7,7 +7,7 @@ view lines, which differ from run to run: a case with `--views` stores the lines
 that is too large to be stored has a sum instead, NAME.script.sum or NAME.stdout.sum: its length and
 SHA-256. tests/large.py makes the part.
 
-Where a case is a `run` that ends with 0 or 1, `verify` must say yes to its script, a line `journal`
+If a case is a `run` that ends with 0 or 1, `verify` must say yes to its script, a line `journal`
 and its output. It must show the same picture. What is too long for `verify` goes to `verify
 --whole`.
 

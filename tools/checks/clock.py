@@ -1,10 +1,10 @@
 """How long a program takes for something, by the clock, whatever else this machine does meanwhile.
 
-Two times are taken off the clock. Linux keeps of each thread how long it stood ready and had no
-processor; those of all threads of the program are added. It also keeps how long the host of a
-virtual machine took its processors away. What is left is never less than what the busiest thread
-ran. A program that sleeps is as slow as the clock says. Where Linux does not keep the times, the
-clock alone counts.
+Two times are taken off the clock. Linux keeps how long each thread was ready and had no processor;
+these times of all threads of the program are added. It also keeps how long the host of a virtual
+machine took its processors away. What is left is never less than what the busiest thread ran. A
+program that sleeps is as slow as the clock says. If Linux does not keep the times, only the clock
+counts.
 """
 
 import os

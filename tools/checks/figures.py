@@ -1,9 +1,9 @@
 """Sees that the numbers of the documents are those of the sources.
 
 A number of ten or more needs a fact: the words around it, with `#` for the number, and where the
-sources have it. A smaller number is looked up only where a fact fits, and so is one within code
-or in examples/README.md, whose numbers belong to its scripts. Headings, table cells and sentences
-count alike. Left out are versions, powers such as 2^32, and the widths of machine words.
+sources have it. A smaller number is looked up only if a fact fits, and so is one within code or in
+examples/README.md, whose numbers belong to its scripts. Headings, table cells and sentences count
+alike. Left out are versions, powers such as 2^32, and the widths of machine words.
 """
 
 import math

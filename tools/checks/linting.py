@@ -1,4 +1,4 @@
-"""What `--lint` notes of texts and scripts: what is wrong with each, and nothing where all is well.
+"""What `--lint` notes of texts and scripts: what is wrong with each, and nothing if all is well.
 
 A stream that a note calls lost must be lost by the program, or closed. The examples have the notes
 that are listed here, as texts and as scripts.

@@ -1,4 +1,4 @@
-"""The outputs that the checks of the tools read, those of all cases, with a second reading."""
+"""The outputs of all cases, which the checks of the tools read, with a second reading."""
 
 import functools
 import re

@@ -201,7 +201,7 @@ PLANTED = (
     ("readme", "README.md", "(cd crates/gpu_word && rt check)", ""),
     ("readme", "README.md", "No waits form a cycle, and", "No waits form a cycle. And"),
     ("readme", "examples/README.md", "Each example is a", "\n## Write one yourself\n"),
-    ("figures", "README.md", "only while 16 wait", "only while 17 wait"),
+    ("figures", "docs/TESTS.md", "only while 16 notes", "only while 17 notes"),
     ("figures", "crates/gpu_store/src/canvas.rt", "const MOST_SIDE: u32 = 4096;",
      "const MOST_SIDE: u32 = 8192;"),
     ("agreeing", "docs/FORMATS.md", "| 265 | DeleteBuffer | 2 |", "| 265 | DeleteBuffer | 3 |"),

@@ -1,6 +1,6 @@
 """The recorders of include/: they compile, and what they write is taken.
 
-Each program is compiled as C99 and as C++, with an address sanitizer where the compiler has one.
+Each program is compiled as C99 and as C++, with an address sanitizer if the compiler has one.
 Without a compiler all of it is skipped.
 """
 

@@ -1,7 +1,7 @@
 """Each read of standard input and each write of standard output fails in turn, one a run.
 
-Where a read fails, the program must end with status 3 and `read fault` on standard error, and write
-nothing. Where a write fails, it must end with status 4 and `write fault`. What it wrote must be a
+If a read fails, the program must end with status 3 and `read fault` on standard error, and write
+nothing. If a write fails, it must end with status 4 and `write fault`. What it wrote must be a
 prefix of an output. With no workers that is the stored output. With workers, its whole lines must
 be a prefix of a legal history and of the lines that follow from it, and `verify` must agree.
 

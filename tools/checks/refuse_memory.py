@@ -5,15 +5,15 @@ fewer allocations must give the stored output.
 
 A run with workers may end in two more ways:
 
-- with status 8, where the journal loses a stream for memory; tools/checks/workers.py must accept
-  that output, and each other one
-- as if nothing was refused, where the allocation was for a thread, or for a list that is collected:
+- with status 8, if the journal loses a stream for memory; tools/checks/workers.py must accept that
+  output, and each other one
+- as if nothing was refused, if the allocation was for a thread, or for a list that is collected:
   the work is then done without the thread, and the list asks again as it grows
 
 There is a thread for each worker and each stream, so at most twice as many runs end in the second
-way. With viewers a run may also end so where the allocation was for their view, which then stays as
-it was for a while; those runs are not counted. The Nth allocation, and how many there are, differ
-from run to run with workers.
+way. With viewers a run may also end so if the allocation was for their view, which then stays as it
+was for a while; those runs are not counted. The Nth allocation, and how many there are, differ from
+run to run with workers.
 
 A program with an address sanitizer allocates by other calls, so this check is not for it.
 """

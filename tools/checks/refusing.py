@@ -1,8 +1,8 @@
 """A program that is run with one failing call of the C library: to allocate, read or write.
 
-tools/refusing.c stands before the C library then. It is compiled here, by $CC where that is set,
-else by cc, gcc or clang, or by the toolchain's own compiler. Where there is none of them, `ready`
-reports that the check is skipped.
+tools/refusing.c stands before the C library then. It is compiled here, by $CC if that is set, else
+by cc, gcc or clang, or by the toolchain's own compiler. If there is none of them, `ready` reports
+that the check is skipped.
 """
 
 import os

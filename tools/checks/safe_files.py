@@ -1,9 +1,9 @@
 """No tool harms a file that it reads, takes more than it may, or shows a fault of Python.
 
-- An output that is one file with an input is refused by the device and the inode of both, before
-  anything is read. So it is of standard input and output, of links, and of files of a folder.
-- An input that is too long is told with its limit, while little memory is there.
-- A folder without rights, a read-only file system and Ctrl-C are told as such.
+- If an output and an input are one file, by device and inode, the tool refuses before it reads
+  anything. The same holds for standard input and output, for links, and for files of a folder.
+- An input that is too long is reported with its limit, with little memory at hand.
+- A folder without rights, a read-only file system and Ctrl-C are reported as such.
 """
 
 import errno

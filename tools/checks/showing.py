@@ -1,7 +1,7 @@
 """What `view` makes: the page of a script, of a text of commands, and of an output.
 
 The page of a script or of its commands is the one that is due for the output of tests/model.py. It
-is opened in the browser where there is one, and named.
+is opened in the browser if there is one, and named.
 """
 
 import tempfile

@@ -3,7 +3,7 @@
 A part that fails beside others is tried once more by itself after all others, and only that counts.
 The last lines name each item that failed once more.
 
-Where standard output and standard error are terminals, one line tells how far the check is. It is
+If standard output and standard error are terminals, one line says how far the check is. It is
 written anew each time, and only faults and the last lines stay.
 """
 

@@ -1,7 +1,7 @@
 """What `state` and `who` say, against tests/model_state.py: after each event, and of each texel.
 
-Without the script the same is said, but for fences that were gone with their stream, and for get
-where a ring was never gone round.
+Without the script the same is said, except about fences that were gone with their stream, and about
+get if a ring was never gone round.
 """
 
 import json

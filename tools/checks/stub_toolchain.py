@@ -1,8 +1,8 @@
 """A small repository with the real tools/build, and a stub for the toolchain.
 
 The stub keeps others out of the folders of its crate and of those below, as the toolchain does, but
-fails where that would wait. It fails too where a library below is missing. It makes its own library
-in two steps, with a rest between them, and keeps work unless it is to write statements alone. The
+fails if that would wait. It fails too if a library below is missing. It makes its own library in
+two steps, with a rest between them, and keeps work unless it is to write statements alone. The
 crates of STUB_TOGETHER rest until all of them have begun, for a while. STUB_FAULT is CRATE:FAULT.
 """
 

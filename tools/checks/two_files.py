@@ -1,8 +1,8 @@
 """A script and a journal as two files for a judgement, and outputs as files for the tools.
 
-Two files give what the program gives for one that has both, also where a last line feed is missing.
-The lines that are named then are those of the file of the journal. `--quiet` writes nothing where
-the answer is yes, and a line `journal` that is missing is told as that.
+Two files give what the program gives for one that has both, even if a last line feed is missing.
+The lines that are named then are lines of the file of the journal. `--quiet` writes nothing if the
+answer is yes, and a missing line `journal` is reported as such.
 """
 
 import subprocess

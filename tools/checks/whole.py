@@ -1,10 +1,9 @@
 """The test that the parts of tools/check find planted faults, each on a copy of the repository.
 
 A copy has few of the cases. First each part must find nothing on the copy as it is. Then it must
-find each fault, and is ended at the first item that fails. The trials go side by side, those of the
-parts that take longest first, and each has a line with its seconds. One that fails beside others is
-tried once more by itself after all others, and only that counts. The last lines name each trial
-that failed once more.
+find each fault, and is ended at the first item that fails. The trials run side by side, the slowest
+first, and each has a line with its seconds. One that fails beside others is tried once more by
+itself after all others, and only that counts. The last lines name each trial that failed once more.
 """
 
 import os

@@ -1,4 +1,4 @@
-"""Runs with workers: threads may give each output, and it is right where its case leaves no choice.
+"""Runs with workers: threads may give each output, and it is right if its case leaves no choice.
 
 A run with 1 to 8 workers prints one of many histories. For each output these hold:
 
