@@ -23,7 +23,7 @@ SORTED = "sync_core/src/queues.rt", "taken.sort_unstable()"
 COMPARED = "gpu_store/src/images.rt", "answer != Answer::Done"
 MEMORY = "gpu_word/src/memory.rt Memory"
 USES = {
-    (MEMORY, "Debug"): ("part_tests/src/tests/images.rt", "images.apply(&op)?"),  # `?` into Fail
+    (MEMORY, "Debug"): ("part_tests/src/tests/words.rt", "make(alloc, plan)?"),  # `?` into Fail
     ("gpu_cmd/src/name.rt Name", "PartialEq"): ("gpu_plan/src/plan.rt", "name == plan.name"),
     ("gpu_cmd/src/name.rt Name", "Eq"): NAMES,
     ("gpu_cmd/src/name.rt Name", "Hash"): NAMES,

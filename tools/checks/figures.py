@@ -213,7 +213,7 @@ FACTS = (
     Fact(r"and on # events", found("tools/checks/answers.py", r"^MANY, \w+ = ([\d_]+),")),
     Fact(r"scripts of above # lines", found("tools/checks/reducing.py", r"^LEAST, \w+ = (\d+),")),
     Fact(r"bring each below #", found("tools/checks/reducing.py", r"^LEAST, \w+ = \d+, (\d+)")),
-    Fact(r"hands # flushes", constant("part_tests/src/tests/queue/posting.rt", "FLUSHES")),
+    Fact(r"hands # flushes", constant("part_tests/src/tests/posting.rt", "FLUSHES")),
     Fact(r"room for # words from the first", constant("gpu_fetch/src/fetch.rt", "USUAL_ENTRIES")),
     Fact(r"up to # commands", constant("gpu_house/src/batch.rt", "MOST_MEMBERS")),
     Fact(r"viewer has # looks|the # lines of each|viewers, # lines for each", ALL_LOOKS),

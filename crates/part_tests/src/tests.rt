@@ -1,10 +1,8 @@
-mod books;
 mod choices;
 mod commands;
+mod crossing;
 mod hooks;
-mod images;
-mod pairs;
-mod queue;
+mod posting;
 mod reading;
 mod results;
 mod scripts;

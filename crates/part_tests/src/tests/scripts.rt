@@ -4,7 +4,7 @@ use std::alloc::Global;
 use std::test::Fail;
 
 /// Scripts, and the fences of the flush that is all their first stream does.
-const FENCES: [(&[u8], &[(u32, u64)]); 4] = [
+const FENCES: [(&[u8], &[(u32, u64)]); 2] = [
     (
         b"gpu-script\t2\r
 # stream 9 9 low 16
@@ -22,41 +22,12 @@ flush 0 2 2 5 9 9 6 8 8 7
 stream 8 8 low 16",
         &[(0, 1), (2, 2), (3, 3), (1, 4)],
     ),
-    (
-        b"gpu-script 1
-stream 1 low 16
-flush 0 2 5 9 6 0 7 1 8
-stream 2 low 16",
-        &[(2, 5), (9, 6), (0, 7), (1, 8)],
-    ),
-    (
-        b"gpu-script 1
-stream 1 high 4096
-flush 0 0 1 1 1 1 1 1 1 1 1 1 1 1 1 1 1 1 1 1 1 1 1 1 1 1 1 1 1 1 1 1 18446744073709551615",
-        &[
-            (0, 1),
-            (1, 1),
-            (1, 1),
-            (1, 1),
-            (1, 1),
-            (1, 1),
-            (1, 1),
-            (1, 1),
-            (1, 1),
-            (1, 1),
-            (1, 1),
-            (1, 1),
-            (1, 1),
-            (1, 1),
-            (1, 1),
-            (1, u64::MAX),
-        ],
-    ),
 ];
 
-fn plans_of(alloc: Global, text: &[u8]) -> Result<Plans, Fail> {
+// The plans of a script.
+pub(super) fn plans_of(alloc: Global, text: &[u8]) -> Result<Plans, Fail> {
     if text.len() > 16_777_216 {
-        return Err("a short text".into());
+        return Err("a script".into());
     }
     Ok(parse(alloc, text).ok().ok_or("a script")?)
 }

@@ -1,15 +1,12 @@
-use gpu_io::{
-    Gate, MemorySink, MemorySource, OpenGate, Place, RealSink, RealSource, Sink, Source,
-    SteadySink, SteadySource,
-};
+use gpu_io::{RealSink, RealSource, Sink, Source, SteadySink, SteadySource};
 use std::alloc::{AllocError, Global};
 use std::io::{self, ErrorKind, Read, Write};
 use std::test::Fail;
 
-// What a given number of reads gives: the bytes of each, or '!' for a fault, and then a '|'.
-fn reads<S: Source>(alloc: Global, source: &mut S, calls: u8) -> Result<Vec<u8>, AllocError> {
+// What five reads give: the bytes of each, or '!' for a fault, and then a '|'.
+fn reads<S: Source>(alloc: Global, source: &mut S) -> Result<Vec<u8>, AllocError> {
     let mut trace = Vec::new(alloc);
-    for _ in 0..calls {
+    for _ in 0..5 {
         let mut buffer = [0; 8];
         match source.read(&mut buffer) {
             Ok(count) => trace.extend_from_slice(&buffer[..count])?,
@@ -20,15 +17,11 @@ fn reads<S: Source>(alloc: Global, source: &mut S, calls: u8) -> Result<Vec<u8>,
     Ok(trace)
 }
 
-// How many of the bytes `xyz` each of a given number of writes takes, or none for a fault.
-fn writes<K: Sink>(
-    alloc: Global,
-    sink: &mut K,
-    calls: u8,
-) -> Result<Vec<Option<usize>>, AllocError> {
+// How many bytes each of three writes takes, or none for a fault.
+fn writes<K: Sink>(alloc: Global, sink: &mut K) -> Result<Vec<Option<usize>>, AllocError> {
     let mut counts = Vec::new(alloc);
-    for _ in 0..calls {
-        counts.push(sink.write(b"xyz").ok())?;
+    for _ in 0..3 {
+        counts.push(sink.write(&SPECIAL).ok())?;
     }
     Ok(counts)
 }
@@ -86,31 +79,21 @@ const FAULTS: [ErrorKind; 4] = [
     ErrorKind::ConnectionReset,
 ];
 
-// Bytes that a terminal or a text would take for an end, a turn of a line or a mark, in the order in which they are read.
-const SPECIAL: [u8; 8] = [0, 4, 26, 10, 13, 255, 0, 128];
+// Bytes that a terminal or a text would take for an end, a turn of a line or a mark.
+const SPECIAL: [u8; 3] = [26, 10, 255];
 
 #[test]
 fn real_source_passes_on_what_the_system_gives(rt: HostRuntime) -> Result<(), Fail> {
     for fault in FAULTS {
-        let bytes = Vec::from_slice(rt.alloc(), b"cba")?;
+        let bytes = Vec::from_slice(rt.alloc(), &SPECIAL)?;
         let mut source = RealSource::make(Wire {
             bytes,
             fault,
             calls: 0,
         });
-        let trace = reads(rt.alloc(), &mut source, 5)?;
-        assert!(rt; trace.as_slice() == b"a|!|b|c||".as_slice());
+        let trace = reads(rt.alloc(), &mut source)?;
+        assert!(rt; trace.as_slice() == b"\xff|!|\n|\x1a||".as_slice());
     }
-    Ok(())
-}
-
-#[test]
-fn real_source_passes_on_special_bytes(rt: HostRuntime) -> Result<(), Fail> {
-    let mut source = RealSource::make(SPECIAL.as_slice());
-    let mut buffer = [1; 8];
-    assert!(rt; matches!(source.read(&mut buffer), Ok(8)));
-    assert!(rt; buffer == SPECIAL);
-    assert!(rt; matches!(source.read(&mut buffer), Ok(0)));
     Ok(())
 }
 
@@ -123,61 +106,21 @@ fn real_sink_passes_on_what_it_takes(rt: HostRuntime) -> Result<(), Fail> {
             fault,
             calls: 0,
         };
-        let counts = writes(rt.alloc(), &mut RealSink::make(&mut wire), 3)?;
+        let counts = writes(rt.alloc(), &mut RealSink::make(&mut wire))?;
         assert!(rt; counts.as_slice() == [Some(2), None, Some(2)].as_slice());
-        assert!(rt; wire.bytes.as_slice() == b"xyxy".as_slice());
+        assert!(rt; wire.bytes.as_slice() == b"\x1a\n\x1a\n".as_slice());
     }
     Ok(())
 }
 
 #[test]
-fn real_sink_passes_on_special_bytes(rt: HostRuntime) -> Result<(), Fail> {
-    let mut written = Vec::new(rt.alloc());
-    assert!(rt; matches!(RealSink::make(&mut written).write(&SPECIAL), Ok(8)));
-    assert!(rt; written.as_slice() == SPECIAL.as_slice());
-    Ok(())
-}
-
-#[test]
-fn real_sink_counts_a_writer_that_takes_nothing(rt: HostRuntime) -> Result<(), Fail> {
-    let mut place = [0; 2];
-    let counts = writes(rt.alloc(), &mut RealSink::make(&mut place[..]), 2)?;
-    assert!(rt; counts.as_slice() == [Some(2), None].as_slice());
-    Ok(())
-}
-
-#[test]
-fn reads_in_memory_fail_by_their_numbers(rt: HostRuntime) -> Result<(), Fail> {
-    let bytes = Vec::from_slice(rt.alloc(), b"abcde")?;
-    let fails = Vec::from_slice(rt.alloc(), &[2, 5])?;
-    let trace = reads(rt.alloc(), &mut MemorySource::make(bytes, 2, fails), 6)?;
-    assert!(rt; trace.as_slice() == b"ab|!|cd|e|!||".as_slice());
-    let bytes = Vec::from_slice(rt.alloc(), b"abc")?;
-    let trace = reads(rt.alloc(), &mut SteadySource::make(bytes), 2)?;
-    assert!(rt; trace.as_slice() == b"abc||".as_slice());
-    OpenGate.reach(Place::BeforeFetch { stream: 1 });
-    Ok(())
-}
-
-#[test]
-fn writes_in_memory_fail_by_their_numbers(rt: HostRuntime) -> Result<(), Fail> {
-    let fails = Vec::from_slice(rt.alloc(), &[1])?;
-    let Ok(mut sink) = MemorySink::make(rt.alloc(), 3, 2, fails) else {
-        return Err(Fail::from("memory is ample"));
-    };
-    let counts = writes(rt.alloc(), &mut sink, 4)?;
-    assert!(rt; counts.as_slice() == [None, Some(2), Some(1), None].as_slice());
-    assert!(rt; sink.bytes() == b"xyx".as_slice());
-    Ok(())
-}
-
-#[test]
-fn steady_writes_fail_where_room_ends(rt: HostRuntime) -> Result<(), Fail> {
-    let Ok(mut sink) = SteadySink::make(rt.alloc(), 4) else {
-        return Err(Fail::from("memory is ample"));
-    };
-    let counts = writes(rt.alloc(), &mut sink, 3)?;
+fn steady_streams_end_where_their_bytes_or_room_end(rt: HostRuntime) -> Result<(), Fail> {
+    let bytes = Vec::from_slice(rt.alloc(), &SPECIAL)?;
+    let trace = reads(rt.alloc(), &mut SteadySource::make(bytes))?;
+    assert!(rt; trace.as_slice() == b"\x1a\n\xff|||||".as_slice());
+    let mut sink = SteadySink::make(rt.alloc(), 4)?;
+    let counts = writes(rt.alloc(), &mut sink)?;
     assert!(rt; counts.as_slice() == [Some(3), Some(1), None].as_slice());
-    assert!(rt; sink.bytes() == b"xyzx".as_slice());
+    assert!(rt; sink.bytes() == b"\x1a\n\xff\x1a".as_slice());
     Ok(())
 }

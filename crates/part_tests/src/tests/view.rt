@@ -1,4 +1,3 @@
-mod crossing;
 mod fixture;
 mod sharing;
 mod single;

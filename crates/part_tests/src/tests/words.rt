@@ -2,10 +2,9 @@ ghost use Rattle.std.specs.Prelude.{◌≡◌, ◌<◌, IfOk, IfSome};
 ghost use Rattle.gpu_cmd.specs.Lawful.{places_of};
 ghost use Rattle.shm_words.specs.Seen.{client_at, service_at};
 
-use gpu_plan::parse;
+use super::scripts::plans_of;
 use shm_words::{Acted, ClientPass, Note, ServicePass, SharedWords, make};
 use std::alloc::Global;
-use std::process::Abort;
 use std::test::Fail;
 use std::thread;
 use std::thread::Threads;
@@ -26,7 +25,7 @@ const ROUNDS: u32 = 200;
 const TURNS: u32 = 10_000_000;
 
 // The words and the passes of a script's first stream, which has a place.
-fn made(
+pub(super) fn made(
     alloc: Global,
     text: &str,
     place: u32,
@@ -35,10 +34,7 @@ fn made(
     ensures service { IfOk result (λ made. made.2 ≡ service_at made.0 made.2.plan) }
     ensures place { IfOk result (λ made. place < places_of made.2.plan.areas) }
 {
-    if text.len() > 100_000 {
-        return Err("a short script".into());
-    }
-    let plans = parse(alloc, text.as_bytes()).ok().ok_or("a script")?;
+    let plans = plans_of(alloc, text.as_bytes())?;
     if plans.count() == 0 {
         return Err("a stream".into());
     }
@@ -46,7 +42,7 @@ fn made(
     if plan.areas().places() <= place {
         return Err("a place".into());
     }
-    Ok(make(alloc, plan).ok().ok_or("memory is ample")?)
+    Ok(make(alloc, plan)?)
 }
 
 // Whether a given number of the next actions is answered so.
@@ -74,47 +70,40 @@ fn flush(client: &mut ClientPass, words: &SharedWords) -> Option<Note>
     }
 }
 
-// Plays the client of two uploads and its service. Whether each flush came.
-fn upload_twice(
-    rt: &impl Abort,
-    words: &SharedWords,
-    client: &mut ClientPass,
-    service: &mut ServicePass,
-) -> bool
+// Plays the client of two uploads and its service. Whether all came as it must.
+fn upload_twice(words: &SharedWords, client: &mut ClientPass, service: &mut ServicePass) -> bool
     requires client { words.now ≡ client.old.table }
     requires service { service.old ≡ service_at words.now service.old.plan }
     requires place { 32 < places_of service.old.plan.areas }
 {
-    assert!(rt; all_are(client, words, 14, Acted::Stored));
+    let stored = all_are(client, words, 14, Acted::Stored);
     let Some(note) = flush(client, words) else {
         return false;
     };
-    assert!(rt; client.act(words) == Acted::NotYet);
+    let waits = client.act(words) == Acted::NotYet;
     service.meet(words, note);
-    assert!(rt; service.fetch(words, 32) == 0x4433_2211);
+    let first = service.fetch(words, 32);
     service.publish_finish(words);
-    assert!(rt; client.act(words) == Acted::Passed);
-    assert!(rt; client.act(words) == Acted::Stored);
-    assert!(rt; service.fetch(words, 32) == 0x8877_6655);
-    assert!(rt; all_are(client, words, 9, Acted::Stored));
-    flush(client, words).is_some() && client.act(words) == Acted::End
+    let passes = client.act(words) == Acted::Passed;
+    let stores = all_are(client, words, 1, Acted::Stored);
+    let second = service.fetch(words, 32);
+    let more = all_are(client, words, 9, Acted::Stored);
+    let flushes = flush(client, words).is_some();
+    let ends = client.act(words) == Acted::End;
+    let seen = first == 0x4433_2211 && second == 0x8877_6655;
+    stored && waits && passes && stores && more && flushes && ends && seen
 }
 
 #[test]
 fn a_write_is_read_back(rt: HostRuntime) -> Result<(), Fail> {
     let (words, mut client, mut service) = made(rt.alloc(), TWO_UPLOADS, 32)?;
-    let ended = upload_twice(&rt, &words, &mut client, &mut service);
-    assert!(rt; ended);
+    let came = upload_twice(&words, &mut client, &mut service);
+    assert!(rt; came);
     Ok(())
 }
 
-// Plays the client that awaits tokens and its service. Whether the flush came.
-fn await_tokens(
-    rt: &impl Abort,
-    words: &SharedWords,
-    client: &mut ClientPass,
-    service: &mut ServicePass,
-) -> bool
+// Plays the client that awaits tokens and its service. Whether all came as it must.
+fn await_tokens(words: &SharedWords, client: &mut ClientPass, service: &mut ServicePass) -> bool
     requires client { words.now ≡ client.old.table }
     requires service { service.old ≡ service_at words.now service.old.plan }
 {
@@ -122,24 +111,25 @@ fn await_tokens(
     let Some(note) = flush(client, words) else {
         return false;
     };
-    assert!(rt; client.act(words) == Acted::Passed);
-    assert!(rt; client.act(words) == Acted::NotYet);
+    let none = all_are(client, words, 1, Acted::Passed);
+    let early = all_are(client, words, 1, Acted::NotYet);
     service.publish_token(words, 3);
     service.publish_token(words, 1);
-    assert!(rt; all_are(client, words, 2, Acted::Passed));
-    assert!(rt; all_are(client, words, 2, Acted::NotYet));
+    let told = all_are(client, words, 2, Acted::Passed);
+    let waits = all_are(client, words, 2, Acted::NotYet);
     service.meet(words, note);
     service.meet(words, blank);
     service.publish_finish(words);
-    assert!(rt; client.act(words) == Acted::Passed);
-    all_are(client, words, 2, Acted::AtClose)
+    let passes = all_are(client, words, 1, Acted::Passed);
+    let closes = all_are(client, words, 2, Acted::AtClose);
+    none && early && told && waits && passes && closes
 }
 
 #[test]
 fn a_token_that_was_told_does_not_fall(rt: HostRuntime) -> Result<(), Fail> {
     let (words, mut client, mut service) = made(rt.alloc(), TOKENS, 0)?;
-    let ended = await_tokens(&rt, &words, &mut client, &mut service);
-    assert!(rt; ended);
+    let came = await_tokens(&words, &mut client, &mut service);
+    assert!(rt; came);
     Ok(())
 }
 

@@ -1,6 +1,0 @@
-pub mod Batching
-pub mod Flushing
-pub mod Belonging
-pub mod Turning
-pub mod Beginning
-pub mod Stirring

@@ -1,5 +1,0 @@
-use Rattle.house_tests.specs.Alone.{IsOutAlone}
-use Rattle.house_tests.proofs.tests.drive.run_out.Given as goal
-
-abbrev pub invariant-loop-turn : goal.invariant-loop-turn
-invariant-loop-turn g l = IsOutAlone g.P.ServiceSide.belongs g.P.ServiceSide.note_belongs g.P.ServiceSide.results_belong g.P.ServiceSide.side l.words l.house l.out

@@ -1,0 +1,9 @@
+mod drive;
+mod gates;
+mod making;
+mod promises;
+mod scripts;
+mod serving;
+mod stirred_pass;
+mod stirred_words;
+mod viewing;

@@ -1,5 +1,0 @@
-mod gates;
-mod promises;
-mod scripts;
-mod serving;
-mod viewing;
