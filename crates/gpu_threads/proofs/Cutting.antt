@@ -3,9 +3,9 @@ use Rattle.std.proofs.Common.{◌≡◌, ℕ, zero, suc, ◌+◌, ◌-◌, ◌<�
 use Rattle.std.specs.List.{AllPairs}
 use Rattle.std.proofs.lemmas.Bool.{ne_eqb}
 use Rattle.std.proofs.lemmas.Bool.Decides.{nat_tests}
-use Rattle.std.proofs.lemmas.List.{take-append-le, take-map, take_all}
+use Rattle.std.proofs.lemmas.List.{length-map, take-append-le, take-map, take_all}
 use Rattle.std.proofs.lemmas.List.Kept.{AllPairs-from_increasing}
-use Rattle.std.proofs.Math.Seq.{take-append-add}
+use Rattle.std.proofs.Math.Seq.{take-append-add, take-nil}
 use Rattle.gpu_word.specs.Results.{Written, Write, finishes_in, last_or, last_written, writes_listed, WasLast}
 use Rattle.gpu_word.specs.Results.{Finish as finish}
 use Rattle.gpu_word.proofs.Written.{last_of_both, finishes_of_both}
@@ -22,13 +22,6 @@ use Rattle.gpu_journal.proofs.Folding.{written_then, written_none}
 use Rattle.gpu_house.proofs.Counting.{no_finish, finishes_are}
 
 -- ---- lists of writes and finishes
-
-abbrev nothing : List Written
-nothing = []
-
-take_none : (j : ℕ) → take j nothing ≡ nothing
-take_none zero = refl
-take_none (suc j) = refl
 
 -- the value is the last of the whole list, which has enough finishes
 record IsWhole (list : List Written) (place least value : ℕ) : Type 0 where
@@ -86,12 +79,8 @@ rising : (k : ℕ) (pairs : List (ℕ × ℕ)) → AllPairs (λ x y. x < y) (map
 rising k [] rise low = tt
 rising k (pair ∷ pairs) rise low = (
   low 0 0 (omega arith),
-  rising (pair.0 + 1) pairs (λ i j d lt few. rise (suc i) (suc j) d (omega (arith, lt)) (omega (arith, few))) (λ j d few. let less = rise 0 (suc j) d (omega arith) (omega (arith, few, map_length pairs)) in omega (arith, less)),
+  rising (pair.0 + 1) pairs (λ i j d lt few. rise (suc i) (suc j) d (omega (arith, lt)) (omega (arith, few))) (λ j d few. let less = rise 0 (suc j) d (omega arith) (omega (arith, few, length-map pairs (λ (pair : ℕ × ℕ). pair.0))) in omega (arith, less)),
 )
-  where
-    map_length : (xs : List (ℕ × ℕ)) → length (map (λ (pair : ℕ × ℕ). pair.0) xs) ≡ length xs
-    map_length [] = refl
-    map_length (x ∷ xs) = ap suc (map_length xs)
 
 absent : (i v k : ℕ) (pairs : List (ℕ × ℕ)) → RiseFrom k pairs → i < k → last_or i v (writes_listed pairs) ≡ v
 absent i v k [] rise low = refl
@@ -127,12 +116,12 @@ pairs_clean pairs rise j i v =
     ⊎_elim (λ was. inl (none, same ∙ was)) (λ new. inr (omega (arith, none), same ∙ new)) (once i v 0 j pairs rise)
 
 none_clean : CutsCleanly []
-none_clean j i v = let none = take_none j in inl (ap finishes_in none, ap (λ (l : List Written). last_or i v l) none)
+none_clean j i v = let none = take-nil {A = Written} j in inl (ap finishes_in none, ap (λ (l : List Written). last_or i v l) none)
 
 one_clean : (x : Written) → CutsCleanly (x ∷ [])
 one_clean x zero i v = inl (refl, refl)
 one_clean x (suc j) i v =
-    let all : take (suc j) (x ∷ []) ≡ x ∷ [] = ap (λ (l : List Written). x ∷ l) (take_none j) in
+    let all : take (suc j) (x ∷ []) ≡ x ∷ [] = ap (λ (l : List Written). x ∷ l) (take-nil j) in
     let count = ap finishes_in all in
     inr (omega (arith, count), ap (λ (l : List Written). last_or i v l) all)
 
@@ -163,7 +152,7 @@ module _ (p : PlansData) (s : ℕ) (dump : ℕ × ℕ) (value : ℕ) where
   -- a value that was last in a first part of what was written, after enough finishes, may be told
   pub may_be_told : (h : List Event) → WasLast (written p h s) dump.1 least value → MayDump p h s dump value
   may_be_told [] was =
-      let none : take was.length (written p [] s) ≡ written p [] s = ap (take was.length) (written_none p s) ∙ take_none was.length ∙ sym (written_none p s) in
+      let none : take was.length (written p [] s) ≡ written p [] s = ap (take was.length) (written_none p s) ∙ take-nil was.length ∙ sym (written_none p s) in
       whole [] record { enough = subst (λ (l : List Written). least ≤ finishes_in l) none was.enough; last = subst (λ (l : List Written). last_written l dump.1 ≡ value) none was.last }
   may_be_told (e ∷ h) was = by (eqb (stream_in e) s) (written_then p e h s) (may_be_told h)
     where

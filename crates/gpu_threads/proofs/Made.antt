@@ -24,7 +24,7 @@ use Rattle.gpu_hall.specs.declared.full_pass.FullPass.{FullPass}
 use Rattle.gpu_threads.specs.declared.parts.Parts.{Parts}
 use Rattle.gpu_threads.specs.declared.parts.Service.{Service}
 use Rattle.thread_parts.specs.Clients.{ThreadClientData}
-use Rattle.gpu_threads.specs.Clients.{AreClientsFrom, AreClientsOf}
+use Rattle.gpu_threads.specs.Clients.{AreClientsOf}
 use Rattle.gpu_threads.specs.Making.{AreOfStreamsFrom, AreClients, AreFreshWriters, IsFreshService, HaveDoneNothing, AreNamed, HasRoom}
 use Rattle.gpu_threads.specs.Rows.{AreShared, shared_in, results_in}
 use Rattle.gpu_threads.proofs.Shared.{shared_words}
@@ -42,34 +42,17 @@ module _ (tables : ℕ → TableId) where
   writers_from s (plan ∷ plans) (w ∷ writers) many named places none = (
     record {
       shared = named 0 w (omega arith) ∙ ap tables (let e : s + 0 ≡ s = omega arith in e);
-      takes_all = λ place lt. takes place (let same : w.places ≡ words_in plan.areas.results = ap head places in omega (arith, lt, same));
+      takes_all = λ place lt. takes place (let same : w.places ≡ words_in plan.areas.results = cc in omega (arith, lt, same));
       none_written = λ list q. some_is w.written list q (none 0 w (omega arith));
     },
-    writers_from (suc s) plans writers (omega (arith, many)) (λ k other few. named (suc k) other (omega (arith, few)) ∙ ap tables (let e : s + suc k ≡ suc s + k = omega arith in e)) (ap tail places) (λ k other few. none (suc k) other (omega (arith, few))),
+    writers_from (suc s) plans writers (omega (arith, many)) (λ k other few. named (suc k) other (omega (arith, few)) ∙ ap tables (let e : s + suc k ≡ suc s + k = omega arith in e)) (let rest : map (λ (w : ResultWriterData). w.places) writers ≡ map (λ (plan : PlanData). words_in plan.areas.results) plans = cc in rest) (λ k other few. none (suc k) other (omega (arith, few))),
   )
     where
-      head : List ℕ → ℕ
-      head [] = 0
-      head (x ∷ xs) = x
-
-      tail : List ℕ → List ℕ
-      tail [] = []
-      tail (x ∷ xs) = xs
-
       takes : (place : ℕ) → place < w.places → nat_lt place w.places ≡ true
       takes place lt = grind (arith, nat_tests)
 
       some_is : (xs ys : List Written) → Some xs ≡ Some ys → xs ≡ [] → ys ≡ []
       some_is xs ys same is = cc
-
--- the writers are as the house wants them
-fresh_writers : (p : PlansData) (tables : List TableId) (writers : List ResultWriterData) → AreFreshWriters p.plans tables writers
-    → AreFreshResults (λ (w : ResultWriterData) (place : ℕ). nat_lt place w.places) (λ (w : ResultWriterData). Some w.written) (λ (w : ResultWriterData) (table : TableId). w.table ≡ table) (table_at tables) 1 p.plans writers
-fresh_writers p tables writers fresh =
-    let many : length writers ≡ length p.plans = sym (length-map writers (λ (w : ResultWriterData). w.places)) ∙ ap length fresh.places_are ∙ length-map p.plans (λ (plan : PlanData). words_in plan.areas.results) in
-    writers_from (table_at tables) 1 p.plans writers many
-    (λ k other few. sym (get_or-map (λ (w : ResultWriterData). w.table) writers k other no_table few) ∙ ap (λ (row : List TableId). get_or row k no_table) fresh.tables_are ∙ ap (table_at tables) (let e : suc k ≡ 1 + k = omega arith in e))
-    fresh.places_are fresh.none_written
 
 -- ---- the clients
 
@@ -82,21 +65,6 @@ numbered_push : (s : ℕ) (clients : List ThreadClientData) (client : ThreadClie
 numbered_push s [] client are is = (omega (arith, is), tt)
 numbered_push s (c ∷ cs) client are is = (are.0, numbered_push (suc s) cs client are.1 (omega (arith, is)))
 
-each_fits : (p : PlansData) (words results queues : List TableId) (clients : List ThreadClientData) → AreClients p.plans words results queues clients → length clients ≡ length p.plans → AreClientsFrom p words results queues 1 clients
-each_fits p words results queues clients are many k other few =
-    let c = get_or clients k other in
-    let stream : suc k ≡ c.stream = (let e = numbered_at 1 clients are.numbered k other few in omega (arith, e)) in
-    record {
-      stream = numbered_at 1 clients are.numbered k other few;
-      its = record {
-        known = subst (IsKnown (length p.plans)) stream (omega arith, omega (arith, many, few));
-        plan = sym (get_or-map (λ (c : ThreadClientData). c.pass.plan) clients k other no_plan few) ∙ ap (λ (row : List PlanData). get_or row k no_plan) are.plans_are ∙ ap (plan_of p) stream;
-        shared = sym (get_or-map (λ (c : ThreadClientData). c.pass.table) clients k other no_table few) ∙ ap (λ (row : List TableId). get_or row k no_table) are.words_are ∙ ap (table_at words) stream;
-        results_are = sym (get_or-map (λ (c : ThreadClientData). c.reader.table) clients k other no_table few) ∙ ap (λ (row : List TableId). get_or row k no_table) are.results_are ∙ ap (table_at results) stream;
-        queue = sym (get_or-map (λ (c : ThreadClientData). c.poster.queue) clients k other no_table few) ∙ ap (λ (row : List TableId). get_or row k no_table) are.queues_are ∙ ap (table_at queues) stream;
-      };
-    }
-
 -- there are as many as plans
 clients_many : (plans : List PlanData) (words results queues : List TableId) (clients : List ThreadClientData) → AreClients plans words results queues clients → length clients ≡ length plans
 clients_many plans words results queues clients are = sym (length-map clients (λ (c : ThreadClientData). c.pass.plan)) ∙ ap length are.plans_are
@@ -104,7 +72,22 @@ clients_many plans words results queues clients are = sym (length-map clients (�
 pub clients_fit : (p : PlansData) (words results queues : List TableId) (clients : List ThreadClientData) → AreClients p.plans words results queues clients → AreClientsOf p words results queues clients
 clients_fit p words results queues clients are =
     let many = clients_many p.plans words results queues clients are in
-    record { many = many; each = each_fits p words results queues clients are many }
+    record {
+      many = many;
+      each = λ k other few.
+          let c = get_or clients k other in
+          let stream : suc k ≡ c.stream = (let e = numbered_at 1 clients are.numbered k other few in omega (arith, e)) in
+          record {
+            stream = numbered_at 1 clients are.numbered k other few;
+            its = record {
+              known = subst (IsKnown (length p.plans)) stream (omega arith, omega (arith, many, few));
+              plan = sym (get_or-map (λ (c : ThreadClientData). c.pass.plan) clients k other no_plan few) ∙ ap (λ (row : List PlanData). get_or row k no_plan) are.plans_are ∙ ap (plan_of p) stream;
+              shared = sym (get_or-map (λ (c : ThreadClientData). c.pass.table) clients k other no_table few) ∙ ap (λ (row : List TableId). get_or row k no_table) are.words_are ∙ ap (table_at words) stream;
+              results_are = sym (get_or-map (λ (c : ThreadClientData). c.reader.table) clients k other no_table few) ∙ ap (λ (row : List TableId). get_or row k no_table) are.results_are ∙ ap (table_at results) stream;
+              queue = sym (get_or-map (λ (c : ThreadClientData). c.poster.queue) clients k other no_table few) ∙ ap (λ (row : List TableId). get_or row k no_table) are.queues_are ∙ ap (table_at queues) stream;
+            };
+          };
+    }
 
 -- ---- one stream more
 
@@ -191,11 +174,16 @@ take_number plans k plan e =
     let n = length-take-le k plans (omega (arith, few)) in
     omega (arith, n)
 
--- what the hall has is fresh, and so are its writers
+-- what the hall has is fresh, and so are its writers, as the house wants them
 pub service_writers : (p plans : PlansData) (words results queues : List TableId) (service : Service) → plans ≡ p → IsFreshService p.plans words results queues service
     → AreFreshResults (λ (w : ResultWriterData) (place : ℕ). nat_lt place w.places) (λ (w : ResultWriterData). Some w.written) (λ (w : ResultWriterData) (table : TableId). w.table ≡ table) (table_at results) 1 plans.plans service.results.items
 service_writers p plans words results queues service plans_are fresh =
-    fresh_writers plans results service.results.items (subst (λ (q : PlansData). AreFreshWriters q.plans results service.results.items) (sym plans_are) fresh.writers)
+    let writers = service.results.items in
+    let its : AreFreshWriters plans.plans results writers = subst (λ (q : PlansData). AreFreshWriters q.plans results writers) (sym plans_are) fresh.writers in
+    let many : length writers ≡ length plans.plans = sym (length-map writers (λ (w : ResultWriterData). w.places)) ∙ ap length its.places_are ∙ length-map plans.plans (λ (plan : PlanData). words_in plan.areas.results) in
+    writers_from (table_at results) 1 plans.plans writers many
+    (λ k other few. sym (get_or-map (λ (w : ResultWriterData). w.table) writers k other no_table few) ∙ ap (λ (row : List TableId). get_or row k no_table) its.tables_are ∙ ap (table_at results) (let e : suc k ≡ 1 + k = omega arith in e))
+    its.places_are its.none_written
 
 -- ---- by the names of the words and of the queues
 

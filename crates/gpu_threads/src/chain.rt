@@ -62,11 +62,10 @@ fn next<N: Naming, H: Hook, R: Wait, G: Gate>(
         Some(run) => return Some(run),
         None => {}
     }
-    if shift.has_enough() {
+    if !shift.takes_run() {
         return None;
     }
     collect(rt, ground, hall, shift);
-    shift.note_run();
     let run = hall.take();
     if run.is_none() {
         shift.stop(if all_over(hall) {
@@ -100,16 +99,6 @@ fn show_end<N: Naming, H: Hook, R: Wait>(
     finished
 }
 
-// Tells the gate of a finish, where there was one.
-fn tell_finish<G: Gate>(gate: &G, finished: bool, before: Before) {
-    if finished {
-        gate.reach(Place::AfterFinish {
-            stream: before.stream,
-            order: before.order,
-        });
-    }
-}
-
 // What a run did is entered: the lock is given back with the next run in hand, and whom it concerns is told.
 fn leave<N: Naming, H: Hook, R: Wait, G: Gate>(
     rt: &R,
@@ -128,7 +117,12 @@ fn leave<N: Naming, H: Hook, R: Wait, G: Gate>(
     let next = next(rt, ground, &mut hall, shift, on);
     MutexGuard::unlock(hall);
     shift.ring();
-    tell_finish(ground.gate, finished, before);
+    if finished {
+        ground.gate.reach(Place::AfterFinish {
+            stream: before.stream,
+            order: before.order,
+        });
+    }
     next
 }
 
@@ -210,7 +204,6 @@ pub(crate) fn serve_on<N: Naming, H: Hook, R: Wait, G: Gate>(
     shift: Shift<'_>,
 ) -> Leave {
     let mut shift = shift;
-    shift.begin();
     let mut guard = ground.hall.lock(rt);
     let mut out = next(rt, ground, &mut guard, &mut shift, None);
     MutexGuard::unlock(guard);
@@ -222,4 +215,30 @@ pub(crate) fn serve_on<N: Naming, H: Hook, R: Wait, G: Gate>(
         }
     }
     unreachable!()
+}
+
+/// What a turn of a worker came to.
+#[derive(Clone, Copy)]
+pub enum Turn {
+    /// A stream ran until its run was at home again.
+    Ran,
+    /// No stream at home could run.
+    NothingRunnable,
+}
+
+/// Orders the flushes of all queues and lets the scheduler's choice run until its kept wait, its finish or its loss:
+/// - commands are fetched in batches with no lock, and each batch is committed under one
+/// - where memory runs out, the stream is lost
+/// - after a finish or a loss viewers are shown the whole journal, before the gate hears of the finish
+///
+/// That it answers NothingRunnable only where no stream at home could run, tests alone show.
+pub fn serve_turn<N: Naming, H: Hook, R: Wait, G: Gate>(
+    rt: &R,
+    ground: &Ground<'_, N, H, G>,
+) -> Turn {
+    match serve_on(rt, ground, Shift::begin(None, true)) {
+        Leave::Enough => Turn::Ran,
+        Leave::NothingRunnable => Turn::NothingRunnable,
+        Leave::AllOver => Turn::NothingRunnable,
+    }
 }

@@ -20,6 +20,7 @@ fn wait<S: Workplace, R: Wait>(rt: &R, place: &S, pace: &mut Pace<'_>) -> Leave 
         Leave::NothingRunnable
     };
     pace.sleep(rt);
+    pace.listen();
     leave
 }
 
@@ -45,7 +46,6 @@ pub(crate) fn play<S: Workplace, R: Wait>(rt: &R, place: &S, signals: &Signals, 
 {
     let mut pace = Pace::of_client(signals, client.stream());
     for _ in rt.forever() {
-        pace.listen();
         let posted = client.posted();
         match place.turn(rt, client) {
             Act::Went => pace.go(client.posted() != posted),
@@ -70,7 +70,6 @@ pub(crate) fn play<S: Workplace, R: Wait>(rt: &R, place: &S, signals: &Signals, 
 fn serve<S: Workplace, R: Wait>(rt: &R, place: &S, signals: &Signals, worker: usize) {
     let mut pace = Pace::of_worker(signals, worker);
     for _ in rt.forever() {
-        pace.listen();
         if wait(rt, place, &mut pace) == Leave::AllOver {
             return;
         }

@@ -27,26 +27,13 @@
 //!   tested. `serve_turn` answers Ran or NothingRunnable, which no clause ties to a cause.
 //! - `Run::shows_fit` shows which tables a run is of, when it comes out of the lock. Whoever has words of these tables at
 //!   hand may fetch and publish there.
-//! - A dump is due once its await has passed, and no action comes before it. `read` gives its value once enough finishes
-//!   are counted, and the client keeps it in a list.
 //! - Clients and viewers lie in slices, and threads change them in place, so all of them are there when the threads are
 //!   done.
 //! - When the threads are done, nothing is known of the hall but its type. That is enough: the journal is legal, and
 //!   `play_left` goes on until no stream is open and each client has read all its dumps or its stream is lost. Then the
 //!   hall takes the readers back (`all_read`).
-//! - A thread that serves publishes under the lock that its finish or loss is under, and tells the gate of a finish
-//!   afterwards, when its next run may be in its hand.
-//! - No clause says that a thread gets on, so none speaks of bells. A lost ring costs a short nap, and after a few naps for
-//!   nothing a thread serves whoever else does.
-//! - At the end the hall is shown. Each viewer then learns, looks once more, and learns again until the answer is that all
-//!   its looks were at published versions.
 //! - Awaits pass by the finish that is published, and dumps by the one that is counted in the result words, which comes
 //!   first. No clause ties the two words. So a dump whose await has passed may find too few: `Unread`.
-//! - The list of workers alone takes memory: `Memory` is answered where it is refused. A viewer's list has its room before
-//!   any thread starts, so no look needs memory.
-//! - A client's note is posted in the turn that makes it. Only one for which the queue had no room waits for the next turn.
-//! - After the joins each client has a turn in every round. A stream that is lost prints no dumps, whatever its client has
-//!   read.
 //! - No clause says which number of a flush the gate hears: a gate changes nothing of a run.
 #![tactic(auto)]
 
@@ -57,16 +44,15 @@ mod over;
 mod parts;
 mod reading;
 mod rows;
-mod serving;
 mod threaded_run;
 mod threads;
 mod turns;
 mod views;
 mod workplace;
 
+pub use chain::{Turn, serve_turn};
 pub use gpu_hall::FullPass;
 pub use ground::Ground;
-pub use serving::{Turn, serve_turn};
 pub use thread_parts::Client;
 pub use threaded_run::ThreadedRun;
 pub use threads::{Team, run_threads};

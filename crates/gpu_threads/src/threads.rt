@@ -13,15 +13,15 @@ ghost use Rattle.thread_parts.specs.Watches.{HasNotLooked, HasWatched, HaveWatch
 ghost use Rattle.live_view.specs.declared.look.TheConstants.{LOOKS};
 ghost use Rattle.live_view.specs.declared.making.TheConstants.{MOST_VIEWERS};
 
+use crate::chain::serve_turn;
 use crate::ground::Ground;
 use crate::jobs::{play_all, serve_all};
 use crate::parts::{Parts, Service};
 use crate::reading::{all_done, all_read};
 use crate::rows::words_of;
-use crate::serving::serve_turn;
 use crate::threaded_run::ThreadedRun;
 use crate::turns::turn;
-use crate::views::{Views, end_writer, show_all, watch_all};
+use crate::views::{Views, show_all, watch_all};
 use crate::workplace::Workplace;
 use flush_queue::FlushQueue;
 use gpu_hall::{FullPass, Hall};
@@ -255,7 +255,10 @@ fn hall_of<N: Naming, H: Hook, R: Wait>(
     match House::<N, FullPass, H>::make(alloc, plans, hook, sides, results, books) {
         Ok(house) => Ok(Hall::make(house, takers, writer)),
         Err(memory) => {
-            end_writer(rt, writer);
+            match writer {
+                Some(writer) => writer.end(rt),
+                None => {}
+            }
             Err(memory)
         }
     }

@@ -1,7 +1,6 @@
 //! The viewers of a run: they look at its view beside the clients and the workers, and once more when it is over.
 ghost use Rattle.std.specs.Prelude.{◌≡◌, ◌≤◌, [], length, vec_capacity, IfOk, IfSome};
 ghost use Rattle.std.specs.List.{All};
-ghost use mathlib.Core.List.{IsPrefix};
 ghost use Rattle.gpu_threads.specs.Viewers.{AreFreshViews};
 ghost use Rattle.gpu_hall.specs.Looks.{AreViewerLooks};
 ghost use Rattle.thread_parts.specs.Watches.{HasNotLooked, HasWatched, HaveWatched};
@@ -71,14 +70,6 @@ impl Views {
     }
 }
 
-/// Gives the writer of a view up that no hall holds, where there is one.
-pub(crate) fn end_writer<R: Wait>(rt: &R, writer: Option<ViewWriter>) {
-    match writer {
-        Some(writer) => writer.end(rt),
-        None => {}
-    }
-}
-
 /// Each viewer looks, on a thread of its own where there is one.
 pub(crate) fn watch_all<G: Gate + Sync, R: Threads + Wait + Sync>(
     rt: &R,
@@ -113,18 +104,6 @@ fn tell<R: Wait>(rt: &R, shown: &mut Shown) -> Told
     unreachable!()
 }
 
-// Tells a viewer of the versions that were shown, so that it looks at the last of them.
-fn inform<R: Wait>(rt: &R, shown: &mut Shown, watch: &mut Watch)
-    requires { IfSome shown.old.view (λ told. told.view ≡ watch.old.view) }
-    ensures told { IfSome shown.old.view (λ told. IsPrefix told.versions watch.new.versions) }
-    ensures view { watch.new.view ≡ watch.old.view }
-    ensures looks { watch.new.looks ≡ watch.old.looks }
-    ensures same { shown.new ≡ shown.old }
-{
-    let told = tell(rt, shown);
-    watch.learn(rt, told);
-}
-
 // Tells a viewer of the versions that were shown, until it answers that all its looks were at them.
 fn confirm<R: Wait>(rt: &R, shown: &mut Shown, watch: &mut Watch)
     requires { IfSome shown.old.view (λ told. told.view ≡ watch.old.view) }
@@ -141,14 +120,15 @@ fn confirm<R: Wait>(rt: &R, shown: &mut Shown, watch: &mut Watch)
     unreachable!()
 }
 
-// The last look of a viewer, and then all that it saw.
+// The last look of a viewer, at the last version that was shown, and then all that it saw.
 fn look_last<R: Wait>(rt: &R, shown: &mut Shown, watch: Watch) -> Vec<Look>
     requires { IsViewerOf shown.old watch }
     ensures looks { AreViewerLooks shown.old.plans shown.old.past result.items }
     ensures same { shown.new ≡ shown.old }
 {
     let mut watch = watch;
-    inform(rt, shown, &mut watch);
+    let told = tell(rt, shown);
+    watch.learn(rt, told);
     watch.look(rt);
     confirm(rt, shown, &mut watch);
     watch.into_seen()

@@ -1,10 +1,11 @@
 -- What a client keeps while it acts.
-use Rattle.std.proofs.Common.{◌≡◌, ℕ, zero, suc, ◌+◌, ◌<◌, ◌≤◌, Bool, true, false, cond, Option, Some, None, List, [], ◌∷◌, ◌++◌, length, map, take, refl, sym, ap, subst, ◌∙◌, arith}
+use Rattle.std.proofs.Common.{◌≡◌, ℕ, zero, suc, ◌+◌, ◌<◌, ◌≤◌, Bool, true, false, not, cond, Option, Some, None, List, [], ◌∷◌, ◌++◌, length, map, take, refl, sym, ap, subst, ◌∙◌, arith}
 use Rattle.std.specs.Prelude.{nat_lt, slice_get, IfSome, IfNone, OnSome, IsTrue, option_to_list}
 use Rattle.std.specs.Option.{IsSomeAnd}
 use Rattle.std.specs.List.{All}
 use Rattle.std.proofs.lemmas.List.{append-nil, length-map, length-append}
-use Rattle.std.proofs.lemmas.Option.{slice_get_within}
+use Rattle.std.proofs.lemmas.List.Filters.{length-filter_both}
+use Rattle.std.proofs.lemmas.Option.{slice_get_within, IfSome_then}
 use Rattle.gpu_cmd.specs.Spans.{words_in}
 use Rattle.gpu_plan.specs.declared.plan.Action.{Action}
 use Rattle.gpu_plan.specs.declared.plan.Action.TheVariants as actions
@@ -70,12 +71,7 @@ flush_other client at fin =
 -- ---- dumps
 
 few_of : (k : ℕ) (dumps : List (ℕ × ℕ)) → length (dumps_to k dumps) ≤ length dumps
-few_of k [] = omega arith
-few_of k (dump ∷ dumps) = by (nat_lt dump.0 k) (few_of k dumps)
-  where
-    by : (b : Bool) → length (dumps_to k dumps) ≤ length dumps → length (cond b (dump ∷ dumps_to k dumps) (dumps_to k dumps)) ≤ suc (length dumps)
-    by true few = omega (arith, few)
-    by false few = omega (arith, few)
+few_of k dumps = let both = length-filter_both (λ (dump : ℕ × ℕ). nat_lt dump.0 k) (λ (dump : ℕ × ℕ). not (nat_lt dump.0 k)) (λ dump. refl) dumps in omega (arith, both)
 
 -- there is room for a dump that is due
 pub has_room : (c : ThreadClientData) (planned : List (ℕ × ℕ)) (position flushed room : ℕ) (dump : ℕ × ℕ) → c.due ≡ Some dump → IsThreadClient c planned position flushed room → length c.dumps < room
@@ -113,10 +109,6 @@ is_whole c planned position flushed room many is = whole (map dump_of c.dumps) (
         let few = few_of k dumps in
         let none : length ys ≡ 0 = omega (arith, sum, count, few, many) in
         sym (no_more xs ys none) ∙ same ∙ kept k dumps (omega (arith, sum, count, many))
-
-if_map : {X : Type 0} {P Q : X → Type 0} (o : Option X) → ((x : X) → P x → Q x) → IfSome o P → IfSome o Q
-if_map None f h = tt
-if_map (Some x) f h = f x h
 
 -- ---- the whole client
 
@@ -165,8 +157,8 @@ module _ (c : ThreadClientData) (planned : List (ℕ × ℕ)) (position flushed 
           few = is.counted.few;
           place = omega (arith, one, place);
           count = is.counted.count ∙ sym all_posted.count ∙ posted.count ∙ ap flushes_before acts.becomes;
-          due_asks = if_map due (λ dump its. is.counted.count ∙ ap (λ (k : ℕ). flushes (take k c.pass.plan.actions)) (sym (its.0 ∙ place))) dump;
-          due_there = if_map due (λ dump its. its.1.1) dump;
+          due_asks = IfSome_then due dump (λ dump its. is.counted.count ∙ ap (λ (k : ℕ). flushes (take k c.pass.plan.actions)) (sym (its.0 ∙ place)));
+          due_there = IfSome_then due dump (λ dump its. its.1.1);
           room_is = is.counted.room_is;
         };
       }

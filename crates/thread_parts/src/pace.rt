@@ -32,35 +32,34 @@ pub struct Pace<'a> {
 }
 
 impl<'a> Pace<'a> {
-    /// Of the client of a stream.
-    pub fn of_client(signals: &'a Signals, stream: u32) -> Pace<'a> {
+    // Of the client of a stream, or of a worker for stream 0, which sleeps on this bell.
+    fn new(signals: &'a Signals, stream: u32, bell: usize) -> Pace<'a> {
         Pace {
             signals,
             stream,
-            bell: stream as usize,
+            bell,
             heard: 0,
             untold: false,
             asked: false,
             naps: 0,
         }
+    }
+
+    /// Of the client of a stream.
+    pub fn of_client(signals: &'a Signals, stream: u32) -> Pace<'a> {
+        Pace::new(signals, stream, stream as usize)
     }
 
     /// Of a worker. Workers are counted from 0.
     pub fn of_worker(signals: &'a Signals, worker: usize) -> Pace<'a> {
-        Pace {
-            signals,
-            stream: 0,
-            bell: signals.bell_of_worker(worker),
-            heard: 0,
-            untold: false,
-            asked: false,
-            naps: 0,
-        }
+        Pace::new(signals, 0, signals.bell_of_worker(worker))
     }
 
     /// The thread is about to look at what it waits for: a ring from now on does not let it sleep.
     pub fn listen(&mut self) {
-        self.heard = self.signals.heard(self.bell);
+        if let Some(bell) = self.signals.bell(self.bell) {
+            self.heard = bell.rings();
+        }
     }
 
     /// The client did an action, by which it may have posted a flush. Of one posted before a worker hears, since the client goes on and
@@ -86,7 +85,7 @@ impl<'a> Pace<'a> {
     }
 
     /// The client cannot go on before its stream has this number of finishes, or its queue room. It says whether the
-    /// client must try again: it has only now told what it needs, and a finish before that rang no bell.
+    /// client must try again: it has only now told what it needs, and listens only now; a finish before that rang no bell.
     pub fn asks(&mut self, needs: u64) -> bool {
         if self.asked {
             return false;
@@ -94,6 +93,7 @@ impl<'a> Pace<'a> {
         self.signals.need(self.stream, needs);
         self.asked = true;
         self.untold = false;
+        self.listen();
         true
     }
 
@@ -112,9 +112,9 @@ impl<'a> Pace<'a> {
         self.has_waited_long() || self.signals.is_short()
     }
 
-    /// What the thread keeps in mind when it serves.
+    /// The thread begins to serve.
     pub fn shift(&self) -> Shift<'a> {
-        Shift::new(self.signals, self.stream == 0)
+        Shift::begin(Some(self.signals), self.stream == 0)
     }
 
     /// The thread sleeps until its bell is rung, but not where a thread that serves is wanted. A client first looks for a while.

@@ -28,48 +28,37 @@ pub struct Shift<'a> {
 }
 
 impl<'a> Shift<'a> {
-    /// Of a client or of a worker, which serves as long as something is runnable. Where enough threads serve already, it
-    /// takes one run alone.
-    pub(crate) fn new(signals: &'a Signals, is_worker: bool) -> Shift<'a> {
+    /// A client or a worker begins to serve, as long as something is runnable. Where enough threads serve already, it takes
+    /// one run alone. With no signals it serves one turn, for which all queues are collected.
+    pub fn begin(signals: Option<&'a Signals>, is_worker: bool) -> Shift<'a> {
+        let once = match signals {
+            Some(signals) => signals.begin(),
+            None => true,
+        };
         Shift {
-            signals: Some(signals),
+            signals,
             is_worker,
-            once: false,
+            once,
             ran: false,
             rings: 0,
             leave: Leave::Enough,
-        }
-    }
-
-    /// Of one turn, for which all queues are collected.
-    pub fn of_one_turn() -> Shift<'a> {
-        Shift {
-            signals: None,
-            is_worker: true,
-            once: true,
-            ran: false,
-            rings: 0,
-            leave: Leave::Enough,
-        }
-    }
-
-    /// The thread begins to serve.
-    pub fn begin(&mut self) {
-        if let Some(signals) = self.signals {
-            self.once = signals.begin();
         }
     }
 
     /// It serves no longer. It says how it came to leave:
-    /// - where it leaves something undone, a worker is called; a worker looks again by itself
+    /// - where it leaves something undone, a worker is called; a worker looks again by itself, and a client that posted
+    ///   relies on those that serve
     /// - where all is over, all of them are
     pub fn end(&self) -> Leave {
         if let Some(signals) = self.signals {
             signals.end();
             match self.leave {
                 Leave::Enough => signals.call(),
-                Leave::NothingRunnable if self.is_worker => {}
-                Leave::NothingRunnable => signals.call_for_posted(),
+                Leave::NothingRunnable => {
+                    if !self.is_worker && signals.wants_server() {
+                        signals.call();
+                    }
+                }
                 Leave::AllOver => signals.call_all(),
             }
         }
@@ -109,10 +98,7 @@ impl<'a> Shift<'a> {
     /// A stream has this number of finishes, a new token or none, and is lost or not.
     pub fn note_end(&mut self, stream: u32, finishes: u32, has_token: bool, lost: bool) {
         if let Some(signals) = self.signals {
-            if lost {
-                signals.note_lost(stream);
-            }
-            if signals.note_finish(stream, finishes, has_token) || lost {
+            if signals.note_end(stream, finishes, has_token, lost) {
                 self.owe(stream);
             }
         }
@@ -123,14 +109,11 @@ impl<'a> Shift<'a> {
         self.rings |= 1u32 << (stream & 31);
     }
 
-    /// Whether the thread takes no more runs.
-    pub fn has_enough(&self) -> bool {
-        self.once && self.ran
-    }
-
-    /// The thread takes a run.
-    pub fn note_run(&mut self) {
+    /// Whether the thread takes one run more.
+    pub fn takes_run(&mut self) -> bool {
+        let has_enough = self.once && self.ran;
         self.ran = true;
+        !has_enough
     }
 
     /// Rings the bells that must be rung. No lock is held.

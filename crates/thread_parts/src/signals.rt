@@ -33,16 +33,6 @@ struct StreamSignals {
 }
 
 impl StreamSignals {
-    // Of a stream of which nothing has been done.
-    fn new() -> StreamSignals {
-        StreamSignals {
-            posted: AtomicU64::new(0),
-            taken: AtomicU64::new(0),
-            needs: AtomicU64::new(0),
-            lost: AtomicU64::new(0),
-        }
-    }
-
     // Whether the queue may hold something, and each flush that was taken from it is finished.
     fn is_ready(&self, finishes: u32) -> bool {
         self.taken.load(Ordering::SeqCst) <= u64::from(finishes)
@@ -73,7 +63,12 @@ impl Signals {
     pub fn make(alloc: Global, streams: u32, workers: u32) -> Result<Signals, Memory> {
         let mut list = Vec::with_capacity(alloc, streams as usize)?;
         for _ in 0..streams {
-            list.push(CachePadded::new(StreamSignals::new()))?;
+            list.push(CachePadded::new(StreamSignals {
+                posted: AtomicU64::new(0),
+                taken: AtomicU64::new(0),
+                needs: AtomicU64::new(0),
+                lost: AtomicU64::new(0),
+            }))?;
         }
         let threads = streams as usize + workers as usize;
         let mut bells = Vec::with_capacity(alloc, threads)?;
@@ -111,26 +106,10 @@ impl Signals {
         self.streams.len().saturating_add(worker).saturating_add(1)
     }
 
-    /// How often a bell was rung.
-    pub(crate) fn heard(&self, bell: usize) -> u64 {
-        match self.bell(bell) {
-            Some(bell) => bell.rings(),
-            None => 0,
-        }
-    }
-
     /// Rings a bell.
     pub(crate) fn ring(&self, bell: usize) {
         if let Some(bell) = self.bell(bell) {
             bell.ring();
-        }
-    }
-
-    // Rings a bell where a thread sleeps on it, and says whether one did.
-    fn wakes(&self, bell: usize) -> bool {
-        match self.bell(bell) {
-            Some(bell) => bell.wake(),
-            None => false,
         }
     }
 
@@ -167,25 +146,19 @@ impl Signals {
         }
     }
 
-    /// A stream has this number of finishes, and a new token or none. It says whether its client waits for that.
-    pub(crate) fn note_finish(&self, stream: u32, finishes: u32, has_token: bool) -> bool {
-        match self.of(stream) {
-            Some(own) => {
-                if own.is_ready(finishes) {
-                    self.posted.store(1, Ordering::SeqCst);
-                }
-                let needs = own.needs.load(Ordering::SeqCst);
-                needs & !OR_TOKEN <= u64::from(finishes) || (has_token && needs & OR_TOKEN != 0)
-            }
-            None => false,
-        }
-    }
-
-    /// A stream is lost.
-    pub(crate) fn note_lost(&self, stream: u32) {
-        if let Some(own) = self.of(stream) {
+    /// A stream has this number of finishes, a new token or none, and is lost or not. It says whether that concerns its client.
+    pub(crate) fn note_end(&self, stream: u32, finishes: u32, has_token: bool, lost: bool) -> bool {
+        let Some(own) = self.of(stream) else {
+            return lost;
+        };
+        if lost {
             own.lost.store(1, Ordering::SeqCst);
         }
+        if own.is_ready(finishes) {
+            self.posted.store(1, Ordering::SeqCst);
+        }
+        let needs = own.needs.load(Ordering::SeqCst);
+        lost || needs & !OR_TOKEN <= u64::from(finishes) || (has_token && needs & OR_TOKEN != 0)
     }
 
     /// Whether a stream is known to be lost.
@@ -231,8 +204,10 @@ impl Signals {
             return;
         }
         for worker in 0..self.workers() {
-            if self.wakes(self.bell_of_worker(worker)) {
-                return;
+            if let Some(bell) = self.bell(self.bell_of_worker(worker)) {
+                if bell.wake() {
+                    return;
+                }
             }
         }
         self.called.store(0, Ordering::SeqCst);
@@ -241,13 +216,6 @@ impl Signals {
     /// A worker that was called is not needed any more: another one may be called.
     pub(crate) fn dismiss(&self) {
         self.called.store(0, Ordering::SeqCst);
-    }
-
-    /// The same, where a queue that may be collected may hold something: a client that posted relies on those that serve.
-    pub(crate) fn call_for_posted(&self) {
-        if self.posted.load(Ordering::SeqCst) != 0 {
-            self.call();
-        }
     }
 
     /// Calls all workers.

@@ -60,25 +60,17 @@ impl Watch {
         self.seen.push_reserved(look);
     }
 
-    // Looks once, where the gate lets it.
-    fn look_at<R: Wait, G: Gate>(&mut self, rt: &R, gate: &G, look: u32)
-        requires { length self.old.looks < ALL_LOOKS }
-        ensures { HasLooked self.old self.new }
-    {
-        gate.reach(Place::BeforeLook {
-            viewer: self.number,
-            look,
-        });
-        self.look(rt);
-    }
-
-    /// All looks that are done while the run goes on.
+    /// All looks that are done while the run goes on, each where the gate lets it.
     pub fn watch<R: Wait, G: Gate>(&mut self, rt: &R, gate: &G)
         requires { HasNotLooked self.old }
         ensures { HasWatched self.old.view LOOKS self.new }
     {
         for done in 0..LOOKS {
-            self.look_at(rt, gate, done + 1);
+            gate.reach(Place::BeforeLook {
+                viewer: self.number,
+                look: done + 1,
+            });
+            self.look(rt);
         }
     }
 
