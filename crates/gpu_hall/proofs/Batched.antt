@@ -19,7 +19,7 @@ use Rattle.gpu_house.specs.Drawing.{drawn_at}
 use Rattle.gpu_house.specs.Committing.{drawn_by_steps, TellsDrawn, Stage, AreDone, HaveGone, GoneInPart, Commits}
 use Rattle.gpu_hall.specs.Takers.{QueuesFit}
 use Rattle.gpu_hall.specs.Views.{IsVersionOf, HasNoted, HallFits}
-use Rattle.gpu_hall.proofs.Takers.{takers_keep}
+use Rattle.gpu_hall.proofs.Takers.{takers_event}
 use Rattle.gpu_hall.proofs.Committed.{IsKept, kept_committed, kept_part}
 use Rattle.gpu_hall.proofs.Viewed.{versions_more, view_noted}
 
@@ -85,7 +85,7 @@ module _ {Side Note Results : Type 0} (side : Side → SideData) (mark : Note �
     pub fits_batch : {Fault : Type 0} (words queues : List TableId) (view : Book) (takers : List EndData) (was now : Option WriterData) (answer : Result Next Fault) → Answers answer
         → HasNoted new.drawn was now → HallFits p words queues view old.house.core.past takers was → HallFits p words queues view new.house.core.past takers now
     fits_batch words queues view takers was now answer did noted fit = record {
-      queues = kept_batch (λ h. QueuesFit p words queues h takers) (takers_keep p words queues takers) answer did fit.queues;
+      queues = kept_batch (λ h. QueuesFit p words queues h takers) (takers_event p words queues takers) answer did fit.queues;
       view = view_noted p view old.house.core.past new.house.core.past new.drawn was now
           (λ versions. kept_batch (λ h. All (IsVersionOf p h) versions) (λ e h not_order. versions_more p versions e h) answer did) told_all noted fit.view;
     }

@@ -31,7 +31,7 @@ module _ (p : PlansData) (words queues : List TableId) (view : Book) where
     -- by an event that is neither an order nor a step
     pub fits_event : (e : Event) (h g : List Event) → g ≡ e ∷ h → is_order e ≡ false → is_step e ≡ false → Fits takers writer h → Fits takers writer g
     fits_event e h g is not_order no_step fit = fits_same (e ∷ h) g is record {
-      queues = takers_event p words queues e h (e ∷ h) takers refl not_order fit.queues;
+      queues = takers_event p words queues takers e h not_order fit.queues;
       view = view_quiet p view e h writer no_step fit.view;
     }
 

@@ -1,5 +1,4 @@
 pub mod Takers
-pub mod Fresh
 pub mod Collected
 pub mod Committed
 pub mod Viewed

@@ -1,10 +1,12 @@
 -- The takers of a hall fit its journal again after each call.
 use Rattle.std.proofs.Common.{◌≡◌, ⊎_elim, ℕ, suc, ◌+◌, ◌-◌, ◌<◌, eqb, Bool, true, false, Option, Some, None, List, [], ◌∷◌, length, get_or, set, refl, sym, ap, subst, ◌∙◌, arith, length-set}
 use Rattle.std.proofs.lemmas.Bool.{eqb-true}
+use Rattle.std.proofs.lemmas.List.{length-map, get_or-map}
 use Rattle.std.specs.Prelude.{slice_index_or}
 use Rattle.atomic_table.specs.Seated.{TableId}
-use Rattle.gpu_plan.specs.Plans.{PlansData, PlanData, plan_of}
+use Rattle.gpu_plan.specs.Plans.{PlansData, PlanData, no_plan, plan_of}
 use Rattle.gpu_plan.specs.Passes.{flushes}
+use Rattle.gpu_fetch.specs.Side.{no_table}
 use Rattle.flush_queue.specs.Seen.{EndData, one_more}
 use Rattle.sync_core.specs.Standing.{Standing, IsKnown, is_open}
 use Rattle.sync_core.specs.Events as sync
@@ -12,7 +14,8 @@ use Rattle.sync_core.proofs.Rows.{position_of}
 use Rattle.gpu_journal.specs.declared.event.Event.{Event}
 use Rattle.gpu_journal.specs.declared.event.Event.TheVariants.{Lost}
 use Rattle.gpu_journal.specs.declared.event.Why.TheVariants.{Memory}
-use Rattle.gpu_journal.specs.World.{Known, stream_in, known, world}
+use Rattle.gpu_journal.specs.World.{World, Known, stream_in, known, world}
+use Rattle.gpu_journal.proofs.Worlds.{world_none}
 use Rattle.gpu_journal.specs.Waits.{standing_of, deed, drawn}
 use Rattle.gpu_journal.specs.Legal.{IsLegal}
 use Rattle.gpu_journal.specs.Serial.{order_event}
@@ -21,7 +24,7 @@ use Rattle.serial_laws.proofs.Flushes.{flush_there}
 use Rattle.serial_laws.proofs.Passed.{is_order, ordered_same}
 use Rattle.serial_laws.proofs.Ended.{next_open}
 use Rattle.gpu_house.proofs.Rows.{each_set}
-use Rattle.gpu_hall.specs.Takers.{TakerFits, QueuesFit}
+use Rattle.gpu_hall.specs.Takers.{TakerFits, QueuesFit, AreFreshTakers}
 use Rattle.gpu_hall.specs.Collecting.{OrderedOrLost}
 
 -- ---- what an event changes of a stream
@@ -58,17 +61,11 @@ module _ (p : PlansData) (words queues : List TableId) where
 
   -- ---- no flush is taken
 
-  pub takers_same : (h g : List Event) (takers : List EndData) → g ≡ h → QueuesFit p words queues h takers → QueuesFit p words queues g takers
-  takers_same h g takers is fit = subst (λ (g : List Event). QueuesFit p words queues g takers) (sym is) fit
-
-  pub takers_event : (e : Event) (h g : List Event) (takers : List EndData) → g ≡ e ∷ h → is_order e ≡ false → QueuesFit p words queues h takers → QueuesFit p words queues g takers
-  takers_event e h g takers is not_order fit = takers_same (e ∷ h) g takers is record {
+  pub takers_event : (takers : List EndData) (e : Event) (h : List Event) → is_order e ≡ false → QueuesFit p words queues h takers → QueuesFit p words queues (e ∷ h) takers
+  takers_event takers e h not_order fit = record {
     count = fit.count;
     each = λ k other few. still_fits h (e ∷ h) (suc k) (slice_index_or takers k other) (kept_before p e h (suc k)) (λ _. ordered_same p e h (suc k) not_order) (fit.each k other few);
   }
-
-  pub takers_keep : (takers : List EndData) (e : Event) (h : List Event) → is_order e ≡ false → QueuesFit p words queues h takers → QueuesFit p words queues (e ∷ h) takers
-  takers_keep takers e h not_order fit = takers_event e h (e ∷ h) takers refl not_order fit
 
   -- ---- a flush of stream s is taken: its taker was one and is another now
 
@@ -110,30 +107,46 @@ module _ (p : PlansData) (words queues : List TableId) where
       pub open_taken : IsLegal p h → is_open (standing_of p h s) ≡ true
       open_taken legal = let there = flush_there (plan_of p s).actions (known p h s).ordered next_taken in next_open p h s there.0 legal there.1 kept
 
-      ordered_taken : (g : List Event) → g ≡ order_event p h s ∷ h → QueuesFit p words queues g (set takers (s - 1) now)
-      ordered_taken g is =
+      ordered_taken : QueuesFit p words queues (order_event p h s ∷ h) (set takers (s - 1) now)
+      ordered_taken =
           let e = order_event p h s in
-          takers_same (e ∷ h) g (set takers (s - 1) now) is (one_set (e ∷ h)
+          one_set (e ∷ h)
           (subst (Fits (e ∷ h) s) (sym more) record {
             queue = own.queue;
             shared = own.shared;
             plan = own.plan;
             count = λ _. ap (λ (n : ℕ). n + 1) (own.count kept) ∙ sym (ap (λ (k : Known). k.ordered) (known_own p e h));
           })
-          (λ t y off f. other_event e t y off f))
+          (λ t y off f. other_event e t y off f)
 
-      losing_taken : (g : List Event) → g ≡ Lost s Memory [] ∷ h → QueuesFit p words queues g (set takers (s - 1) now)
-      losing_taken g is =
+      losing_taken : QueuesFit p words queues (Lost s Memory [] ∷ h) (set takers (s - 1) now)
+      losing_taken =
           let e = Lost s Memory [] in
-          takers_same (e ∷ h) g (set takers (s - 1) now) is (one_set (e ∷ h)
+          one_set (e ∷ h)
           (subst (Fits (e ∷ h) s) (sym more) record {
             queue = own.queue;
             shared = own.shared;
             plan = own.plan;
             count = λ not_lost. absurd (let lost = ap (λ (x : Standing). x.lost) (standing_own p e h) in cc);
           })
-          (λ t y off f. other_event e t y off f))
+          (λ t y off f. other_event e t y off f)
 
       -- it is ordered, or its stream is lost
       pub one_taken : (g : List Event) → OrderedOrLost p s h g → QueuesFit p words queues g (set takers (s - 1) now)
-      one_taken g came = ⊎_elim (ordered_taken g) (losing_taken g) came
+      one_taken g came = ⊎_elim (λ is. by is ordered_taken) (λ is. by is losing_taken) came
+        where
+          by : {f : List Event} → g ≡ f → QueuesFit p words queues f (set takers (s - 1) now) → QueuesFit p words queues g (set takers (s - 1) now)
+          by is fit = subst (λ (g : List Event). QueuesFit p words queues g (set takers (s - 1) now)) (sym is) fit
+
+-- ---- fresh takers fit the journal without events
+
+pub fresh_takers : (p : PlansData) (words queues : List TableId) (h : List Event) (takers : List EndData) → h ≡ [] → AreFreshTakers p.plans words queues takers → QueuesFit p words queues h takers
+fresh_takers p words queues h takers empty fresh = subst (λ (h : List Event). QueuesFit p words queues h takers) (sym empty) record {
+  count = sym (length-map takers (λ (t : EndData). t.plan)) ∙ ap length fresh.plans_are;
+  each = λ k other few. record {
+    queue = sym (get_or-map (λ (t : EndData). t.queue) takers k other no_table few) ∙ ap (λ (row : List TableId). get_or row k no_table) fresh.queues_are;
+    shared = sym (get_or-map (λ (t : EndData). t.words) takers k other no_table few) ∙ ap (λ (row : List TableId). get_or row k no_table) fresh.words_are;
+    plan = sym (get_or-map (λ (t : EndData). t.plan) takers k other no_plan few) ∙ ap (λ (row : List PlanData). get_or row k no_plan) fresh.plans_are;
+    count = λ kept. fresh.none_taken k other few ∙ sym (ap (λ (w : World). (w.streams (suc k)).ordered) (world_none p));
+  };
+}

@@ -7,6 +7,7 @@ use Rattle.gpu_journal.specs.declared.event.Event.TheVariants.{Lost}
 use Rattle.gpu_journal.specs.declared.event.Why.TheVariants.{Memory}
 use Rattle.gpu_journal.specs.Waits.{standing_of}
 use Rattle.gpu_journal.specs.Serial.{order_event}
+use Rattle.gpu_hall.specs.Halls.{HallData}
 
 -- the next flush of stream s was ordered, or as out of memory the stream was lost
 abbrev pub OrderedOrLost : PlansData → ℕ → List Event → List Event → Type 0
@@ -29,3 +30,10 @@ HasCollected p old (event ∷ new) = (old ≡ event ∷ new) ⊎ (IsCollected p 
 -- unless stream s is lost, the journal has grown by this number of events
 abbrev pub GrewBy : PlansData → ℕ → ℕ → List Event → List Event → Type 0
 GrewBy p s count old new = (standing_of p new s).lost ≡ false → length new ≡ length old + count
+
+-- none or one flush of stream s was taken: this number of events has come, unless it is lost, and nothing else has changed
+pub record HasLooked (p : PlansData) (s n : ℕ) (old new : HallData) : Type 0 where
+  pub came : (new.past ≡ old.past) ⊎ OrderedOrLost p s old.past new.past
+  pub count : GrewBy p s n old.past new.past
+  pub outs : new.outs ≡ old.outs
+  pub view : new.view ≡ old.view

@@ -8,7 +8,10 @@ use Rattle.gpu_journal.specs.declared.event.Event.TheVariants as event
 use Rattle.gpu_journal.specs.declared.event.Why.TheVariants.{Error, Memory}
 use Rattle.gpu_journal.specs.Waits.{standing_of}
 use Rattle.gpu_journal.specs.Facts.{verdict_at}
+use Rattle.house_core.specs.Core.{with_out}
+use Rattle.house_core.specs.Desks.{RunData, at_home}
 use Rattle.gpu_house.specs.Committing.{journal_stepped, AreValid, keeps_one}
+use Rattle.gpu_hall.specs.Halls.{HallData}
 
 -- how a run came home: its stream was over before, a wait of its steps was kept, its flush is at its end, a command is invalid, or
 -- memory ran out
@@ -61,3 +64,17 @@ CameHome p old new s n members Waits = HasSteps p old new s members true
 CameHome p old new s n members Ended = HasFinish p old new s n members
 CameHome p old new s n members (Invalid error) = IsLostBy p old new s members error
 CameHome p old new s n members Wanted = IsLostForMemory p old new s members
+
+-- the run goes on as `on`: it is of the same stream, the journal has the steps of all members, and the run is out and not paused
+pub record WentOn (p : PlansData) (old new : HallData) (run : RunData) (members : List (List (ℕ × ℕ))) (on : RunData) : Type 0 where
+  pub same : on.stream ≡ run.stream
+  pub steps : HasSteps p old.past new.past run.stream members false
+  pub outs : new.outs ≡ with_out old.outs run.stream record { order = run.order; paused = false }
+  pub view : new.view ≡ old.view
+
+-- the run came home so
+pub record WentHome (p : PlansData) (old new : HallData) (run : RunData) (members : List (List (ℕ × ℕ))) : Type 0 where
+  pub how : Return
+  pub came : CameHome p old.past new.past run.stream run.order members how
+  pub outs : new.outs ≡ with_out old.outs run.stream at_home
+  pub view : new.view ≡ old.view

@@ -1,5 +1,5 @@
 //! Flushes come to the house by their queues.
-ghost use Rattle.std.specs.Prelude.{◌≡◌, ◌<◌, ◌⊎◌, length, true, if◌then◌else◌};
+ghost use Rattle.std.specs.Prelude.{◌≡◌, ◌<◌, length, true, if◌then◌else◌};
 ghost use Rattle.gpu_plan.specs.Plans.{plan_of};
 ghost use Rattle.gpu_plan.specs.Passes.{flushes};
 ghost use Rattle.gpu_plan.specs.Places.{mark_of};
@@ -7,7 +7,7 @@ ghost use Rattle.sync_core.specs.Standing.{IsKnown, is_open};
 ghost use Rattle.gpu_journal.specs.World.{known};
 ghost use Rattle.gpu_journal.specs.Waits.{standing_of};
 ghost use Rattle.gpu_house.specs.Names.{table_at};
-ghost use Rattle.gpu_hall.specs.Collecting.{OrderedOrLost, HasCollectedFrom, HasCollected, GrewBy};
+ghost use Rattle.gpu_hall.specs.Collecting.{OrderedOrLost, HasLooked, HasCollectedFrom, HasCollected, GrewBy};
 
 use crate::full_pass::FullPass;
 use crate::hall::Hall;
@@ -44,16 +44,10 @@ fn order_or_lose<N: Naming, H: Hook>(house: &mut House<N, FullPass, H>, stream: 
 
 impl<N: Naming, H: Hook> Hall<N, H> {
     // Takes the next flush of a stream, where there is one, and orders it. That of a lost stream is dropped.
-    #[tactic(auto, using(crate::proofs::Collected::none_grew, crate::proofs::Collected::dropped_grew, crate::proofs::Collected::one_grew))]
     fn collect_next<R: Wait>(&mut self, rt: &R, stream: u32, queue: &FlushQueue) -> bool
         requires known { IsKnown (length N.plans.plans) stream }
         requires queue { queue.now ≡ table_at N.queues stream }
-        ensures came { (self.new.past ≡ self.old.past)
-            ⊎ OrderedOrLost N.plans stream self.old.past self.new.past }
-        ensures count { GrewBy N.plans stream (if result then 1 else 0)
-            self.old.past self.new.past }
-        ensures outs { self.new.outs ≡ self.old.outs }
-        ensures view { self.new.view ≡ self.old.view }
+        ensures { HasLooked N.plans stream (if result then 1 else 0) self.old self.new }
     {
         let Hall { house, takers, .. } = self;
         let Some(note) = queue.take_next(rt, &mut takers[stream as usize - 1]) else {

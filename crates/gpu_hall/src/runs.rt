@@ -12,7 +12,7 @@ ghost use Rattle.gpu_house.specs.House.{OutData};
 ghost use Rattle.gpu_hall.specs.Ready.{IsReadyRun};
 ghost use Rattle.gpu_hall.specs.Words.{AreWordsAt};
 ghost use Rattle.gpu_house.specs.Batches.{member_words, batch_words, AreChained};
-ghost use Rattle.gpu_hall.specs.Commits.{Return, HasSteps, CameHome};
+ghost use Rattle.gpu_hall.specs.Commits.{WentOn, WentHome};
 
 use crate::full_pass::FullPass;
 use crate::hall::Hall;
@@ -61,19 +61,10 @@ impl<N: Naming, H: Hook> Hall<N, H> {
         requires list { drop run.run.facts.fetched run.side.pass.fetched ≡ batch_words batch }
         requires words { AreWordsAt N.words N.result_words run.run.stream words.now }
         ensures ready { IfSome result (IsReadyRun N.plans N.words N.books) }
-        ensures same { IfSome result (λ on. on.run.stream ≡ run.run.stream) }
         ensures more { IfSome result
-            (λ on. HasSteps N.plans self.old.past self.new.past run.run.stream
-            (member_words batch) false) }
+            (λ on. WentOn N.plans self.old self.new run.run (member_words batch) on.run) }
         ensures home { IfNone result
-            ((how : Return) × CameHome N.plans self.old.past self.new.past run.run.stream
-            run.run.order (member_words batch) how) }
-        ensures out { IfSome result (λ on. self.new.outs
-            ≡ with_out self.old.outs run.run.stream
-            record { order = run.run.order; paused = false }) }
-        ensures back { IfNone result
-            (self.new.outs ≡ with_out self.old.outs run.run.stream at_home) }
-        ensures view { self.new.view ≡ self.old.view }
+            (WentHome N.plans self.old self.new run.run (member_words batch)) }
     {
         let mut run = run;
         if let Err(memory) = make_room(&mut self.view, batch.count()) {

@@ -13,7 +13,7 @@ ghost use Rattle.gpu_house.specs.Batches.{member_words, batch_words, AreChained}
 ghost use Rattle.gpu_house.specs.Waiting.{HaveTargets, FormNoCycle};
 ghost use Rattle.gpu_house.specs.Stuck.{IsNotStuck};
 ghost use Rattle.gpu_hall.specs.Outs.{NoneIsPaused, IsDoneOrGoesOn};
-ghost use Rattle.gpu_hall.specs.Commits.{Return, HasSteps, CameHome};
+ghost use Rattle.gpu_hall.specs.Commits.{HasSteps, WentHome};
 ghost use Rattle.gpu_hall.specs.Laws.{GrowsBy};
 ghost use Rattle.gpu_hall.specs.Ready.{IsReadyRun};
 ghost use Rattle.gpu_hall.specs.Words.{AreWordsAt};
@@ -79,7 +79,6 @@ fn take_first<N: Naming, H: Hook>(hall: &mut Hall<N, H>) -> Option<Run<N, FullPa
 
 // A commit takes nothing from the journal, and adds at most an event for each command, and one more where the run comes home. It
 // tells of what it adds that the commands are valid, that no wait of a run that goes on was kept, and by which error a stream is lost.
-#[tactic(auto, using(gpu_hall::proofs::Grown::steps_grow, gpu_hall::proofs::Grown::returns_grow))]
 fn commit_more<N: Naming, H: Hook>(
     hall: &mut Hall<N, H>,
     run: Run<N, FullPass>,
@@ -96,8 +95,7 @@ fn commit_more<N: Naming, H: Hook>(
         hall.old.past hall.new.past) }
     ensures steps { IfSome result (λ on. HasSteps N.plans hall.old.past hall.new.past
         run.run.stream (member_words batch) false) }
-    ensures home { IfNone result ((how : Return) × CameHome N.plans hall.old.past hall.new.past
-        run.run.stream run.run.order (member_words batch) how) }
+    ensures home { IfNone result (WentHome N.plans hall.old hall.new run.run (member_words batch)) }
 {
     hall.commit(run, words, batch)
 }

@@ -1,6 +1,6 @@
-use Rattle.std.proofs.Common.{inl, inr, refl, sym, ap, subst, ◌∙◌}
-use Rattle.gpu_hall.specs.Collecting.{OrderedOrLost, GrewBy}
-use Rattle.gpu_hall.specs.Halls.{HallData}
+use Rattle.std.proofs.Common.{inl, inr, refl, sym, subst, ◌∙◌}
+use Rattle.gpu_hall.specs.Collecting.{HasLooked}
+use Rattle.gpu_hall.specs.Halls.{HallData, hall_seen}
 use Rattle.gpu_hall.proofs.Collected.{none_grew, dropped_grew, one_grew}
 use Rattle.gpu_hall.proofs.Takers.{open_taken, one_taken}
 use Rattle.gpu_hall.proofs.Outs.{none_same}
@@ -28,44 +28,26 @@ invariant_of-self-2 g c =
       going = none_same c.self.inside.house.core.outs c.order_or_lose.new.house.core.outs c.order_or_lose.ensures.outs c.self.invariant.going;
     }
 
-pub returns-in_default-clause-came : goal.returns-in_default-clause-came
-returns-in_default-clause-came g c = inl (ap (λ (v : HallData). v.past) c.self.view_is)
-
-pub returns-in_default-clause-count : goal.returns-in_default-clause-count
-returns-in_default-clause-count g c =
+pub returns-in_default : goal.returns-in_default
+returns-in_default g c =
+    let p = g.N.Naming.plans in
+    let s = c.args.stream in
     let h = c.self.inside.house.core.past in
-    subst (λ (v : HallData). GrewBy g.N.Naming.plans c.args.stream 0 v.past h) c.self.view_is (none_grew g.N.Naming.plans c.args.stream h h refl)
+    subst (λ (v : HallData). HasLooked p s 0 v (hall_seen c.self.inside.house.core c.self.inside.view)) c.self.view_is record { came = inl refl; count = none_grew p s h h refl; outs = refl; view = refl }
 
-pub returns-in_default-clause-outs : goal.returns-in_default-clause-outs
-returns-in_default-clause-outs g c = ap (λ (v : HallData). v.outs) c.self.view_is
-
-pub returns-in_default-clause-view : goal.returns-in_default-clause-view
-returns-in_default-clause-view g c = ap (λ (v : HallData). v.view) c.self.view_is
-
-pub returns-then-is_lost-clause-came : goal.returns-then-is_lost-clause-came
-returns-then-is_lost-clause-came g c = inl (ap (λ (v : HallData). v.past) c.self.view_is)
-
-pub returns-then-is_lost-clause-count : goal.returns-then-is_lost-clause-count
-returns-then-is_lost-clause-count g c =
+pub returns-then-is_lost : goal.returns-then-is_lost
+returns-then-is_lost g c =
+    let p = g.N.Naming.plans in
+    let s = c.args.stream in
     let h = c.self.inside.house.core.past in
-    subst (λ (v : HallData). GrewBy g.N.Naming.plans c.args.stream 1 v.past h) c.self.view_is (dropped_grew g.N.Naming.plans c.args.stream h h 1 refl (sym c.is_lost.ensures ∙ c.if-is_lost.true))
+    subst (λ (v : HallData). HasLooked p s 1 v (hall_seen c.self.inside.house.core c.self.inside.view)) c.self.view_is
+    record { came = inl refl; count = dropped_grew p s h h 1 refl (sym c.is_lost.ensures ∙ c.if-is_lost.true); outs = refl; view = refl }
 
-pub returns-then-is_lost-clause-outs : goal.returns-then-is_lost-clause-outs
-returns-then-is_lost-clause-outs g c = ap (λ (v : HallData). v.outs) c.self.view_is
-
-pub returns-then-is_lost-clause-view : goal.returns-then-is_lost-clause-view
-returns-then-is_lost-clause-view g c = ap (λ (v : HallData). v.view) c.self.view_is
-
-pub returns-clause-came : goal.returns-clause-came
-returns-clause-came g c = inr (subst (λ (v : HallData). OrderedOrLost g.N.Naming.plans c.args.stream v.past c.order_or_lose.new.house.core.past) c.self.view_is c.order_or_lose.ensures.came)
-
-pub returns-clause-count : goal.returns-clause-count
-returns-clause-count g c =
-    let now = c.order_or_lose.new.house.core.past in
-    subst (λ (v : HallData). GrewBy g.N.Naming.plans c.args.stream 1 v.past now) c.self.view_is (one_grew g.N.Naming.plans c.args.stream c.self.inside.house.core.past now c.order_or_lose.ensures.came)
-
-pub returns-clause-outs : goal.returns-clause-outs
-returns-clause-outs g c = c.order_or_lose.ensures.outs ∙ ap (λ (v : HallData). v.outs) c.self.view_is
-
-pub returns-clause-view : goal.returns-clause-view
-returns-clause-view g c = ap (λ (v : HallData). v.view) c.self.view_is
+pub returns : goal.returns
+returns g c =
+    let p = g.N.Naming.plans in
+    let s = c.args.stream in
+    let now = c.order_or_lose.new.house.core in
+    let came = c.order_or_lose.ensures.came in
+    subst (λ (v : HallData). HasLooked p s 1 v (hall_seen now c.self.inside.view)) c.self.view_is
+    record { came = inr came; count = one_grew p s c.self.inside.house.core.past now.past came; outs = c.order_or_lose.ensures.outs; view = refl }

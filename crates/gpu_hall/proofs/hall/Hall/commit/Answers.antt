@@ -20,13 +20,13 @@ use Rattle.gpu_house.specs.Batches.{member_words}
 use Rattle.gpu_house.specs.Committing.{Stage, is_executed, GoneInPart, Commits}
 use Rattle.gpu_house.specs.Changes.{ResultsBelong}
 use Rattle.gpu_house.proofs.Places.{if_there}
-use Rattle.house_core.specs.Core.{with_out}
+use Rattle.house_core.specs.Core.{CoreData, with_out}
 use Rattle.house_core.specs.Desks.{Out, at_home}
 use Rattle.gpu_hall.specs.declared.full_pass.FullPass.{FullPass}
 use Rattle.gpu_hall.specs.Outs.{NoneIsPaused}
 use Rattle.gpu_hall.specs.Views.{ViewHasRoom, HasNoted, HallFits, view_front}
-use Rattle.gpu_hall.specs.Commits.{Return, HasSteps, CameHome}
-use Rattle.gpu_hall.specs.Halls.{HallData}
+use Rattle.gpu_hall.specs.Commits.{Return, CameHome, WentOn, WentHome}
+use Rattle.gpu_hall.specs.Halls.{HallData, hall_seen}
 use Rattle.gpu_hall.proofs.Fitting.{fits_same, fits_while, fits_room}
 use Rattle.gpu_hall.proofs.Committed.{lost_first, may_come_back, came_back, was_ended, was_wanted}
 use Rattle.gpu_hall.proofs.Viewed.{fewer, seen_same, seen_noted}
@@ -55,17 +55,9 @@ returns-in-Err-clause-home g c =
     let N = g.N.Naming in
     let run = c.args.run.run in
     let h = c.self.inside.house.core.past in
-    let now = c.lose.new.self.core.past in
-    subst (λ (d : HallData). (how : Return) × CameHome N.plans d.past now run.stream run.order (member_words c.args.batch) how) c.self.view_is
-    (lost_first N.plans h now run.stream run.order (member_words c.args.batch) (is_open (standing_of N.plans h run.stream)) refl c.lose.ensures.event c.lose.ensures.over)
-
-pub returns-in-Err-clause-back : goal.returns-in-Err-clause-back
-returns-in-Err-clause-back g c =
-    c.lose.ensures.outs ∙ ap (λ (d : HallData). with_out d.outs c.args.run.run.stream at_home) c.self.view_is
-
-pub returns-in-Err-clause-view : goal.returns-in-Err-clause-view
-returns-in-Err-clause-view g c =
-    seen_same c.self.inside.view c.make_room.new.view c.make_room.ensures.same ∙ ap (λ (d : HallData). d.view) c.self.view_is
+    let home = lost_first N.plans h c.lose.new.self.core.past run.stream run.order (member_words c.args.batch) (is_open (standing_of N.plans h run.stream)) refl c.lose.ensures.event c.lose.ensures.over in
+    subst (λ (d : HallData). WentHome N.plans d (hall_seen c.lose.new.self.core c.make_room.new.view) run (member_words c.args.batch)) c.self.view_is
+    record { how = home.0; came = home.1; outs = c.lose.ensures.outs; view = seen_same c.self.inside.view c.make_room.new.view c.make_room.ensures.same }
 
 -- ---- the batch may be committed
 
@@ -132,6 +124,12 @@ module _ (g : Over) (c : After-step_batch-answer g) where
   view_back : (view : Option WriterData) → HasNoted new.drawn c.make_room.new.view view → option_map view_front view ≡ option_map view_front c.self.inside.view
   view_back view noted = seen_noted new.drawn c.make_room.new.view view noted ∙ seen_same c.self.inside.view c.make_room.new.view c.make_room.ensures.same
 
+  -- the run came home, and what was drawn is noted
+  home : (core : CoreData) (view : Option WriterData) → HasNoted new.drawn c.make_room.new.view view → (how : Return) × CameHome g.N.Naming.plans old.house.core.past core.past c.args.run.run.stream c.args.run.run.order members how
+      → core.outs ≡ with_out old.house.core.outs old.out.run.stream at_home → WentHome g.N.Naming.plans c.args.self.now (hall_seen core view) c.args.run.run members
+  home core view noted came outs =
+      subst (λ (d : HallData). WentHome g.N.Naming.plans d (hall_seen core view) c.args.run.run members) c.self.view_is record { how = came.0; came = came.1; outs = outs; view = view_back view noted }
+
   -- no run is paused once that of the batch is at home
   back : (outs : List Out) → outs ≡ with_out old.house.core.outs old.out.run.stream at_home → NoneIsPaused outs
   back outs home = none_set old.house.core.outs outs old.out.run.stream at_home home refl c.self.invariant.going
@@ -165,21 +163,12 @@ invariant_of-self-in-Err-answer g c =
 
 pub returns-in-Err-answer-clause-home : goal.returns-in-Err-answer-clause-home
 returns-in-Err-answer-clause-home g c =
-    let N = g.N.Naming in
-    let run = c.args.run.run in
     let b = (goal.at.returns-in-Err-answer-clause-home g c).After-step_batch-answer in
-    subst (λ (d : HallData). (how : Return) × CameHome N.plans d.past c.lose-in-Err-answer.new.self.core.past run.stream run.order (members g b) how) c.self.view_is
-    (was_wanted side mark N.plans (old g b) (new g b) (members g b) c.lose-in-Err-answer.new.self.core.past c.in-Err-answer.ensures.err c.lose-in-Err-answer.ensures.event c.lose-in-Err-answer.ensures.over)
-
-pub returns-in-Err-answer-clause-back : goal.returns-in-Err-answer-clause-back
-returns-in-Err-answer-clause-back g c =
-    let b = (goal.at.returns-in-Err-answer-clause-back g c).After-step_batch-answer in
-    part_back g b c.in-Err-answer.ensures.err c.lose-in-Err-answer.new.self.core.outs c.lose-in-Err-answer.ensures.outs ∙ ap (λ (d : HallData). with_out d.outs c.args.run.run.stream at_home) c.self.view_is
-
-pub returns-in-Err-answer-clause-view : goal.returns-in-Err-answer-clause-view
-returns-in-Err-answer-clause-view g c =
-    let b = (goal.at.returns-in-Err-answer-clause-view g c).After-step_batch-answer in
-    view_back g b c.note_all.new.view c.note_all.ensures ∙ ap (λ (d : HallData). d.view) c.self.view_is
+    let now = c.lose-in-Err-answer.new.self.core in
+    let part = c.in-Err-answer.ensures.err in
+    home g b now c.note_all.new.view c.note_all.ensures
+    (was_wanted side mark g.N.Naming.plans (old g b) (new g b) (members g b) now.past part c.lose-in-Err-answer.ensures.event c.lose-in-Err-answer.ensures.over)
+    (part_back g b part now.outs c.lose-in-Err-answer.ensures.outs)
 
 -- ---- the flush has more, or is at its end
 
@@ -199,29 +188,16 @@ returns-in-More-clause-ready g c =
     let done = answered g b c.in-Ok.next next.More c.in-More.is c.in-Ok.ensures.commits in
     record { fits = c.shows_fit-in-More.ensures; going = done.moved.paused; list = c.in-Ok.ensures.ready (ap is_executed c.in-More.is) }
 
-pub returns-in-More-clause-same : goal.returns-in-More-clause-same
-returns-in-More-clause-same g c =
-    let b = (goal.at.returns-in-More-clause-same g c).After-step_batch-answer in
-    (answered g b c.in-Ok.next next.More c.in-More.is c.in-Ok.ensures.commits).moved.stream
-
 pub returns-in-More-clause-more : goal.returns-in-More-clause-more
 returns-in-More-clause-more g c =
     let b = (goal.at.returns-in-More-clause-more g c).After-step_batch-answer in
     let done = answered g b c.in-Ok.next next.More c.in-More.is c.in-Ok.ensures.commits in
-    subst (λ (d : HallData). HasSteps g.N.Naming.plans d.past (new g b).house.core.past c.args.run.run.stream (members g b) false) c.self.view_is
-    record { still_open = done.still_open; valid = done.valid; waits = sym done.kept; steps = done.events }
-
-pub returns-in-More-clause-out : goal.returns-in-More-clause-out
-returns-in-More-clause-out g c =
-    let b = (goal.at.returns-in-More-clause-out g c).After-step_batch-answer in
-    let run = c.args.run.run in
-    let done = answered g b c.in-Ok.next next.More c.in-More.is c.in-Ok.ensures.commits in
-    done.outs ∙ ap (λ (d : HallData). with_out d.outs run.stream record { order = run.order; paused = false }) c.self.view_is
-
-pub returns-in-More-clause-view : goal.returns-in-More-clause-view
-returns-in-More-clause-view g c =
-    let b = (goal.at.returns-in-More-clause-view g c).After-step_batch-answer in
-    view_back g b c.note_all.new.view c.note_all.ensures ∙ ap (λ (d : HallData). d.view) c.self.view_is
+    subst (λ (d : HallData). WentOn g.N.Naming.plans d (hall_seen (new g b).house.core c.note_all.new.view) c.args.run.run (members g b) (new g b).out.run) c.self.view_is record {
+      same = done.moved.stream;
+      steps = record { still_open = done.still_open; valid = done.valid; waits = sym done.kept; steps = done.events };
+      outs = done.outs;
+      view = view_back g b c.note_all.new.view c.note_all.ensures;
+    }
 
 pub finish-requires : goal.finish-requires
 finish-requires g c =
@@ -249,22 +225,11 @@ invariant_of-self-in-FlushEnd g c =
 
 pub returns-in-FlushEnd-clause-home : goal.returns-in-FlushEnd-clause-home
 returns-in-FlushEnd-clause-home g c =
-    let N = g.N.Naming in
-    let run = c.args.run.run in
     let b = (goal.at.returns-in-FlushEnd-clause-home g c).After-step_batch-answer in
+    let now = c.finish.new.self.core in
     let done = answered g b c.in-Ok.next next.FlushEnd c.in-FlushEnd.is c.in-Ok.ensures.commits in
-    subst (λ (d : HallData). (how : Return) × CameHome N.plans d.past c.finish.new.self.core.past run.stream run.order (members g b) how) c.self.view_is
-    (was_ended side mark N.plans (old g b) (new g b) (members g b) c.finish.new.self.core.past done c.finish.ensures.event)
-
-pub returns-in-FlushEnd-clause-back : goal.returns-in-FlushEnd-clause-back
-returns-in-FlushEnd-clause-back g c =
-    let b = (goal.at.returns-in-FlushEnd-clause-back g c).After-step_batch-answer in
-    batch_back g b c.in-Ok.next c.in-Ok.ensures.commits c.finish.new.self.core.outs c.finish.ensures.outs ∙ ap (λ (d : HallData). with_out d.outs c.args.run.run.stream at_home) c.self.view_is
-
-pub returns-in-FlushEnd-clause-view : goal.returns-in-FlushEnd-clause-view
-returns-in-FlushEnd-clause-view g c =
-    let b = (goal.at.returns-in-FlushEnd-clause-view g c).After-step_batch-answer in
-    view_back g b c.note_all.new.view c.note_all.ensures ∙ ap (λ (d : HallData). d.view) c.self.view_is
+    home g b now c.note_all.new.view c.note_all.ensures (was_ended side mark g.N.Naming.plans (old g b) (new g b) (members g b) now.past done c.finish.ensures.event)
+    (batch_back g b c.in-Ok.next c.in-Ok.ensures.commits now.outs c.finish.ensures.outs)
 
 -- ---- the run comes home
 
@@ -284,18 +249,8 @@ invariant_of-self-in_default-next g c =
 
 pub returns-in_default-next-clause-home : goal.returns-in_default-next-clause-home
 returns-in_default-next-clause-home g c =
-    let N = g.N.Naming in
-    let run = c.args.run.run in
     let b = (goal.at.returns-in_default-next-clause-home g c).After-step_batch-answer in
-    subst (λ (d : HallData). (how : Return) × CameHome N.plans d.past c.back.new.self.core.past run.stream run.order (members g b) how) c.self.view_is
-    (came_back side mark N.plans (old g b) (new g b) (members g b) c.in-Ok.next c.back.new.self.core.past c.in_default-next.not-More c.in_default-next.not-FlushEnd c.back.ensures.past c.in-Ok.ensures.commits)
-
-pub returns-in_default-next-clause-back : goal.returns-in_default-next-clause-back
-returns-in_default-next-clause-back g c =
-    let b = (goal.at.returns-in_default-next-clause-back g c).After-step_batch-answer in
-    batch_back g b c.in-Ok.next c.in-Ok.ensures.commits c.back.new.self.core.outs c.back.ensures.outs ∙ ap (λ (d : HallData). with_out d.outs c.args.run.run.stream at_home) c.self.view_is
-
-pub returns-in_default-next-clause-view : goal.returns-in_default-next-clause-view
-returns-in_default-next-clause-view g c =
-    let b = (goal.at.returns-in_default-next-clause-view g c).After-step_batch-answer in
-    view_back g b c.note_all.new.view c.note_all.ensures ∙ ap (λ (d : HallData). d.view) c.self.view_is
+    let now = c.back.new.self.core in
+    home g b now c.note_all.new.view c.note_all.ensures
+    (came_back side mark g.N.Naming.plans (old g b) (new g b) (members g b) c.in-Ok.next now.past c.in_default-next.not-More c.in_default-next.not-FlushEnd c.back.ensures.past c.in-Ok.ensures.commits)
+    (batch_back g b c.in-Ok.next c.in-Ok.ensures.commits now.outs c.back.ensures.outs)

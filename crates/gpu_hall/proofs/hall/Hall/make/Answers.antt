@@ -2,7 +2,7 @@ use Rattle.std.proofs.Common.{length}
 use Rattle.std.specs.Prelude.{replicate}
 use Rattle.house_core.specs.Desks.{at_home}
 use Rattle.gpu_hall.proofs.Outs.{none_same, none_first}
-use Rattle.gpu_hall.proofs.Fresh.{fresh_takers}
+use Rattle.gpu_hall.proofs.Takers.{fresh_takers}
 use Rattle.gpu_hall.proofs.Viewed.{view_first}
 use Rattle.gpu_hall.proofs.hall.Hall.make.Goals as goal
 
