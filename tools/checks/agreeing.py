@@ -2,7 +2,8 @@
 
 In docs/FORMATS.md they are the commands, the statuses, the checks and the rules; in docs/TESTS.md
 the names of tests; in README.md the toolchain; and the version everywhere. A worked case has the
-script of an example. The part also counts what docs/DEFINITIONS.md calls half an hour.
+script of an example. The shell script knows each command that the program answers. The part also
+counts what docs/DEFINITIONS.md calls half an hour.
 """
 
 import re
@@ -11,6 +12,7 @@ import subprocess
 from collections.abc import Iterator
 from pathlib import Path
 
+from command_line.table import COMMANDS
 from tools.checks import prose
 from tools.checks.tally import Tally
 
@@ -40,6 +42,8 @@ TEST = re.compile(r"`([a-z]+(?:_[a-z0-9]+)+|race)`")
 BOLD = re.compile(r"\*\*\[\w+\.antt\]\(\.\./([\w/.]+)\)\*\*")
 CODES = re.compile(r'codes "([^"]*)"')
 VERSION = re.compile(r"\d+\.\d+\.\d+")
+SHELL = Path("zorvleid")
+ANSWERED = re.compile(r"^case \$\{1-\} in\n([a-z |]+)\) ;;$", re.MULTILINE)
 
 
 def text_of(top: Path, path: Path | str) -> str:
@@ -120,6 +124,16 @@ def versions(top: Path) -> Iterator[tuple[str, str | None]]:
     yield "the version of docs/RELEASES.md", None if is_so else f"it is {released}, {says}"
 
 
+def shell_words(top: Path) -> Iterator[tuple[str, str | None]]:
+    """The commands that the shell script gives to the program: those that no tool answers."""
+    lines = ANSWERED.findall(text_of(top, SHELL))
+    words = set(lines[0].split(" | ")) if len(lines) == 1 else set()
+    wanted = {name for name, command in COMMANDS.items() if not command.tool}
+    for name in sorted(words ^ wanted):
+        yield f"command {name}", "only one of the script and the table of commands has it"
+    yield "commands of the program", None if words == wanted else f"they are {sorted(words)}"
+
+
 def half_hour(top: Path) -> Iterator[tuple[str, str | None]]:
     """How long the page of the definitions is from BEGIN on, with the files in bold."""
     _, begin, page = text_of(top, DEFINITIONS).partition(BEGIN)
@@ -170,6 +184,7 @@ def check(top: Path, _program: Path, tally: Tally) -> None:
         (FORMATS, counts(top)),
         (TESTS, tests(top)),
         ("documents", versions(top)),
+        (SHELL, shell_words(top)),
         (DEFINITIONS, half_hour(top)),
         (WORKED, worked(top)),
     ):

@@ -206,6 +206,8 @@ PLANTED = (
      "const MOST_SIDE: u32 = 8192;"),
     ("agreeing", "docs/FORMATS.md", "| 265 | DeleteBuffer | 2 |", "| 265 | DeleteBuffer | 3 |"),
     ("agreeing", "CHANGELOG.md", "## 0.1.0", "## 0.1.1"),
+    ("agreeing", "zorvleid", "run | check | verify | generate | trial) ;;",
+     "run | check | verify | generate) ;;"),
     ("typed_python", "tests/model_views.py", "import re\n", "import re\nimport sys\n\nsys.path\n"),
     ("typed_python", "tests/model_views.py", "import re\n", "import os\nimport re\n"),
     ("checking", "tools/checks/side_by_side.py", "len(running) < jobs", "len(running) < 1"),
